@@ -1,0 +1,11 @@
+pub mod Digits
+pub mod Those
+pub mod Machine
+pub mod Some
+pub mod Lists
+pub mod Counts
+pub mod Scanned
+pub mod Squares
+pub mod Each
+pub mod Determined
+pub mod Examples

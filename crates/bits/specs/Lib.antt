@@ -1,0 +1,3 @@
+pub mod Bitboard
+pub mod Answers
+pub mod Promises

@@ -1,0 +1,5 @@
+pub mod Below
+pub mod Codes
+pub mod Determined
+pub mod Examples
+pub mod Paper

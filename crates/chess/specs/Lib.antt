@@ -1,0 +1,9 @@
+pub mod Answer
+pub mod Refusals
+pub mod Codes
+pub mod Colors
+pub mod Kinds
+pub mod Phases
+pub mod Squares
+pub mod Pieces
+pub mod Places

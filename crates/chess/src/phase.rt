@@ -1,0 +1,35 @@
+// A phase of the game: the opening is 0, the ending 1.
+ghost use Rattle.chess.specs.Phases.{NewPhase, PhaseIndex};
+use crate::refusal::Refusal;
+
+// `new` and the constants make no number out of range.
+pub struct Phase(u8);
+
+// Any other number is refused as SHAPE.
+pub enum Made {
+    Is(Phase),
+    Refused(Refusal),
+}
+
+impl Phase {
+    pub const COUNT: usize = 2;
+
+    pub const OPENING: Phase = Phase(0);
+
+    pub const ENDING: Phase = Phase(1);
+
+    pub fn new(index: u8) -> Made
+        ensures { λ r. ⌜ NewPhase index r ⌝ }
+    {
+        if Phase::ENDING.0 < index {
+            return Made::Refused(Refusal::Shape);
+        }
+        Made::Is(Phase(index))
+    }
+
+    pub fn index(self) -> u8
+        ensures { λ r. ⌜ PhaseIndex self r ⌝ }
+    {
+        self.0
+    }
+}

@@ -1,0 +1,5 @@
+pub mod Truth
+pub mod Tests
+pub mod Tables
+pub mod Diff
+pub mod Words

@@ -1,0 +1,25 @@
+-- A table's entry is its rule's value. A proof cites `entry` under `unfolding tabulate`, and antt compares the constant of the source
+-- with the list that the rule builds, entry by entry: no file repeats the numbers. Assumes nothing.
+use mathlib.Core.Path.{_≡_, refl, ap}
+use mathlib.Core.List.{List, [], _∷_}
+use Prim.Native.Nat.{ℕ, zero, suc, _<_}
+use native.Mathlib.Nat.{not-suc-le-zero}
+use native.Mathlib.Omega.{arith}
+use lib.ListN.{getD, length}
+use Rattle.laws.specs.Tables.{tabulate}
+
+pub entry : {X : Type 0} (n : ℕ) (f : ℕ → X) (d : X) (k : ℕ) → k < n → getD (tabulate n f) k d ≡ f k
+unfolding tabulate
+entry zero f d k h = absurd (not-suc-le-zero h)
+entry (suc n) f d zero h = refl
+entry (suc n) f d (suc k) h = entry n (λ k. f (suc k)) d k (omega arith)
+
+pub tabulate-length : {X : Type 0} (n : ℕ) (f : ℕ → X) → length (tabulate n f) ≡ n
+unfolding tabulate
+tabulate-length zero f = refl
+tabulate-length (suc n) f = ap suc (tabulate-length n (λ k. f (suc k)))
+
+pub tabulate-same : {X : Type 0} (n : ℕ) (f g : ℕ → X) → ((k : ℕ) → k < n → f k ≡ g k) → tabulate n f ≡ tabulate n g
+unfolding tabulate
+tabulate-same zero f g e = refl
+tabulate-same (suc n) f g e = cc (e 0 (omega arith), tabulate-same n (λ k. f (suc k)) (λ k. g (suc k)) (λ k h. e (suc k) (omega arith)))

@@ -1,0 +1,118 @@
+"""Answers questions, one a line, in the format of oracle/README.md: python3 -m reference.answers < questions."""
+
+import math
+import sys
+from functools import lru_cache
+
+from . import attack, bitboard, exchange, score
+from .double import Weights, trace_eval
+from .line import read_line
+from .position import Position, placed
+from .refusal import SCORE, Refused
+from .seeded import odd_trace, seeded_trace, seeded_weights, to_bits
+from .square_weights import PST
+from .trace import NUMBERS, compute_trace, exact_sum, flattened
+
+
+@lru_cache(maxsize=16)
+def position_of(line):
+    read = read_line(line.encode())
+    return placed(read.board, read.side)
+
+
+@lru_cache(maxsize=4)
+def weights_of(kind, seed):
+    numbers = seeded_weights(kind, seed)
+    return Weights(numbers[:11]), numbers[11:]
+
+
+def number_or_none(answer):
+    return "none" if answer is None else answer
+
+
+def numbers(listed):
+    return " ".join(map(str, listed))
+
+
+def traced(position):
+    listed = flattened(compute_trace(position))
+    set_places = [place for place, entry in enumerate(listed[NUMBERS:]) if entry == 1]
+    return numbers(listed[:NUMBERS] + [len(set_places)] + set_places)
+
+
+def double(kind, seed, trace):
+    result = trace_eval(trace, *weights_of(kind, seed))
+    return "nan" if math.isnan(result) else to_bits(result)
+
+
+def next_square(board):
+    found = bitboard.next_square(board)
+    return "none" if found is None else numbers(found)
+
+
+def bent(index, bits, square, byte, position):
+    """The score of a position after one bitboard and one byte were changed: how BOARD is asked for."""
+    bitboards, board = list(position.bitboards), list(position.board)
+    bitboards[index] ^= bits
+    board[square] = byte
+    return score.eval_position(Position(bitboards, board, position.side))
+
+
+WORDS = {
+    "eval": score.eval_position,
+    "ending": lambda position: number_or_none(score.ending(position)),
+    "material": lambda colour, position: score.eval_material(position, colour),
+    "see": lambda start, target, position: exchange.see(position, start, target),
+    "lvp": lambda colour, attacks, occupied, position: number_or_none(
+        exchange.lvp(position, colour, attacks, occupied)),
+    "check": lambda colour, position: int(attack.is_check(position, colour)),
+    "attacked": lambda square, colour, position: int(attack.is_attacked(position, square, colour)),
+    "attacks_to": lambda square, occupied, position: attack.attacks_to(position, square, occupied),
+    "trace": traced,
+    "exact": lambda position: exact_sum(compute_trace(position)),
+    "double": lambda kind, seed, position: double(kind, seed, compute_trace(position)),
+    "wild": lambda kind, seed, trace_seed: double(kind, seed, seeded_trace(trace_seed)),
+    "odd": lambda place, value, kind, seed, trace_seed: double(kind, seed, odd_trace(trace_seed, place, value)),
+    "bent": bent,
+    "piece_attacks": attack.piece_attacks,
+    "pst": lambda piece, square, phase: PST[piece][square][phase],
+    "knight": lambda square: attack.KNIGHT_STEPS[square],
+    "king": lambda square: attack.KING_STEPS[square],
+    "pawn": lambda colour, square: attack.PAWN_STEPS[colour][square],
+    "count": bitboard.count,
+    "scan": bitboard.scan,
+    "shift": bitboard.shift,
+    "next": next_square,
+    "from_square": bitboard.from_square,
+    "get": bitboard.get,
+    "set": bitboard.with_square,
+    "toggle": bitboard.toggled,
+    "reset": bitboard.without_square,
+}
+
+
+def arguments(parts):
+    """Numbers, then the position if a part holds a `/`: it is the last."""
+    found = []
+    for place, part in enumerate(parts):
+        if "/" in part:
+            return found + [position_of(" ".join(parts[place:]))]
+        found.append(int(part))
+    return found
+
+
+def answer(question):
+    word, *parts = question.split(" ")
+    try:
+        return str(WORDS[word](*arguments(parts)))
+    except Refused as refused:
+        return "over" if refused.number == SCORE else f"refused {refused.number}"
+
+
+def main():
+    for question in sys.stdin:
+        sys.stdout.write(answer(question.rstrip("\n")) + "\n")
+
+
+if __name__ == "__main__":
+    main()

@@ -1,0 +1,65 @@
+"""The least attacker and the exchange (01, "The exchange")."""
+
+from .attack import attackers, attacks_from
+from .bitboard import count, scan
+from .pieces import COLOURS, EMPTY, KING, KINDS, code, value_of
+from .position import tested
+from .refusal import CROWD, MOVE, SQUARE, refuse_unless
+
+
+def least(position, colour, attacks, occupied, order=KINDS):
+    """The lowest square of the first kind in the order that has an attacker still there, or None."""
+    still_there = attacks & occupied
+    for kind in order:
+        found = still_there & position.pieces(code(kind, colour))
+        if found:
+            return scan(found)
+    return None
+
+
+def lvp(position, colour, attacks, occupied):
+    tested(position, colour)
+    return least(position, colour, attacks, occupied)
+
+
+def may_capture(position, start, target):
+    """A piece of the side to move on the start, one of the other side on the target, and the first attacks it."""
+    piece, taken = position.board[start], position.board[target]
+    if piece == EMPTY or taken == EMPTY or piece % 2 != position.side or taken % 2 == position.side:
+        return False
+    return attacks_from(piece, start, position.occupied()) >> target & 1 == 1
+
+
+def crowded(position):
+    several = any(count(position.pieces(code(KING, colour))) >= 2 for colour in COLOURS)
+    return count(position.occupied()) > 32 or several
+
+
+def values_taken(position, start, target, order=KINDS):
+    """What each capture takes: v0 the target, v1 the first capturer, and so on."""
+    values = []
+    standing, capturer = position.board[target], start
+    side, occupied = position.side, position.occupied()
+    while capturer is not None:
+        values.append(value_of(standing))
+        standing = position.board[capturer]
+        occupied &= ~(1 << capturer)
+        side = 1 - side
+        capturer = least(position, side, attackers(position, target, occupied), occupied, order)
+    return values
+
+
+def settled(values):
+    """S(0), where S(i) = vi - max(0, S(i+1)) and the last S is its own value."""
+    s = values[-1]
+    for value in reversed(values[:-1]):
+        s = value - max(0, s)
+    return s
+
+
+def see(position, start, target):
+    tested(position)
+    refuse_unless(0 <= start <= 63 and 0 <= target <= 63, SQUARE)
+    refuse_unless(may_capture(position, start, target), MOVE)
+    refuse_unless(not crowded(position), CROWD)
+    return settled(values_taken(position, start, target))

@@ -69,9 +69,10 @@ def fields():
 
 def places():
     """Ranks: digits in a row, wrong totals, wrong letters, too few and too many."""
-    ranks = (b"8", b"44", b"53", b"35", b"71", b"17", b"11111111", b"1111111", b"111111111", b"2222", b"242", b"0", b"08",
-             b"80", b"9", b"18", b"81", b"7", b"6", b"88", b"4k3", b"3k3", b"5k3", b"4k4", b"k7", b"7k", b"8k", b"k8", b"pppppppp",
-             b"ppppppp", b"ppppppppp", b"p6p", b"p1p1p1p1", b"p1p1p1p", b"p1p1p1p2", b"", b"-", b"10", b"+8", b"4.3", b"4 3")
+    ranks = (b"8", b"44", b"53", b"35", b"71", b"17", b"11111111", b"1111111", b"111111111", b"2222", b"242", b"0",
+             b"08", b"80", b"9", b"18", b"81", b"7", b"6", b"88", b"4k3", b"3k3", b"5k3", b"4k4", b"k7", b"7k", b"8k",
+             b"k8", b"pppppppp", b"ppppppp", b"ppppppppp", b"p6p", b"p1p1p1p1", b"p1p1p1p", b"p1p1p1p2", b"", b"-",
+             b"10", b"+8", b"4.3", b"4 3")
     for rank in ranks:
         for place in (0, 3, 7):
             listed = [b"8"] * 8
@@ -79,35 +80,37 @@ def places():
             yield b"/".join(listed) + b" w;1/2-1/2"
     for count in (0, 1, 2, 6, 7, 8, 9, 10, 16):
         yield b"/".join([b"8"] * count) + b" b;0-1"
-    for text in (b"/" + PAWN, PAWN + b"/", PAWN.replace(b"/", b"//", 1), PAWN.replace(b"/", b"\\"), PAWN.replace(b"/", b""),
-                 PAWN.replace(b"/", b" / "), PAWN + b"\tw", b"8/8/8/8/8/8/8/8/8"):
+    for text in (b"/" + PAWN, PAWN + b"/", PAWN.replace(b"/", b"//", 1), PAWN.replace(b"/", b"\\"),
+                 PAWN.replace(b"/", b""), PAWN.replace(b"/", b" / "), PAWN + b"\tw", b"8/8/8/8/8/8/8/8/8"):
         yield text + b" w;1-0"
     for letter in range(ord("A"), ord("z") + 1):
         yield b"8/8/8/8/8/8/8/4" + bytes([letter]) + b"3 w;1-0"
 
 
 def sides():
-    for side in (b"w", b"b", b"W", b"B", b"-", b"", b"ww", b"wb", b"w-", b"w;", b"white", b"w\t", b"w\t-", b"w\r-", b"w -",
-                 b"\tw", b"\rw", b"\t w", b"w  ", b"x", b"0", b"1", b"/", b"w/", b"w.", b"bw", b"b\t", b"b\r", b"w\r\t ", b"- w"):
+    for side in (b"w", b"b", b"W", b"B", b"-", b"", b"ww", b"wb", b"w-", b"w;", b"white", b"w\t", b"w\t-", b"w\r-",
+                 b"w -", b"\tw", b"\rw", b"\t w", b"w  ", b"x", b"0", b"1", b"/", b"w/", b"w.", b"bw", b"b\t", b"b\r",
+                 b"w\r\t ", b"- w"):
         for spaces in (1, 2, 9):
             yield START + b" " * spaces + side + b";1-0"
     yield from (START + b"\tw;1-0", START + b" \tw;1-0", START + b"\t w;1-0", START + b"w;1-0", START + b"\rw;1-0")
 
 
 def results():
-    for result in (b"1-0", b"0-1", b"1/2-1/2", b"1/2", b"1/2-1/2.", b"*", b"", b"1", b"0", b"0.5", b"1.0", b"2", b"1-1", b"0-0",
-                   b"1 - 0", b"1- 0", b"1-0 0-1", b"1-O", b"l-0", b"1_0", b"+1-0", b"01-0", b"1-00", b"'1-0'", b'"1-0"', b"[1.0]",
-                   b"c9 1-0", b"1-0\t\t", b"\t\r 1/2-1/2 \r\t", b"1/2 - 1/2", b"1/2-1/2-1/2", b"1/2-0", b"0-1-", b"w", b"draw",
-                   "½-½".encode(), "1–0".encode(), "1−0".encode(), b"1-0\x0b", b"\x0c1-0", "1-0\u00a0".encode(),
-                   "\u00851-0".encode(), "\u20281-0".encode(), "\u30001-0".encode(), "\u200b1-0".encode(), "\ufeff1-0".encode()):
+    for result in (b"1-0", b"0-1", b"1/2-1/2", b"1/2", b"1/2-1/2.", b"*", b"", b"1", b"0", b"0.5", b"1.0", b"2", b"1-1",
+                   b"0-0", b"1 - 0", b"1- 0", b"1-0 0-1", b"1-O", b"l-0", b"1_0", b"+1-0", b"01-0", b"1-00", b"'1-0'",
+                   b'"1-0"', b"[1.0]", b"c9 1-0", b"1-0\t\t", b"\t\r 1/2-1/2 \r\t", b"1/2 - 1/2", b"1/2-1/2-1/2",
+                   b"1/2-0", b"0-1-", b"w", b"draw", "½-½".encode(), "1–0".encode(), "1−0".encode(), b"1-0\x0b",
+                   b"\x0c1-0", "1-0\u00a0".encode(), "\u00851-0".encode(), "\u20281-0".encode(),
+                   "\u30001-0".encode(), "\u200b1-0".encode(), "\ufeff1-0".encode()):
         yield PAWN + b" b;" + result
         yield PAWN + b" b ; " + result + b" ;rest"
 
 
 def other_white_space():
-    """White space that Unicode knows and 01 does not, at each end of the position field; and bytes that are no UTF-8."""
-    spaces = ("\u000b", "\u000c", "\u001c", "\u0085", "\u00a0", "\u1680", "\u2000", "\u2003", "\u2028", "\u2029", "\u202f", "\u205f", "\u3000",
-              "\u200b", "\ufeff")
+    """White space that Unicode knows and 01 does not, around the position field; and bytes that are no UTF-8."""
+    spaces = ("\u000b", "\u000c", "\u001c", "\u0085", "\u00a0", "\u1680", "\u2000", "\u2003", "\u2028", "\u2029",
+              "\u202f", "\u205f", "\u3000", "\u200b", "\ufeff")
     for space in spaces:
         yield space.encode() + GOOD
         yield PAWN + b" w" + space.encode() + b";1-0"
@@ -151,7 +154,8 @@ def mutated(seed=SEED, count=MUTATED):
 
 def collection():
     """All lines, each once; the last has no LF and keeps its CR."""
-    groups = (plain, ended, lengths, each_byte, fields, places, sides, results, other_white_space, broken_together, mutated)
+    groups = (plain, ended, lengths, each_byte, fields, places, sides, results, other_white_space, broken_together,
+              mutated)
     lines = dict.fromkeys(line for group in groups for line in group())
     assert all(b"\n" not in line for line in lines)
     return b"".join(line + b"\n" for line in lines) + GOOD + b"\r"
@@ -161,5 +165,6 @@ def endings():
     """Whole inputs, each by itself: how the last line ends, and CR where it counts to the 256 bytes and where not."""
     long = GOOD.ljust(256)
     starts = (b"", GOOD, GOOD + b"\n", GOOD + b"\r\n", long, long[:-1], long + b" ", b";", b"x" * 257, b"\xff")
-    tails = (b"", b"\n", b"\r", b"\r\n", b"\n\n", b"\r\r\n", b"\n\r", b"\r\n\r\n", b"\n" + GOOD, b"\r" + GOOD, b"\r\n" + GOOD + b"\r")
+    tails = (b"", b"\n", b"\r", b"\r\n", b"\n\n", b"\r\r\n", b"\n\r", b"\r\n\r\n", b"\n" + GOOD, b"\r" + GOOD,
+             b"\r\n" + GOOD + b"\r")
     return dict.fromkeys(start + tail for start in starts for tail in tails)

@@ -47,7 +47,7 @@ def of_codes_and_shifts():
 
 
 def of_traces():
-    """TRACE: each number of a trace at its bounds and past them, and some entries, with shipped and with wild weights."""
+    """TRACE: each number of a trace at its bounds and past them, and some entries; shipped and wild weights."""
     bounds = [(0, 64)] * 10 + [(0, 1)] * 2 + [(0, 1728)] * 12 + [(-1, 1), (0, 64)] + [(0, 1)] * 768
     places = [*range(26), *range(26, 794, 59), 793]
     for place in places:
@@ -66,7 +66,7 @@ def of_moves():
 
 
 def of_crowds():
-    """CROWD where the piece attacks the target, MOVE where it does not: every piece of the side to move on every other."""
+    """CROWD where the piece attacks the target, MOVE where it does not: every own piece on every other."""
     for text in (TWO_KINGS, THIRTY_THREE):
         position = position_of(text)
         own, other = (squares(position.bitboards[colour]) for colour in (position.side, 1 - position.side))

@@ -1,4 +1,4 @@
-"""The wrong programs of 01's "Errors that look right", each next to the reference, to show that answers tell them apart."""
+"""The wrong programs of 01's "Errors that look right", written so that their answers can be told from the right ones."""
 
 from reference.answers import arguments
 from reference.attack import attacks_from

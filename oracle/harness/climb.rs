@@ -35,7 +35,7 @@ fn start(clause: Clause, high: bool, random: &mut Random) -> Position {
             scattered(&mut board, random.between(5, 30) as usize, &[strong | QUEEN, strong | PAWN], random);
         }
         _ => {
-            // Far ahead with two or three kings and pawns about to promote; the other has no king, and bishops that see far.
+            // Far ahead: two or three kings, pawns about to promote. The other has no king, and bishops that see far.
             let ahead = if high { side } else { side ^ 1 };
             scattered(&mut board, random.between(2, 3) as usize, &[ahead | KING], random);
             let seventh = if ahead == WHITE { 48 } else { 8 };

@@ -62,6 +62,7 @@ WORDS = {
     "eval": score.eval_position,
     "ending": lambda position: number_or_none(score.ending(position)),
     "material": lambda colour, position: score.eval_material(position, colour),
+    "additions": lambda position: numbers(score.Sums(position).additions),
     "see": lambda start, target, position: exchange.see(position, start, target),
     "lvp": lambda colour, attacks, occupied, position: number_or_none(
         exchange.lvp(position, colour, attacks, occupied)),

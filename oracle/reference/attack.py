@@ -1,7 +1,7 @@
 """Steps, rays and attacks (01, "Steps, rays and square weights")."""
 
 from .bitboard import scan
-from .pieces import (BISHOP, BLACK, CODES, KIND_OF_CODE, KING, KINDS, KNIGHT, PAWN, QUEEN, ROOK, WHITE, code)
+from .pieces import (BISHOP, BLACK, CODES, KIND_OF_CODE, KING, KNIGHT, PAWN, QUEEN, ROOK, WHITE, code)
 from .position import tested
 from .refusal import SHAPE, SQUARE, refuse_unless
 

@@ -4,7 +4,7 @@
 floats are IEEE 754 doubles, rounded once an operation, to nearest with ties to even.
 """
 
-from .pieces import BISHOP, BLACK, KNIGHT, MOBILITY, PAIR, PAWN, QUEEN, ROOK, TEMPO, VALUE, WHITE
+from .pieces import BISHOP, BLACK, KNIGHT, MOBILITY, PAIR, QUEEN, ROOK, TEMPO, VALUE, WHITE
 from .refusal import SHAPE, TRACE, refuse_unless
 from .trace import COUNTED, ENTRIES, SHIPPED_SQUARES, weight_place
 

@@ -1,0 +1,4 @@
+pub mod Spelled
+pub mod Wrote
+pub mod Determined
+pub mod Examples

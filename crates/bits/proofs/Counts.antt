@@ -17,7 +17,7 @@ ones-digit zero h = refl
 ones-digit (suc zero) h = refl
 ones-digit (suc (suc d)) h = absurd (omega arith)
 
-digit-of : (d : ℕ) → d < 2 → digit (isSet d) ≡ d
+pub digit-of : (d : ℕ) → d < 2 → digit (isSet d) ≡ d
 digit-of zero h = refl
 digit-of (suc zero) h = refl
 digit-of (suc (suc d)) h = absurd (omega arith)

@@ -1,0 +1,2 @@
+pub mod Crowded
+pub mod Doors

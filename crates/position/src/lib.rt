@@ -1,0 +1,160 @@
+// A position: 14 bitboards, 64 board bytes, and a state by value. Its shape, its consistency, and bytes to bitboards.
+ghost use mathlib.Core.Path.{_≡_};
+ghost use Prim.Native.Nat.{_<_};
+ghost use lib.ListN.{length};
+ghost use Rattle.position.specs.Consistent.{consistent};
+ghost use Rattle.position.specs.Tested.{crowded, standing, placeOf, rightPlaces, rightBy};
+ghost use Rattle.position.specs.Promises.{Checks};
+use chess::color::Color;
+use chess::inner::index;
+use chess::kind::Kind;
+use chess::piece::Piece;
+use chess::refusal::Refusal;
+use chess::square::Square;
+
+// The part of a position that goes by value.
+pub struct State {
+    // The colour to move.
+    pub side: u8,
+}
+
+pub enum Checked {
+    Fit,
+    Refused(Refusal),
+}
+
+// The bitboards of 64 bytes; `coded` is whether each byte is 0 or a piece's code.
+pub struct Boards {
+    pub bitboards: [u64; 14],
+    pub coded: bool,
+}
+
+// The squares that a piece board has, and those that two or more have.
+struct Taken {
+    once: u64,
+    twice: u64,
+}
+
+// The piece boards come after the colours' two.
+fn look(bitboards: &[u64]) -> Taken
+    requires { ⌜ length (now bitboards) ≡ 14 ⌝ }
+    ensures { λ r. ⌜ (r .once ≡ crowded (now (bitboards .entry)) 1) × (r .twice ≡ crowded (now (bitboards .entry)) 2) ⌝ }
+{
+    let mut once: u64 = 0;
+    let mut twice: u64 = 0;
+    let mut n: usize = 0;
+    while n < Piece::COUNT {
+        let b = bitboards[Color::COUNT + n];
+        twice = once & b | twice;
+        once = b | once;
+        n += 1;
+    }
+    Taken { once, twice }
+}
+
+// A colour's piece boards together.
+fn unite(bitboards: &[u64], color: usize) -> u64
+    requires { ⌜ (length (now bitboards) ≡ 14) × (color < 2) ⌝ }
+    ensures { λ r. ⌜ r ≡ standing (now (bitboards .entry)) color ⌝ }
+{
+    let mut all: u64 = 0;
+    let mut n: usize = 0;
+    while n < Kind::COUNT {
+        all = bitboards[Color::COUNT + 2 * n + color] | all;
+        n += 1;
+    }
+    all
+}
+
+// Where a table of 15 has a byte: its code, and the last place for all that are none.
+fn place(byte: u8) -> usize
+    ensures { λ r. ⌜ r ≡ placeOf byte ⌝ }
+{
+    let at = index(byte);
+    if at < Piece::BOARDS {
+        return at;
+    }
+    Piece::BOARDS
+}
+
+// The squares where each byte is right: 0 where no piece stands, a code on its board, any other nowhere.
+fn right_places(bitboards: &[u64], taken: u64) -> [u64; 15]
+    requires { ⌜ length (now bitboards) ≡ 14 ⌝ }
+    ensures { λ r. ⌜ r ≡ rightPlaces (now (bitboards .entry)) taken ⌝ }
+{
+    [
+        !taken,
+        0,
+        bitboards[2],
+        bitboards[3],
+        bitboards[4],
+        bitboards[5],
+        bitboards[6],
+        bitboards[7],
+        bitboards[8],
+        bitboards[9],
+        bitboards[10],
+        bitboards[11],
+        bitboards[12],
+        bitboards[13],
+        0,
+    ]
+}
+
+// The squares whose byte is right, in one pass without a branch.
+fn right_squares(board: &[u8], places: &[u64; 15]) -> u64
+    requires { ⌜ length (now board) ≡ 64 ⌝ }
+    ensures { λ r. ⌜ r ≡ rightBy (now (board .entry)) (now (places .entry)) ⌝ }
+{
+    let mut right: u64 = 0;
+    let mut square: u64 = 1;
+    let mut k: usize = 0;
+    while k < Square::COUNT {
+        let at = place(board[k]);
+        right = places[at] & square | right;
+        square = square << 1;
+        k += 1;
+    }
+    right
+}
+
+// Whether a position of the right shape is consistent.
+fn fits(bitboards: &[u64], board: &[u8]) -> bool
+    requires { ⌜ (length (now bitboards) ≡ 14) × (length (now board) ≡ 64) ⌝ }
+    ensures { λ r. ⌜ r ≡ consistent (now (bitboards .entry)) (now (board .entry)) ⌝ }
+{
+    let taken = look(bitboards);
+    if taken.twice != 0 {
+        return false;
+    }
+    let white = unite(bitboards, 0);
+    if bitboards[0] != white {
+        return false;
+    }
+    let black = unite(bitboards, 1);
+    if bitboards[1] != black {
+        return false;
+    }
+    let places = right_places(bitboards, taken.once);
+    let wrong = !right_squares(board, &places);
+    wrong == 0
+}
+
+// SHAPE, then BOARD: the test that every call on a position begins with.
+pub fn check(bitboards: &[u64], board: &[u8], state: State) -> Checked
+    ensures { λ r. ⌜ Checks (now (bitboards .entry)) (now (board .entry)) state r ⌝ }
+{
+    if bitboards.len() != Piece::BOARDS {
+        return Checked::Refused(Refusal::Shape);
+    }
+    if board.len() != Square::COUNT {
+        return Checked::Refused(Refusal::Shape);
+    }
+    if index(state.side) >= Color::COUNT {
+        return Checked::Refused(Refusal::Shape);
+    }
+    if !fits(bitboards, board) {
+        return Checked::Refused(Refusal::Board);
+    }
+    Checked::Fit
+}

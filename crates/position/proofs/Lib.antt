@@ -1,2 +1,4 @@
 pub mod Crowded
+pub mod Places
+pub mod Tested
 pub mod Doors

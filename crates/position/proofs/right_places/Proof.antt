@@ -1,4 +1,7 @@
+use mathlib.Core.Path.{refl}
 use borrow.Author.Needs.{needs}
+use Rattle.laws.specs.Tables.{tabulate}
+use Rattle.position.specs.Tested.{rightPlaces}
 use Rattle.position.proofs.right_places.Statement.{statement}
 use Rattle.position.proofs.right_places.Tie as tie
 use Rattle.position.proofs.right_places.Reads as reads
@@ -54,7 +57,8 @@ shared-slice-read-t27 c = search needs
 
 -- src/lib.rt:81:1
 returns : tie.Need-returns
-returns c = ?
+unfolding rightPlaces tabulate
+returns c = refl
 
 pub right-places-spec : {M : Type 1} → statement M
 right-places-spec =

@@ -1,50 +1,67 @@
+-- `position::right_squares` meets its contract: after k bytes, `right` is the squares below k whose byte was right. Assumes nothing.
+use mathlib.Core.Path.{_≡_, refl, ap, _∙_}
+use mathlib.Core.Bool.{Bool}
+use mathlib.Core.List.{List}
+use Prim.Native.Nat.{ℕ, _≤_, _-_, _%_, _^_}
+use native.Mathlib.Numerals.{add-one}
+use native.Mathlib.Omega.{arith}
+use borrow.Author.Needs.{needs}
+use lib.ListN.{getD}
+use Rattle.bits.specs.Bitboard.{has, those}
+use Rattle.bits.proofs.Filled.{rising, filled-by}
+use Rattle.position.specs.Tested.{placeOf}
+use Rattle.position.proofs.Places.{place-lt}
 use Rattle.position.proofs.right_squares.Statement.{statement}
 use Rattle.position.proofs.right_squares.Tie as tie
-use Rattle.position.proofs.right_squares.Reads as reads
-use Rattle.position.proofs.right_squares.Lts as lts
-use Rattle.position.proofs.place.Reads as place-reads
+
+abbrev right-at : List ℕ → List ℕ → ℕ → Bool
+right-at board places k = has (getD places (placeOf (getD board k 0)) 0) k
 
 abbrev Inv-loop : tie.InvT-loop
-Inv-loop board places right₀ square₀ k₀ right square k = ?
+Inv-loop board places right₀ square₀ k₀ right square k = (k ≤ 64) × (right ≡ those k (right-at board places)) × (square ≡ 2 ^ k % 2 ^ 64)
 
 abbrev μ-loop : tie.MeasureT-loop
-μ-loop board places right₀ square₀ k₀ right square k = ?
+μ-loop board places right₀ square₀ k₀ right square k = 64 - k
 
--- src/lib.rt:112:5
 loop-holds : tie.Need-loop-holds Inv-loop μ-loop
-loop-holds c = ?
+unfolding those
+loop-holds c = (omega arith, refl, refl)
 
--- src/lib.rt:113:24
 shared-slice-read-place : tie.Need-shared-slice-read-place Inv-loop μ-loop
-shared-slice-read-place c = ?
+shared-slice-read-place c = search needs
 
--- src/lib.rt:113:13
 place-requires : tie.Need-place-requires Inv-loop μ-loop
-place-requires c κs = ?
+place-requires c κs = search needs
 
--- src/lib.rt:114:17
 mul-right : tie.Need-mul-right Inv-loop μ-loop
-mul-right c = ?
+mul-right c = omega (arith, c .place .ensures, place-lt (getD (c .before .before .before .before .before .args .board .now) (c .before .before .before .loop .k) 0))
 
--- src/lib.rt:114:17
 element-copy-out-right : tie.Need-element-copy-out-right Inv-loop μ-loop
-element-copy-out-right c = ?
+element-copy-out-right c = omega (arith, c .place .ensures, place-lt (getD (c .before .before .before .before .before .args .board .now) (c .before .before .before .loop .k) 0))
 
--- src/lib.rt:116:9
 add-k : tie.Need-add-k Inv-loop μ-loop
-add-k c = ?
+add-k c = search needs
 
--- src/lib.rt:112:5
 loop-less : tie.Need-loop-less Inv-loop μ-loop
-loop-less c = ?
+loop-less c = search needs
 
--- src/lib.rt:112:5
 loop-again : tie.Need-loop-again Inv-loop μ-loop
-loop-again c = ?
+loop-again c =
+    let l = c .before .before .before .before .loop in
+    let a = c .before .before .before .before .before .before .args in
+    let b = getD (a .places .now) (placeOf (getD (a .board .now) (l .k) 0)) 0 in
+    let h = c .before .before .before .loop-test .taken in (
+      omega arith,
+      rw (c .before .place .ensures, l .inv .1, l .inv .2, add-one) (filled-by (right-at (a .board .now) (a .places .now)) (l .k) h b refl),
+      rw (l .inv .2, add-one) (rising (l .k) h),
+    )
 
--- src/lib.rt:105:1
 returns : tie.Need-returns Inv-loop μ-loop
-returns c = ?
+returns c =
+    let l = c .before .loop in
+    let a = c .before .before .before .args in
+    let e : l .k ≡ 64 = omega arith in
+    l .inv .1 ∙ ap (λ (n : ℕ). those n (right-at (a .board .now) (a .places .now))) e
 
 pub right-squares-spec : {M : Type 1} → statement M
 right-squares-spec =

@@ -19,7 +19,7 @@ pub place-last : (byte : ℕ) → 14 ≤ byte → 14 ≡ placeOf byte
 place-last byte h = sym (ap (λ (t : Bool). cond t byte 14) (le-ltb byte 14 h))
 
 -- ---- a byte is below 14, or it is no code
-by-place : (P : ℕ → ℕ → Type 0) → ((b : ℕ) → b < 14 → P b b) → ((b : ℕ) → 14 ≤ b → P b 14) → (byte : ℕ) → P byte (placeOf byte)
+pub by-place : (P : ℕ → ℕ → Type 0) → ((b : ℕ) → b < 14 → P b b) → ((b : ℕ) → 14 ≤ b → P b 14) → (byte : ℕ) → P byte (placeOf byte)
 by-place P code last byte = go (ltb byte 14) refl
   where
     go : (t : Bool) → ltb byte 14 ≡ t → P byte (cond t byte 14)

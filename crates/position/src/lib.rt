@@ -1,10 +1,10 @@
 // A position: 14 bitboards, 64 board bytes, and a state by value. Its shape, its consistency, and bytes to bitboards.
 ghost use mathlib.Core.Path.{_≡_};
-ghost use Prim.Native.Nat.{_<_};
+ghost use Prim.Native.Nat.{_≤_, _<_};
 ghost use lib.ListN.{length};
 ghost use Rattle.position.specs.Consistent.{consistent};
-ghost use Rattle.position.specs.Tested.{crowded, standing, placeOf, rightPlaces, rightBy};
-ghost use Rattle.position.specs.Promises.{Checks};
+ghost use Rattle.position.specs.Tested.{crowded, standing, placeOf, rightPlaces, rightBy, sortedBy};
+ghost use Rattle.position.specs.Promises.{Checks, Makes};
 use chess::color::Color;
 use chess::inner::index;
 use chess::kind::Kind;
@@ -25,7 +25,7 @@ pub enum Checked {
 
 // The bitboards of 64 bytes; `coded` is whether each byte is 0 or a piece's code.
 pub struct Boards {
-    pub bitboards: [u64; 14],
+    pub bitboards: [u64; Piece::BOARDS],
     pub coded: bool,
 }
 
@@ -54,7 +54,7 @@ fn look(bitboards: &[u64]) -> Taken
 
 // A colour's piece boards together.
 fn unite(bitboards: &[u64], color: usize) -> u64
-    requires { ⌜ (length (now bitboards) ≡ 14) × (color < 2) ⌝ }
+    requires { ⌜ (14 ≤ length (now bitboards)) × (color < 2) ⌝ }
     ensures { λ r. ⌜ r ≡ standing (now (bitboards .entry)) color ⌝ }
 {
     let mut all: u64 = 0;
@@ -66,9 +66,12 @@ fn unite(bitboards: &[u64], color: usize) -> u64
     all
 }
 
+// A place for each byte below 14, and one for all others.
+const PLACES: usize = Piece::BOARDS + 1;
+
 // Where a table of 15 has a byte: its code, and the last place for all that are none.
 fn place(byte: u8) -> usize
-    ensures { λ r. ⌜ r ≡ placeOf byte ⌝ }
+    ensures { λ r. ⌜ (r ≡ placeOf byte) × (r < 15) ⌝ }
 {
     let at = index(byte);
     if at < Piece::BOARDS {
@@ -78,7 +81,7 @@ fn place(byte: u8) -> usize
 }
 
 // The squares where each byte is right: 0 where no piece stands, a code on its board, any other nowhere.
-fn right_places(bitboards: &[u64], taken: u64) -> [u64; 15]
+fn right_places(bitboards: &[u64], taken: u64) -> [u64; PLACES]
     requires { ⌜ length (now bitboards) ≡ 14 ⌝ }
     ensures { λ r. ⌜ r ≡ rightPlaces (now (bitboards .entry)) taken ⌝ }
 {
@@ -102,7 +105,7 @@ fn right_places(bitboards: &[u64], taken: u64) -> [u64; 15]
 }
 
 // The squares whose byte is right, in one pass without a branch.
-fn right_squares(board: &[u8], places: &[u64; 15]) -> u64
+fn right_squares(board: &[u8], places: &[u64; PLACES]) -> u64
     requires { ⌜ length (now board) ≡ 64 ⌝ }
     ensures { λ r. ⌜ r ≡ rightBy (now (board .entry)) (now (places .entry)) ⌝ }
 {
@@ -157,4 +160,50 @@ pub fn check(bitboards: &[u64], board: &[u8], state: State) -> Checked
         return Checked::Refused(Refusal::Board);
     }
     Checked::Fit
+}
+
+// The squares of each byte: at a piece's code where it stands, at 1 and at 14 the bytes that are no code.
+fn sorted(board: &[u8; Square::COUNT]) -> [u64; PLACES]
+    ensures { λ r. ⌜ r ≡ sortedBy (now (board .entry)) ⌝ }
+{
+    let mut squares: [u64; PLACES] = [0; PLACES];
+    let mut square: u64 = 1;
+    let mut k: usize = 0;
+    while k < Square::COUNT {
+        let at = place(board[k]);
+        squares[at] = squares[at] | square;
+        square = square << 1;
+        k += 1;
+    }
+    squares
+}
+
+// The one way from bytes to bitboards. A byte that is no code stands on none of them, and then `coded` is false.
+pub fn bitboards_of(board: &[u8; Square::COUNT]) -> Boards
+    ensures { λ r. ⌜ Makes (now (board .entry)) r ⌝ }
+{
+    let s = sorted(board);
+    let white = unite(&s, 0);
+    let black = unite(&s, 1);
+    let bitboards = [
+        white,
+        black,
+        s[2],
+        s[3],
+        s[4],
+        s[5],
+        s[6],
+        s[7],
+        s[8],
+        s[9],
+        s[10],
+        s[11],
+        s[12],
+        s[13],
+    ];
+    let strays = s[1] | s[14];
+    Boards {
+        bitboards,
+        coded: strays == 0,
+    }
 }

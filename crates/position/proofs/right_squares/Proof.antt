@@ -10,7 +10,6 @@ use lib.ListN.{getD}
 use Rattle.bits.specs.Bitboard.{has, those}
 use Rattle.bits.proofs.Filled.{rising, filled-by}
 use Rattle.position.specs.Tested.{placeOf}
-use Rattle.position.proofs.Places.{place-lt}
 use Rattle.position.proofs.right_squares.Statement.{statement}
 use Rattle.position.proofs.right_squares.Tie as tie
 
@@ -34,10 +33,10 @@ place-requires : tie.Need-place-requires Inv-loop μ-loop
 place-requires c κs = search needs
 
 mul-right : tie.Need-mul-right Inv-loop μ-loop
-mul-right c = omega (arith, c .place .ensures, place-lt (getD (c .before .before .before .before .before .args .board .now) (c .before .before .before .loop .k) 0))
+mul-right c = omega arith
 
 element-copy-out-right : tie.Need-element-copy-out-right Inv-loop μ-loop
-element-copy-out-right c = omega (arith, c .place .ensures, place-lt (getD (c .before .before .before .before .before .args .board .now) (c .before .before .before .loop .k) 0))
+element-copy-out-right c = omega arith
 
 add-k : tie.Need-add-k Inv-loop μ-loop
 add-k c = search needs
@@ -52,7 +51,7 @@ loop-again c =
     let b = getD (a .places .now) (placeOf (getD (a .board .now) (l .k) 0)) 0 in
     let h = c .before .before .before .loop-test .taken in (
       omega arith,
-      rw (c .before .place .ensures, l .inv .1, l .inv .2, add-one) (filled-by (right-at (a .board .now) (a .places .now)) (l .k) h b refl),
+      rw (c .before .place .ensures .0, l .inv .1, l .inv .2, add-one) (filled-by (right-at (a .board .now) (a .places .now)) (l .k) h b refl),
       rw (l .inv .2, add-one) (rising (l .k) h),
     )
 

@@ -5,3 +5,8 @@ pub mod Made
 pub mod Tested
 pub mod Doors
 pub mod Determined
+pub mod Apart
+pub mod United
+pub mod Bytes
+pub mod Parts
+pub mod Only

@@ -23,7 +23,7 @@ use Rattle.position.specs.Tested.{placeOf, standing, sortedBy}
 use Rattle.position.proofs.Places.{by-place, no-piece}
 
 -- ---- where a byte is sorted, and where it stands
-on-its-board : (byte board : ℕ) → 2 ≤ board → board < 14 → eqb (placeOf byte) board ≡ standsOn byte board
+pub on-its-board : (byte board : ℕ) → 2 ≤ board → board < 14 → eqb (placeOf byte) board ≡ standsOn byte board
 unfolding allBelow2 allBelow
 on-its-board byte board l h =
     by-place (λ b p. eqb p board ≡ standsOn b board)
@@ -35,7 +35,7 @@ on-its-board byte board l h =
     pick b true e t = is-beq (eqb b board) (standsOn b board) t
     pick b false e t = absurd (mathlib.Core.Bool.false≢true e)
 
-on-its-colour : (byte colour : ℕ) → colour < 2 → some 6 (λ n. eqb (placeOf byte) (2 + 2 * n + colour)) ≡ standsOn byte colour
+pub on-its-colour : (byte colour : ℕ) → colour < 2 → some 6 (λ n. eqb (placeOf byte) (2 + 2 * n + colour)) ≡ standsOn byte colour
 unfolding allBelow2 allBelow some
 on-its-colour byte colour h =
     by-place (λ b p. some 6 (λ n. eqb p (2 + 2 * n + colour)) ≡ standsOn b colour)

@@ -10,3 +10,4 @@ pub mod United
 pub mod Bytes
 pub mod Parts
 pub mod Only
+pub mod Examples

@@ -22,7 +22,9 @@ use Rattle.bits.proofs.Some.{some-same}
 use Rattle.bits.proofs.Those.{has-those, is-those}
 use Rattle.position.specs.Consistent.{on, crowd, apart, ofColour, united, agrees, consistent}
 use Rattle.position.specs.Boards.{isByte, coded, standsOn, bitboardsOf}
+use Rattle.position.specs.Promises.{Makes}
 use Rattle.position.specs.Tested.{placeOf}
+use Rattle.position.specs.declared.Boards.{Boards}
 use Rattle.position.proofs.Places.{by-place, no-piece}
 use Rattle.position.proofs.Made.{on-its-board, on-its-colour}
 use Rattle.position.proofs.Apart.{code-from, code-to, code-is, apart-everywhere}
@@ -133,6 +135,10 @@ module _ (bbs bytes : List ℕ) (e : consistent bbs bytes ≡ true) where
   only-made n small =
       ext-getD 0 bbs (bitboardsOf bytes) (n ∙ sym (made-length bytes))
       (λ board h.
-          let l : board < 14 = omega arith in
-          is-those (getD bbs board 0) (λ k. standsOn (getD bytes k 0) board) (small board) (λ k hk. every-board k board hk l)
-          ∙ sym (entry 14 (λ c. those 64 (λ j. standsOn (getD bytes j 0) c)) 0 board l))
+      let l : board < 14 = omega arith in
+      is-those (getD bbs board 0) (λ k. standsOn (getD bytes k 0) board) (small board) (λ k hk. every-board k board hk l)
+      ∙ sym (entry 14 (λ c. those 64 (λ j. standsOn (getD bytes j 0) c)) 0 board l))
+
+-- ---- what `bitboards_of` gives, where every byte is 0 or a piece's code
+pub made-fits : (bytes : List ℕ) (r : Boards) → Makes bytes r → r .coded ≡ true → consistent (r .bitboards) bytes ≡ true
+made-fits bytes r p e = ap (λ (b : List ℕ). consistent b bytes) (p .0) ∙ made-consistent bytes (sym (p .1) ∙ e)

@@ -19,7 +19,7 @@ use Rattle.bits.proofs.Some.{some-same}
 use Rattle.bits.proofs.Those.{has-those, those-same, those-or, those-none}
 use Rattle.position.specs.Consistent.{ofColour}
 use Rattle.position.specs.Boards.{isByte, coded, standsOn, bitboardsOf}
-use Rattle.position.specs.Tested.{placeOf, standing, sortedBy}
+use Rattle.position.specs.Tested.{placeOf, standing, sortedBy, boardsBy}
 use Rattle.position.proofs.Places.{by-place, no-piece}
 
 -- ---- where a byte is sorted, and where it stands
@@ -75,31 +75,20 @@ module _ (bytes : List ℕ) where
       (λ n hn. ap (λ (b : ℕ). has b k) (sorted-at (2 + 2 * n + colour) (omega arith)) ∙ has-those 64 (λ j. eqb (placeOf (getD bytes j 0)) (2 + 2 * n + colour)) k hk)
       ∙ on-its-colour (getD bytes k 0) colour h)
 
-  -- a colour's board, or a piece's
-  abbrev boardOf : ℕ → ℕ
-  boardOf board = cond (ltb board 2) (standing (sortedBy bytes) board) (getD (sortedBy bytes) board 0)
-
-  each-board : (board : ℕ) → board < 14 → boardOf board ≡ those 64 (λ k. standsOn (getD bytes k 0) board)
+  each-board : (board : ℕ) → board < 14 → cond (ltb board 2) (standing (sortedBy bytes) board) (getD (sortedBy bytes) board 0) ≡ those 64 (λ k. standsOn (getD bytes k 0) board)
   each-board board h = go (ltb board 2) refl
     where
       go : (t : Bool) → ltb board 2 ≡ t → cond t (standing (sortedBy bytes) board) (getD (sortedBy bytes) board 0) ≡ those 64 (λ k. standsOn (getD bytes k 0) board)
       go true e = colour-board board (ltb-true board 2 e)
       go false e = piece-board board (ltb-false board 2 e) h
 
-  all-boards : tabulate 14 boardOf ≡ bitboardsOf bytes
-  unfolding bitboardsOf
-  all-boards = tabulate-same 14 boardOf (λ board. those 64 (λ k. standsOn (getD bytes k 0) board)) each-board
-
--- ---- what the code puts together
-abbrev laid : List ℕ → ℕ → ℕ → List ℕ
-laid s white black =
-    white ∷ black ∷ getD s 2 0 ∷ getD s 3 0 ∷ getD s 4 0 ∷ getD s 5 0 ∷ getD s 6 0 ∷ getD s 7 0 ∷ getD s 8 0 ∷ getD s 9 0 ∷ getD s 10 0
-    ∷ getD s 11 0 ∷ getD s 12 0 ∷ getD s 13 0 ∷ []
-
-pub made : (bytes s : List ℕ) (white black : ℕ) → s ≡ sortedBy bytes → white ≡ standing s 0 → black ≡ standing s 1 → laid s white black ≡ bitboardsOf bytes
-unfolding tabulate
-made bytes s white black e w b =
-    ap₂ (laid s) w b ∙ ap (λ (t : List ℕ). laid t (standing t 0) (standing t 1)) e ∙ all-boards bytes
+-- ---- what the code gives
+pub made : (bytes squares boards : List ℕ) → squares ≡ sortedBy bytes → boards ≡ boardsBy squares → boards ≡ bitboardsOf bytes
+unfolding boardsBy bitboardsOf
+made bytes squares boards s b =
+    b ∙ ap boardsBy s
+    ∙ tabulate-same 14 (λ board. cond (ltb board 2) (standing (sortedBy bytes) board) (getD (sortedBy bytes) board 0))
+    (λ board. those 64 (λ k. standsOn (getD bytes k 0) board)) (each-board bytes)
 
 pub strays-seen : (bytes s : List ℕ) → s ≡ sortedBy bytes → eqb (bitOr (getD s 1 0) (getD s 14 0)) 0 ≡ coded bytes
 unfolding coded

@@ -35,3 +35,7 @@ rightBy bytes places = those 64 (λ k. has (getD places (placeOf (getD bytes k 0
 -- the squares of each place of a byte
 unfoldable pub sortedBy : List ℕ → List ℕ
 sortedBy bytes = tabulate 15 (λ place. those 64 (λ k. eqb (placeOf (getD bytes k 0)) place))
+
+-- the boards of the sorted bytes
+unfoldable pub boardsBy : List ℕ → List ℕ
+boardsBy squares = tabulate 14 (λ board. cond (ltb board 2) (standing squares board) (getD squares board 0))

@@ -3,7 +3,7 @@ ghost use mathlib.Core.Path.{_≡_};
 ghost use Prim.Native.Nat.{_≤_, _<_};
 ghost use lib.ListN.{length};
 ghost use Rattle.position.specs.Consistent.{consistent};
-ghost use Rattle.position.specs.Tested.{crowded, standing, placeOf, rightPlaces, rightBy, sortedBy};
+ghost use Rattle.position.specs.Tested.{crowded, standing, placeOf, rightPlaces, rightBy, sortedBy, boardsBy};
 ghost use Rattle.position.specs.Promises.{Checks, Makes};
 use chess::color::Color;
 use chess::inner::index;
@@ -29,13 +29,20 @@ pub struct Boards {
     pub coded: bool,
 }
 
+// The colours' boards, and the first of the pieces'.
+const WHITE: usize = 0;
+
+const BLACK: usize = 1;
+
+const PIECES: usize = Color::COUNT;
+
 // The squares that a piece board has, and those that two or more have.
 struct Taken {
     once: u64,
     twice: u64,
 }
 
-// The piece boards come after the colours' two.
+// The piece boards, one after the other.
 fn look(bitboards: &[u64]) -> Taken
     requires { ⌜ length (now bitboards) ≡ 14 ⌝ }
     ensures { λ r. ⌜ (r .once ≡ crowded (now (bitboards .entry)) 1) × (r .twice ≡ crowded (now (bitboards .entry)) 2) ⌝ }
@@ -44,7 +51,7 @@ fn look(bitboards: &[u64]) -> Taken
     let mut twice: u64 = 0;
     let mut n: usize = 0;
     while n < Piece::COUNT {
-        let b = bitboards[Color::COUNT + n];
+        let b = bitboards[PIECES + n];
         twice = once & b | twice;
         once = b | once;
         n += 1;
@@ -60,14 +67,20 @@ fn unite(bitboards: &[u64], color: usize) -> u64
     let mut all: u64 = 0;
     let mut n: usize = 0;
     while n < Kind::COUNT {
-        all = bitboards[Color::COUNT + 2 * n + color] | all;
+        all = bitboards[PIECES + Color::COUNT * n + color] | all;
         n += 1;
     }
     all
 }
 
-// A place for each byte below 14, and one for all others.
+// In a table by bytes: a place for each below 14, among them 1, which is no code, and one for all others.
 const PLACES: usize = Piece::BOARDS + 1;
+
+const EMPTY: usize = Piece::EMPTY as usize;
+
+const ONE: usize = 1;
+
+const OTHERS: usize = Piece::BOARDS;
 
 // Where a table of 15 has a byte: its code, and the last place for all that are none.
 fn place(byte: u8) -> usize
@@ -77,7 +90,7 @@ fn place(byte: u8) -> usize
     if at < Piece::BOARDS {
         return at;
     }
-    Piece::BOARDS
+    OTHERS
 }
 
 // The squares where each byte is right: 0 where no piece stands, a code on its board, any other nowhere.
@@ -85,23 +98,14 @@ fn right_places(bitboards: &[u64], taken: u64) -> [u64; PLACES]
     requires { ⌜ length (now bitboards) ≡ 14 ⌝ }
     ensures { λ r. ⌜ r ≡ rightPlaces (now (bitboards .entry)) taken ⌝ }
 {
-    [
-        !taken,
-        0,
-        bitboards[2],
-        bitboards[3],
-        bitboards[4],
-        bitboards[5],
-        bitboards[6],
-        bitboards[7],
-        bitboards[8],
-        bitboards[9],
-        bitboards[10],
-        bitboards[11],
-        bitboards[12],
-        bitboards[13],
-        0,
-    ]
+    let mut places: [u64; PLACES] = [0; PLACES];
+    places[EMPTY] = !taken;
+    let mut code: usize = PIECES;
+    while code < Piece::BOARDS {
+        places[code] = bitboards[code];
+        code += 1;
+    }
+    places
 }
 
 // The squares whose byte is right, in one pass without a branch.
@@ -130,12 +134,12 @@ fn fits(bitboards: &[u64], board: &[u8]) -> bool
     if taken.twice != 0 {
         return false;
     }
-    let white = unite(bitboards, 0);
-    if bitboards[0] != white {
+    let white = unite(bitboards, WHITE);
+    if bitboards[WHITE] != white {
         return false;
     }
-    let black = unite(bitboards, 1);
-    if bitboards[1] != black {
+    let black = unite(bitboards, BLACK);
+    if bitboards[BLACK] != black {
         return false;
     }
     let places = right_places(bitboards, taken.once);
@@ -178,30 +182,28 @@ fn sorted(board: &[u8; Square::COUNT]) -> [u64; PLACES]
     squares
 }
 
+// The boards of the sorted bytes: a piece's as it is, a colour's the union of its pieces'.
+fn boards_of(squares: &[u64; PLACES]) -> [u64; Piece::BOARDS]
+    ensures { λ r. ⌜ r ≡ boardsBy (now (squares .entry)) ⌝ }
+{
+    let mut boards: [u64; Piece::BOARDS] = [0; Piece::BOARDS];
+    boards[WHITE] = unite(squares, WHITE);
+    boards[BLACK] = unite(squares, BLACK);
+    let mut code: usize = PIECES;
+    while code < Piece::BOARDS {
+        boards[code] = squares[code];
+        code += 1;
+    }
+    boards
+}
+
 // The one way from bytes to bitboards. A byte that is no code stands on none of them, and then `coded` is false.
 pub fn bitboards_of(board: &[u8; Square::COUNT]) -> Boards
     ensures { λ r. ⌜ Makes (now (board .entry)) r ⌝ }
 {
-    let s = sorted(board);
-    let white = unite(&s, 0);
-    let black = unite(&s, 1);
-    let bitboards = [
-        white,
-        black,
-        s[2],
-        s[3],
-        s[4],
-        s[5],
-        s[6],
-        s[7],
-        s[8],
-        s[9],
-        s[10],
-        s[11],
-        s[12],
-        s[13],
-    ];
-    let strays = s[1] | s[14];
+    let squares = sorted(board);
+    let bitboards = boards_of(&squares);
+    let strays = squares[ONE] | squares[OTHERS];
     Boards {
         bitboards,
         coded: strays == 0,

@@ -1,8 +1,9 @@
 -- How many squares a bitboard has: the machine's count of ones. Assumes nothing.
 use mathlib.Core.Path.{_≡_, refl, sym, ap, ap₂, _∙_, subst}
+use mathlib.Core.Logic.{⊎-elim}
 use mathlib.Core.Bool.{Bool, true, false}
 use Prim.Native.Nat.{ℕ, zero, suc, _+_, _/_, _%_, _^_, _≤_, _<_}
-use native.Mathlib.Nat.{mod-lt, mod-eq-of-lt}
+use native.Mathlib.Nat.{mod-lt, mod-eq-of-lt, not-suc-le-zero, le-suc-iff, suc-inj}
 use native.Mathlib.Omega.{arith}
 use lib.Pow.{pow-pos, shr-lt, split}
 use lib.Arith.{lt-one}
@@ -17,7 +18,7 @@ ones-digit zero h = refl
 ones-digit (suc zero) h = refl
 ones-digit (suc (suc d)) h = absurd (omega arith)
 
-digit-of : (d : ℕ) → d < 2 → digit (isSet d) ≡ d
+pub digit-of : (d : ℕ) → d < 2 → digit (isSet d) ≡ d
 digit-of zero h = refl
 digit-of (suc zero) h = refl
 digit-of (suc (suc d)) h = absurd (omega arith)
@@ -51,3 +52,48 @@ many-le (suc n) f = omega (arith, many-le n f, bit (f n))
     bit : (t : Bool) → digit t ≤ 1
     bit true = omega arith
     bit false = omega arith
+
+-- ---- none, and no two
+pub many-at : (n : ℕ) (f : ℕ → Bool) (i : ℕ) → i < n → f i ≡ true → 1 ≤ howMany n f
+unfolding howMany
+many-at zero f i h e = absurd (not-suc-le-zero h)
+many-at (suc n) f i h e =
+    ⊎-elim (λ l. omega (arith, many-at n f i l e)) (λ q. omega (arith, ap digit (ap f (sym (suc-inj q)) ∙ e))) (le-suc-iff .0 h)
+
+pub none-many : (n : ℕ) (f : ℕ → Bool) → howMany n f ≡ 0 → (i : ℕ) → i < n → f i ≡ false
+none-many n f z i h = go (f i) refl
+  where
+    go : (t : Bool) → f i ≡ t → t ≡ false
+    go true e = absurd (omega (arith, many-at n f i h e))
+    go false e = refl
+
+pub many-none : (n : ℕ) (f : ℕ → Bool) → ((i : ℕ) → i < n → f i ≡ false) → howMany n f ≡ 0
+unfolding howMany
+many-none zero f e = refl
+many-none (suc n) f e = omega (arith, ap digit (e n (omega arith)), many-none n f (λ i l. e i (omega arith)))
+
+-- where at most one passes the test, two that pass it are one
+pub one-alone : (n : ℕ) (f : ℕ → Bool) → howMany n f ≤ 1 → (i j : ℕ) → i < n → j < n → f i ≡ true → f j ≡ true → i ≡ j
+unfolding howMany
+one-alone zero f h i j hi hj ei ej = absurd (not-suc-le-zero hi)
+one-alone (suc n) f h i j hi hj ei ej =
+    ⊎-elim
+    (λ li. ⊎-elim (λ lj. one-alone n f (omega arith) i j li lj ei ej) (λ qj. absurd (two i li ei (ap f (sym (suc-inj qj)) ∙ ej))) (le-suc-iff .0 hj))
+    (λ qi. ⊎-elim (λ lj. absurd (two j lj ej (ap f (sym (suc-inj qi)) ∙ ei))) (λ qj. suc-inj qi ∙ sym (suc-inj qj)) (le-suc-iff .0 hj))
+    (le-suc-iff .0 hi)
+  where
+    two : (m : ℕ) → m < n → f m ≡ true → f n ≡ true → ⊥
+    two m l e q = omega (arith, many-at n f m l e, ap digit q)
+
+pub alone-one : (n : ℕ) (f : ℕ → Bool) → ((i j : ℕ) → i < n → j < n → f i ≡ true → f j ≡ true → i ≡ j) → howMany n f ≤ 1
+unfolding howMany
+alone-one zero f e = omega arith
+alone-one (suc n) f e = go (alone-one n f (λ i j hi hj. e i j (omega arith) (omega arith))) (f n) refl
+  where
+    others : f n ≡ true → (i : ℕ) → i < n → (t : Bool) → f i ≡ t → t ≡ false
+    others q i l true p = absurd (omega (arith, e i n (omega arith) (omega arith) p q))
+    others q i l false p = refl
+
+    go : howMany n f ≤ 1 → (t : Bool) → f n ≡ t → digit t + howMany n f ≤ 1
+    go h true q = omega (arith, many-none n f (λ i l. others q i l (f i) refl))
+    go h false q = omega arith

@@ -4,6 +4,7 @@ pub mod Machine
 pub mod Some
 pub mod Lists
 pub mod Counts
+pub mod Filled
 pub mod Scanned
 pub mod Squares
 pub mod Each

@@ -58,3 +58,21 @@ some-at (suc n) f k h t =
     ⊎-elim (λ l. or-r (f n) (some n f) (some-at n f k l t))
     (λ e. or-l (f n) (some n f) (true-T (ap f (sym (suc-inj e)) ∙ Rattle.laws.proofs.Truth.T-true (f k) t)))
     (le-suc-iff .0 h)
+
+-- a number for which the test holds
+pub record Somewhere (n : ℕ) (f : ℕ → Bool) : Type 0 where
+  pub at : ℕ
+  pub below : at < n
+  pub holds : f at ≡ true
+
+pub some-where : (n : ℕ) (f : ℕ → Bool) → some n f ≡ true → Somewhere n f
+unfolding some
+some-where zero f e = absurd (true≢false (sym e))
+some-where (suc n) f e = go (f n) refl (some-where n f)
+  where
+    later : Somewhere n f → Somewhere (suc n) f
+    later s = record { at = s .at; below = let l = s .below in omega arith; holds = s .holds }
+
+    go : (t : Bool) → f n ≡ t → (some n f ≡ true → Somewhere n f) → Somewhere (suc n) f
+    go true q below = record { at = n; below = omega arith; holds = q }
+    go false q below = later (below (ap (λ (t : Bool). t || some n f) (sym q) ∙ e))

@@ -9,10 +9,10 @@ use lib.Dec.{T, eqb, leb, eqb→eq, eqb-refl}
 use lib.Bits.{or-shifted, bitOr, bitAnd, or-lt, and-lt}
 use borrow.Author.Tests.{le-leb, lt-leb}
 use Rattle.laws.specs.Tests.{allBelow}
-use Rattle.laws.proofs.Tests.{all-at, all-of}
+use Rattle.laws.proofs.Tests.{all-at, all-of, all-same}
 use Rattle.laws.proofs.Truth.{iff, is-beq, beq-is, not-i, not-e}
 use Rattle.bits.specs.Bitboard.{has, digit, those}
-use Rattle.bits.proofs.Digits.{has-or, has-and, has-up, has-high, has-zero, ext}
+use Rattle.bits.proofs.Digits.{has-or, has-and, has-not, has-up, has-high, has-zero, ext}
 
 -- ---- the bitboard of a test
 digit-lt : (t : Bool) → digit t < 2
@@ -79,6 +79,12 @@ those-and f g =
     and-is (those 64 f) (those 64 g) (those-lt 64 f) (those-lt 64 g)
     ∙ those-same (λ k. has (those 64 f) k && has (those 64 g) k) (λ k. f k && g k) (λ k h. ap₂ (λ (s t : Bool). s && t) (has-those 64 f k h) (has-those 64 g k h))
 
+-- ---- `!`
+pub those-not : (f : ℕ → Bool) → 2 ^ 64 - 1 - those 64 f ≡ those 64 (λ k. not (f k))
+those-not f =
+    is-those (2 ^ 64 - 1 - those 64 f) (λ k. not (f k)) (omega arith)
+    (λ k h. has-not (those 64 f) k (those-lt 64 f) h ∙ ap not (has-those 64 f k h))
+
 -- ---- a number is the bitboard of a test exactly where each of its squares says so
 pub is-those-test : (a : ℕ) (f : ℕ → Bool) → a < 2 ^ 64 → eqb a (those 64 f) ≡ allBelow 64 (λ k. Bool·beq (has a k) (f k))
 is-those-test a f h = iff (eqb a (those 64 f)) (allBelow 64 (λ k. Bool·beq (has a k) (f k))) there back
@@ -108,3 +114,11 @@ those-none f = iff (eqb (those 64 f) 0) (allBelow 64 (λ k. not (f k))) there ba
         subst (λ (x : ℕ). T (eqb x 0))
         (is-those 0 f (omega arith) (λ k l. has-zero k ∙ sym (not-e (f k) (all-at 64 (λ j. not (f j)) t k l))))
         (eqb-refl 0)
+
+-- all pass it
+pub those-all : (f : ℕ → Bool) → eqb (2 ^ 64 - 1 - those 64 f) 0 ≡ allBelow 64 f
+those-all f = ap (λ (x : ℕ). eqb x 0) (those-not f) ∙ those-none (λ k. not (f k)) ∙ all-same 64 (λ k. not (not (f k))) f (λ k h. twice (f k))
+  where
+    twice : (t : Bool) → not (not t) ≡ t
+    twice true = refl
+    twice false = refl

@@ -1,0 +1,14 @@
+pub mod Apart
+pub mod United
+pub mod Bytes
+pub mod Parts
+pub mod Crowded
+pub mod Places
+pub mod Copied
+pub mod Tested
+pub mod Sorting
+pub mod Made
+pub mod Only
+pub mod Doors
+pub mod Determined
+pub mod Examples

@@ -1,0 +1,53 @@
+-- `position::check` meets its contract. Assumes nothing.
+use mathlib.Core.Path.{sym, _∙_}
+use native.Mathlib.Omega.{arith}
+use borrow.Author.Needs.{needs}
+use borrow.Author.Tests.{not-true, not-false}
+use Rattle.chess.specs.Answer.{given}
+use Rattle.position.proofs.Doors.{in-shape, no-boards, no-bytes, no-side, misshapen, inconsistent, sound}
+use Rattle.position.proofs.check.Statement.{statement}
+use Rattle.position.proofs.check.Tie as tie
+
+returns : tie.Need-returns
+returns c =
+    let a = c .before .before .before .args in
+    misshapen (a .bitboards .now) (a .board .now) (a .state .side) (given tt) (no-boards (a .bitboards .now) (a .board .now) (a .state .side) (c .if1 .taken))
+
+returns-2 : tie.Need-returns-2
+returns-2 c =
+    let a = c .before .before .before .before .args in
+    misshapen (a .bitboards .now) (a .board .now) (a .state .side) (given tt) (no-bytes (a .bitboards .now) (a .board .now) (a .state .side) (c .if2 .taken))
+
+index-requires : tie.Need-index-requires
+index-requires c κs = search needs
+
+returns-3 : tie.Need-returns-3
+returns-3 c =
+    let a = c .before .before .before .before .before .before .args in
+    misshapen (a .bitboards .now) (a .board .now) (a .state .side) (given tt) (no-side (a .bitboards .now) (a .board .now) (a .state .side) (omega arith))
+
+fits-requires : tie.Need-fits-requires
+fits-requires c κs = search needs
+
+returns-4 : tie.Need-returns-4
+returns-4 c =
+    let s = c .before .before in
+    let b = s .before .before in
+    let a = b .before .before .before .before .args in
+    inconsistent (a .bitboards .now) (a .board .now) (a .state .side) (given tt)
+    (in-shape (a .bitboards .now) (a .board .now) (a .state .side) (b .before .if1 .left) (b .if2 .left) (omega arith))
+    (sym (c .before .fits2 .ensures) ∙ not-true (c .before .fits2 .result) (c .if4 .taken))
+
+returns-5 : tie.Need-returns-5
+returns-5 c =
+    let s = c .before .before in
+    let b = s .before .before in
+    let a = b .before .before .before .before .args in
+    sound (a .bitboards .now) (a .board .now) (a .state .side) (given tt)
+    (in-shape (a .bitboards .now) (a .board .now) (a .state .side) (b .before .if1 .left) (b .if2 .left) (omega arith))
+    (sym (c .before .fits2 .ensures) ∙ not-false (c .before .fits2 .result) (c .if4 .left))
+
+pub check-spec : {M : Type 1} → statement M
+check-spec =
+    tie.close
+    (tie.spec returns returns-2 index-requires returns-3 fits-requires returns-4 returns-5)

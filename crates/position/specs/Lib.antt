@@ -1,0 +1,4 @@
+pub mod Consistent
+pub mod Boards
+pub mod Promises
+pub mod Tested

@@ -1,0 +1,3 @@
+pub mod Attacks
+pub mod Lent
+pub mod Promises

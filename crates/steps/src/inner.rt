@@ -1,6 +1,9 @@
 // The tables as the crates above take them: made once for a call, then lent. Total, and no door.
 ghost use Rattle.steps.specs.Promises.{Tables, Steps};
-use crate::{BLACK_PAWN, KING, KNIGHT, WHITE_PAWN};
+use crate::BLACK_PAWN;
+use crate::KING;
+use crate::KNIGHT;
+use crate::WHITE_PAWN;
 
 // The rows of the tables.
 pub const WHITE_PAWN_ROW: usize = 0;

@@ -7,6 +7,7 @@ use lib.Dec.{eqb}
 use lib.ListN.{getD}
 use Rattle.chess.specs.Codes.{codeOf}
 use Rattle.bits.specs.Bitboard.{has, those, some, lowestOf, board}
+use Rattle.position.specs.Consistent.{on}
 use Rattle.steps.specs.Steps.{reached, knightSteps, kingSteps, whitePawnSteps, blackPawnSteps, pawnSteps}
 use Rattle.rays.specs.Rays.{seen, straight, slanted}
 
@@ -14,10 +15,6 @@ use Rattle.rays.specs.Rays.{seen, straight, slanted}
 -- the bitboard of a kind and a colour
 abbrev pub standing : List ℕ → ℕ → ℕ → ℕ
 standing bbs kind colour = getD bbs (codeOf kind colour) 0
-
--- a piece of this code stands on k
-abbrev pub stands : List ℕ → ℕ → ℕ → Bool
-stands bbs code k = has (getD bbs code 0) k
 
 -- "an occupancy of both sides"
 unfoldable pub occupied : List ℕ → ℕ
@@ -51,12 +48,12 @@ attacks kind colour s occ = attacksBy (reached (pawnSteps colour) s) (reached kn
 -- attacks s from where the other colour's pawn on s would attack it
 abbrev pub attacking : List ℕ → ℕ → ℕ → ℕ → ℕ → ℕ → ℕ → ℕ → Bool
 attacking bbs blackPawn whitePawn knight king slants lines k =
-    (stands bbs 2 k && has blackPawn k)
-    || ((stands bbs 3 k && has whitePawn k)
-    || (((stands bbs 4 k || stands bbs 5 k) && has knight k)
-    || (((stands bbs 6 k || stands bbs 7 k) && has king k)
-    || ((((stands bbs 8 k || stands bbs 9 k) || (stands bbs 12 k || stands bbs 13 k)) && has slants k)
-    || (((stands bbs 10 k || stands bbs 11 k) || (stands bbs 12 k || stands bbs 13 k)) && has lines k)))))
+    (on bbs 2 k && has blackPawn k)
+    || ((on bbs 3 k && has whitePawn k)
+    || (((on bbs 4 k || on bbs 5 k) && has knight k)
+    || (((on bbs 6 k || on bbs 7 k) && has king k)
+    || ((((on bbs 8 k || on bbs 9 k) || (on bbs 12 k || on bbs 13 k)) && has slants k)
+    || (((on bbs 10 k || on bbs 11 k) || (on bbs 12 k || on bbs 13 k)) && has lines k)))))
 
 -- the squares of the pieces, of both colours, that attack s where occ is occupied; a piece whose square is not in occ counts too
 unfoldable pub attackers : List ℕ → ℕ → ℕ → ℕ

@@ -6,9 +6,16 @@ ghost use Rattle.attack.specs.Attacks.{standing};
 ghost use Rattle.attack.specs.Lent.{pawnRow};
 ghost use Rattle.attack.specs.Promises.{Other, Standing, Occupied, AttacksWith, AttackersWith, AttackedWith, CheckWith};
 use bits::inner::at;
-use chess::inner::{code, index};
-use rays::inner::{bishop, queen, rook};
-use steps::inner::{step, BLACK_PAWN_ROW, KING_ROW, KNIGHT_ROW, WHITE_PAWN_ROW};
+use chess::inner::code;
+use chess::inner::index;
+use rays::inner::bishop;
+use rays::inner::queen;
+use rays::inner::rook;
+use steps::inner::BLACK_PAWN_ROW;
+use steps::inner::KING_ROW;
+use steps::inner::KNIGHT_ROW;
+use steps::inner::WHITE_PAWN_ROW;
+use steps::inner::step;
 
 const WHITE: u8 = 0;
 

@@ -3,7 +3,8 @@ ghost use mathlib.Core.Path.{_≡_};
 ghost use Rattle.attack.specs.Attacks.{attacks};
 ghost use Rattle.attack.specs.Promises.{PieceAttacks, AttacksTo, IsAttacked, IsCheck};
 use chess::refusal::Refusal;
-use position::{Checked, State};
+use position::Checked;
+use position::State;
 
 pub mod inner;
 

@@ -1,0 +1,4 @@
+pub mod Gathered
+pub mod Lent
+pub mod ByKind
+pub mod Doors

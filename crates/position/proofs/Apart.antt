@@ -35,16 +35,16 @@ module _ (bbs : List ℕ) (k : ℕ) where
   unfolding crowd
   apart-one e = record {
     same = λ c d pc pd hc hd.
-      let fc = code-from c pc in
-      let tc = code-to c pc in
-      let fd = code-from d pd in
-      let td = code-to d pd in
-      let ec : 2 + (c - 2) ≡ c = omega arith in
-      let ed : 2 + (d - 2) ≡ d = omega arith in
-      let same : c - 2 ≡ d - 2 =
+        let fc = code-from c pc in
+        let tc = code-to c pc in
+        let fd = code-from d pd in
+        let td = code-to d pd in
+        let ec : 2 + (c - 2) ≡ c = omega arith in
+        let ed : 2 + (d - 2) ≡ d = omega arith in
+        let same : c - 2 ≡ d - 2 =
         one-alone 12 (λ n. on bbs (2 + n) k) (leb-true (crowd bbs k) 1 e) (c - 2) (d - 2) (omega arith) (omega arith)
         (ap (λ (b : ℕ). on bbs b k) ec ∙ hc) (ap (λ (b : ℕ). on bbs b k) ed ∙ hd) in
-      omega arith
+        omega arith;
   }
 
   pub one-apart : OneAtMost → apart bbs k ≡ true

@@ -26,10 +26,10 @@ pub crowd-empty : (bbs : List ℕ) (k : ℕ) → crowd bbs k ≡ 0 → Empty bbs
 unfolding crowd
 crowd-empty bbs k e = record {
   none = λ c p.
-    let from = code-from c p in
-    let to = code-to c p in
-    let q : 2 + (c - 2) ≡ c = omega arith in
-    ap (λ (b : ℕ). on bbs b k) (sym q) ∙ none-many 12 (λ n. on bbs (2 + n) k) e (c - 2) (omega arith)
+      let from = code-from c p in
+      let to = code-to c p in
+      let q : 2 + (c - 2) ≡ c = omega arith in
+      ap (λ (b : ℕ). on bbs b k) (sym q) ∙ none-many 12 (λ n. on bbs (2 + n) k) e (c - 2) (omega arith);
 }
 
 pub empty-crowd : (bbs : List ℕ) (k : ℕ) → Empty bbs k → crowd bbs k ≡ 0
@@ -56,7 +56,7 @@ module _ (bbs bytes : List ℕ) (k : ℕ) where
       go false e u =
           inr (record {
             piece = and-l (isPiece (getD bytes k 0)) (on bbs (getD bytes k 0) k) u;
-            there = T-true (on bbs (getD bytes k 0) k) (and-r (isPiece (getD bytes k 0)) (on bbs (getD bytes k 0) k) u)
+            there = T-true (on bbs (getD bytes k 0) k) (and-r (isPiece (getD bytes k 0)) (on bbs (getD bytes k 0) k) u);
           })
 
   pub vacant-agrees : Vacant → T (agrees bbs bytes k)

@@ -133,6 +133,6 @@ module _ (bbs bytes : List ℕ) (e : consistent bbs bytes ≡ true) where
   only-made n small =
       ext-getD 0 bbs (bitboardsOf bytes) (n ∙ sym (made-length bytes))
       (λ board h.
-          let l : board < 14 = omega arith in
-          is-those (getD bbs board 0) (λ k. standsOn (getD bytes k 0) board) (small board) (λ k hk. every-board k board hk l)
-          ∙ sym (entry 14 (λ c. those 64 (λ j. standsOn (getD bytes j 0) c)) 0 board l))
+      let l : board < 14 = omega arith in
+      is-those (getD bbs board 0) (λ k. standsOn (getD bytes k 0) board) (small board) (λ k hk. every-board k board hk l)
+      ∙ sym (entry 14 (λ c. those 64 (λ j. standsOn (getD bytes j 0) c)) 0 board l))

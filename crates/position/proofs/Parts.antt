@@ -60,5 +60,5 @@ module _ (bbs bytes : List ℕ) (e : consistent bbs bytes ≡ true) where
       T-true (allBelow 64 (λ k. isByte (getD bytes k 0)))
       (all-of 64 (λ k. isByte (getD bytes k 0))
       (λ k h.
-          ⊎-elim (λ v. or-l (eqb (getD bytes k 0) 0) (isPiece (getD bytes k 0)) (true-T (ap (λ (b : ℕ). eqb b 0) (v .zero))))
-          (λ o. or-r (eqb (getD bytes k 0) 0) (isPiece (getD bytes k 0)) (o .piece)) (either k h)))
+      ⊎-elim (λ v. or-l (eqb (getD bytes k 0) 0) (isPiece (getD bytes k 0)) (true-T (ap (λ (b : ℕ). eqb b 0) (v .zero))))
+      (λ o. or-r (eqb (getD bytes k 0) 0) (isPiece (getD bytes k 0)) (o .piece)) (either k h)))

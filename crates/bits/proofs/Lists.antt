@@ -40,3 +40,14 @@ or-assoc a b c ha hb hc =
     ext 64 (bitOr (bitOr a b) c) (bitOr a (bitOr b c)) (or-lt 64 (bitOr a b) c (or-lt 64 a b ha hb) hc) (or-lt 64 a (bitOr b c) ha (or-lt 64 b c hb hc))
     (λ k h. has-or (bitOr a b) c k ∙ ap (λ (t : Bool). t || has c k) (has-or a b k) ∙ Bool.or-assoc (has a k) (has b k) (has c k)
     ∙ ap (λ (t : Bool). has a k || t) (sym (has-or b c k)) ∙ sym (has-or a (bitOr b c) k))
+
+-- ---- two lists one after the other
+pub in-append : (k : ℕ) (a b : List ℕ) → isIn k (a ++ b) ≡ (isIn k a || isIn k b)
+unfolding isIn
+in-append k [] b = refl
+in-append k (q ∷ a) b = ap (λ (t : Bool). eqb k q || t) (in-append k a b) ∙ sym (Bool.or-assoc (eqb k q) (isIn k a) (isIn k b))
+
+pub board-append : (a b : List ℕ) → board (a ++ b) ≡ bitOr (board a) (board b)
+board-append a b =
+    sym (is-board (bitOr (board a) (board b)) (a ++ b) (or-lt 64 (board a) (board b) (board-lt a) (board-lt b))
+    (λ k h. has-or (board a) (board b) k ∙ ap₂ (λ (s t : Bool). s || t) (has-board a k h) (has-board b k h) ∙ sym (in-append k a b)))

@@ -125,7 +125,7 @@ module _ (bbs bytes : List ℕ) (e : consistent bbs bytes ≡ true) where
   colour-stands-too : (k colour : ℕ) → k < 64 → colour < 2 → on bbs colour k ≡ ofColour bbs colour k → on bbs colour k ≡ standsOn (getD bytes k 0) colour
   colour-stands-too k colour h l q = q ∙ colour-of bbs bytes k (λ board f t. piece-stands k board h f t) colour l
 
-  every-board : (k board : ℕ) → k < 64 → board < 14 → on bbs board k ≡ standsOn (getD bytes k 0) board
+  pub every-board : (k board : ℕ) → k < 64 → board < 14 → on bbs board k ≡ standsOn (getD bytes k 0) board
   every-board k zero h l = colour-stands-too k 0 h (omega arith) (united-white bbs k (all-at 64 (united bbs) (consistent-united bbs bytes e) k h))
   every-board k (suc zero) h l = colour-stands-too k 1 h (omega arith) (united-black bbs k (all-at 64 (united bbs) (consistent-united bbs bytes e) k h))
   every-board k (suc (suc board)) h l = piece-stands k (suc (suc board)) h (omega arith) l

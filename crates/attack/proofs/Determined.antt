@@ -1,0 +1,63 @@
+-- Each public function is determined by its promise: two results that it allows are equal. Assumes nothing.
+use mathlib.Core.Path.{_≡_, refl, ap}
+use mathlib.Core.Bool.{Bool}
+use mathlib.Core.List.{List}
+use Prim.Native.Nat.{ℕ}
+use Rattle.chess.proofs.Paper.{one, retract, readBack, number-back}
+use Rattle.position.specs.declared.State.{State}
+use Rattle.attack.specs.Answers.{found, told}
+use Rattle.attack.specs.Promises.{PieceAttacks, AttacksTo, IsAttacked, IsCheck, Other, Standing, Occupied, AttacksWith, AttackersWith, AttackedWith, CheckWith}
+use Rattle.attack.specs.declared.Found.{Found}
+use Rattle.attack.specs.declared.Found.the-variants as F
+use Rattle.attack.specs.declared.Told.{Told}
+use Rattle.attack.specs.declared.Told.the-variants as W
+
+-- ---- answers that read the same are one
+found-back : (r : Found) → readBack F.Squares F.Refused (found r) ≡ r
+found-back (F.Squares b) = refl
+found-back (F.Refused q) = ap F.Refused (number-back q)
+
+pub found-one : (r s : Found) → found r ≡ found s → r ≡ s
+found-one = retract found (readBack F.Squares F.Refused) found-back
+
+told-back : (r : Told) → readBack W.Is W.Refused (told r) ≡ r
+told-back (W.Is t) = refl
+told-back (W.Refused q) = ap W.Refused (number-back q)
+
+pub told-one : (r s : Told) → told r ≡ told s → r ≡ s
+told-one = retract told (readBack W.Is W.Refused) told-back
+
+-- ---- the doors
+pub piece-attacks : (piece square occ : ℕ) (r s : Found) → PieceAttacks piece square occ r → PieceAttacks piece square occ s → r ≡ s
+piece-attacks piece square occ r s p q = found-one r s (one p q)
+
+pub attacks-to : (bbs bytes : List ℕ) (state : State) (square occ : ℕ) (r s : Found) → AttacksTo bbs bytes state square occ r → AttacksTo bbs bytes state square occ s → r ≡ s
+attacks-to bbs bytes state square occ r s p q = found-one r s (one p q)
+
+pub is-attacked : (bbs bytes : List ℕ) (state : State) (square colour : ℕ) (r s : Told) → IsAttacked bbs bytes state square colour r → IsAttacked bbs bytes state square colour s → r ≡ s
+is-attacked bbs bytes state square colour r s p q = told-one r s (one p q)
+
+pub is-check : (bbs bytes : List ℕ) (state : State) (colour : ℕ) (r s : Told) → IsCheck bbs bytes state colour r → IsCheck bbs bytes state colour s → r ≡ s
+is-check bbs bytes state colour r s p q = told-one r s (one p q)
+
+-- ---- the inner functions
+pub inner-other : (colour r s : ℕ) → Other colour r → Other colour s → r ≡ s
+inner-other colour r s = one
+
+pub inner-standing : (bbs : List ℕ) (kind colour r s : ℕ) → Standing bbs kind colour r → Standing bbs kind colour s → r ≡ s
+inner-standing bbs kind colour r s = one
+
+pub inner-occupied : (bbs : List ℕ) (r s : ℕ) → Occupied bbs r → Occupied bbs s → r ≡ s
+inner-occupied bbs r s = one
+
+pub inner-attacks : (tables : List (List ℕ)) (kind colour square occ r s : ℕ) → AttacksWith tables kind colour square occ r → AttacksWith tables kind colour square occ s → r ≡ s
+inner-attacks tables kind colour square occ r s = one
+
+pub inner-attacks-to : (tables : List (List ℕ)) (bbs : List ℕ) (square occ r s : ℕ) → AttackersWith tables bbs square occ r → AttackersWith tables bbs square occ s → r ≡ s
+inner-attacks-to tables bbs square occ r s = one
+
+pub inner-is-attacked : (tables : List (List ℕ)) (bbs : List ℕ) (square colour : ℕ) (r s : Bool) → AttackedWith tables bbs square colour r → AttackedWith tables bbs square colour s → r ≡ s
+inner-is-attacked tables bbs square colour r s = one
+
+pub inner-is-check : (tables : List (List ℕ)) (bbs : List ℕ) (colour : ℕ) (r s : Bool) → CheckWith tables bbs colour r → CheckWith tables bbs colour s → r ≡ s
+inner-is-check tables bbs colour r s = one

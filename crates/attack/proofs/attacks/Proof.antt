@@ -1,0 +1,55 @@
+-- `attack::attacks` meets its contract. Assumes nothing.
+use Rattle.attack.proofs.ByKind.{bishop, rook, queen}
+use Rattle.attack.proofs.Doors.{told-attacks}
+use borrow.Author.Needs.{needs}
+use Rattle.attack.proofs.attacks.Statement.{statement}
+use Rattle.attack.proofs.attacks.Tie as tie
+
+bishop-requires : tie.Need-bishop-requires
+bishop-requires c κs = search needs
+
+rook-requires : tie.Need-rook-requires
+rook-requires c κs = search needs
+
+queen-requires : tie.Need-queen-requires
+queen-requires c κs = search needs
+
+tables-requires : tie.Need-tables-requires
+tables-requires c κs = search needs
+
+attacks-requires : tie.Need-attacks-requires
+attacks-requires c κs = search needs
+
+returns : tie.Need-returns
+returns c =
+    let a = c .before .before .args in
+    bishop (a .kind) (a .color) (a .square) (a .occupied) (c .bishop .result) (c .before .match .keys1) (c .bishop .ensures)
+
+returns-2 : tie.Need-returns-2
+returns-2 c =
+    let a = c .before .before .args in
+    rook (a .kind) (a .color) (a .square) (a .occupied) (c .rook .result) (c .before .match .keys2) (c .rook .ensures)
+
+returns-3 : tie.Need-returns-3
+returns-3 c =
+    let a = c .before .before .args in
+    queen (a .kind) (a .color) (a .square) (a .occupied) (c .queen .result) (c .before .match .keys3) (c .queen .ensures)
+
+returns-4 : tie.Need-returns-4
+returns-4 c =
+    let a = c .before .before .before .before .args in
+    told-attacks _ (a .kind) (a .color) (a .square) (a .occupied) (c .attacks .result) (c .before .before .tables .ensures) (c .attacks .ensures)
+
+pub attacks-spec : {M : Type 1} → statement M
+attacks-spec =
+    tie.close
+    (tie.spec
+    bishop-requires
+    rook-requires
+    queen-requires
+    tables-requires
+    attacks-requires
+    returns
+    returns-2
+    returns-3
+    returns-4)

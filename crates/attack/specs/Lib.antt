@@ -1,0 +1,4 @@
+pub mod Attacks
+pub mod Lent
+pub mod Answers
+pub mod Promises

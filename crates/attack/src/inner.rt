@@ -1,0 +1,123 @@
+// The same for the crates above, on a position that their own doors have found consistent: total, no door, the step tables lent
+// (`steps::inner::tables`, made once for a call).
+ghost use mathlib.Core.Path.{_≡_};
+ghost use lib.Bits.{bitOr};
+ghost use Rattle.attack.specs.Attacks.{standing};
+ghost use Rattle.attack.specs.Lent.{pawnRow};
+ghost use Rattle.attack.specs.Promises.{Other, Standing, Occupied, AttacksWith, AttackersWith, AttackedWith, CheckWith};
+use bits::inner::at;
+use chess::inner::code;
+use chess::inner::index;
+use rays::inner::bishop;
+use rays::inner::queen;
+use rays::inner::rook;
+use steps::inner::BLACK_PAWN_ROW;
+use steps::inner::KING_ROW;
+use steps::inner::KNIGHT_ROW;
+use steps::inner::WHITE_PAWN_ROW;
+use steps::inner::step;
+
+const WHITE: u8 = 0;
+
+const BLACK: u8 = 1;
+
+// Kinds in document 01's order.
+const PAWN: u8 = 0;
+
+const KNIGHT: u8 = 1;
+
+const BISHOP: u8 = 2;
+
+const ROOK: u8 = 3;
+
+const QUEEN: u8 = 4;
+
+const KING: u8 = 5;
+
+// The colour that is not the one named; any number but White's has White for the other.
+pub fn other(color: u8) -> u8
+    ensures { λ r. ⌜ Other color r ⌝ }
+{
+    if color == WHITE {
+        return BLACK;
+    }
+    WHITE
+}
+
+// The bitboard of a kind and a colour.
+pub fn standing(bitboards: &[u64], kind: u8, color: u8) -> u64
+    ensures { λ r. ⌜ Standing (now (bitboards .entry)) kind color r ⌝ }
+{
+    at(bitboards, code(kind, color))
+}
+
+// Where a piece of either colour stands.
+pub fn occupied(bitboards: &[u64]) -> u64
+    ensures { λ r. ⌜ Occupied (now (bitboards .entry)) r ⌝ }
+{
+    bits::inner::union(at(bitboards, 0), at(bitboards, 1))
+}
+
+fn pawn_row(color: u8) -> usize
+    ensures { λ r. ⌜ r ≡ pawnRow color ⌝ }
+{
+    if color == WHITE {
+        return WHITE_PAWN_ROW;
+    }
+    BLACK_PAWN_ROW
+}
+
+// The squares that a piece of a kind and a colour attacks; none from a square above 63, and none for a number that is no kind.
+pub fn attacks(kind: u8, color: u8, square: u8, occupied: u64, tables: &[[u64; 64]; 4]) -> u64
+    ensures { λ r. ⌜ AttacksWith (now (tables .entry)) kind color square occupied r ⌝ }
+{
+    match kind {
+        PAWN => step(tables, pawn_row(color), square),
+        KNIGHT => step(tables, KNIGHT_ROW, square),
+        BISHOP => bishop(square, occupied),
+        ROOK => rook(square, occupied),
+        QUEEN => queen(square, occupied),
+        KING => step(tables, KING_ROW, square),
+        _ => 0,
+    }
+}
+
+// The pieces of a kind, of both colours.
+fn both(bitboards: &[u64], kind: u8) -> u64
+    ensures { λ r. ⌜ r ≡ bitOr (standing (now (bitboards .entry)) kind 0) (standing (now (bitboards .entry)) kind 1) ⌝ }
+{
+    standing(bitboards, kind, WHITE) | standing(bitboards, kind, BLACK)
+}
+
+// The squares of the pieces of both colours that attack a square: none attacks a square above 63.
+pub fn attacks_to(bitboards: &[u64], square: u8, occupied: u64, tables: &[[u64; 64]; 4]) -> u64
+    ensures { λ r. ⌜ AttackersWith (now (tables .entry)) (now (bitboards .entry)) square occupied r ⌝ }
+{
+    let white_pawns = standing(bitboards, PAWN, WHITE) & step(tables, BLACK_PAWN_ROW, square);
+    let black_pawns = standing(bitboards, PAWN, BLACK) & step(tables, WHITE_PAWN_ROW, square);
+    let knights = both(bitboards, KNIGHT) & step(tables, KNIGHT_ROW, square);
+    let kings = both(bitboards, KING) & step(tables, KING_ROW, square);
+    let queens = both(bitboards, QUEEN);
+    let slanted = (both(bitboards, BISHOP) | queens) & bishop(square, occupied);
+    let straight = (both(bitboards, ROOK) | queens) & rook(square, occupied);
+    white_pawns | (black_pawns | (knights | (kings | (slanted | straight))))
+}
+
+// Whether a piece of the other colour attacks a square.
+pub fn is_attacked(bitboards: &[u64], square: u8, color: u8, tables: &[[u64; 64]; 4]) -> bool
+    ensures { λ r. ⌜ AttackedWith (now (tables .entry)) (now (bitboards .entry)) square color r ⌝ }
+{
+    let attackers = attacks_to(bitboards, square, occupied(bitboards), tables);
+    attackers & at(bitboards, index(other(color))) != 0
+}
+
+// Whether a colour's king is attacked, the lowest if it has several; true if it has none.
+pub fn is_check(bitboards: &[u64], color: u8, tables: &[[u64; 64]; 4]) -> bool
+    ensures { λ r. ⌜ CheckWith (now (tables .entry)) (now (bitboards .entry)) color r ⌝ }
+{
+    let king = standing(bitboards, KING, color);
+    if king == 0 {
+        return true;
+    }
+    is_attacked(bitboards, bits::scan(king) as u8, color, tables)
+}

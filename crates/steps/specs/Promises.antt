@@ -1,0 +1,12 @@
+-- What each function promises, for all inputs. Definitions only.
+use mathlib.Core.Path.{_≡_}
+use mathlib.Core.List.{List}
+use Prim.Native.Nat.{ℕ}
+use Rattle.steps.specs.Steps.{stepTables, stepIn}
+
+-- each table is the rule's, over its piece's steps
+abbrev pub Tables : List (List ℕ) → Type 0
+Tables r = r ≡ stepTables
+
+abbrev pub Steps : List (List ℕ) → ℕ → ℕ → ℕ → Type 0
+Steps tables row s r = r ≡ stepIn tables row s

@@ -1,0 +1,35 @@
+// The tables as the crates above take them: made once for a call, then lent. Total, and no door.
+ghost use Rattle.steps.specs.Promises.{Tables, Steps};
+use crate::BLACK_PAWN;
+use crate::KING;
+use crate::KNIGHT;
+use crate::WHITE_PAWN;
+
+// The rows of the tables.
+pub const WHITE_PAWN_ROW: usize = 0;
+
+pub const BLACK_PAWN_ROW: usize = 1;
+
+pub const KNIGHT_ROW: usize = 2;
+
+pub const KING_ROW: usize = 3;
+
+// A constant array is built anew wherever it is read: make these once, and lend them.
+pub fn tables() -> [[u64; 64]; 4]
+    ensures { λ r. ⌜ Tables r ⌝ }
+{
+    [WHITE_PAWN, BLACK_PAWN, KNIGHT, KING]
+}
+
+// The squares that the steps of a row reach from a square; none past the tables.
+pub fn step(tables: &[[u64; 64]; 4], row: usize, square: u8) -> u64
+    ensures { λ r. ⌜ Steps (now (tables .entry)) row square r ⌝ }
+{
+    if square > 63 {
+        return 0;
+    }
+    if row > 3 {
+        return 0;
+    }
+    tables[row][square as usize]
+}

@@ -12,7 +12,8 @@ KEPT = {
     "set": 20, "toggle": 20, "reset": 20, "wild": 50,
 }
 
-# The tables are kept whole.
+# What hangs on a single number at its bound is kept whole, and so are the tables.
+WHOLE = ("bound", "eval")
 ORDER = ["count", "scan", "next", "shift", "from_square", "get", "set", "toggle", "reset", "knight", "king", "pawn",
          "pst", "piece_attacks", "attacks_to", "attacked", "check", "lvp", "see", "ending", "material", "eval", "trace",
          "double", "wild"]
@@ -47,7 +48,7 @@ def chosen():
     for pair in voices.generated(SEED, 0, POSITIONS):
         groups.setdefault(group_of(pair), []).append(pair)
     sample = listed() + voices.all_tables()
-    for (_, word, _), pairs in groups.items():
-        sample += spread(pairs, KEPT[word])
+    for (family, word, _), pairs in groups.items():
+        sample += pairs if (family, word) == WHOLE else spread(pairs, KEPT[word])
     sample = list(dict.fromkeys(sample))
     return sorted(sample, key=lambda pair: ORDER.index(word_of(pair)))

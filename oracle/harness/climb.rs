@@ -37,9 +37,9 @@ fn start(clause: Clause, high: bool, random: &mut Random) -> Position {
         _ => {
             // Far ahead: two or three kings, pawns about to promote. The other has no king, and bishops that see far.
             let ahead = if high { side } else { side ^ 1 };
-            scattered(&mut board, random.between(2, 3) as usize, &[ahead | KING], random);
             let seventh = if ahead == WHITE { 48 } else { 8 };
             board[seventh..seventh + 8].fill(ahead | PAWN);
+            scattered(&mut board, random.between(2, 3) as usize, &[ahead | KING], random);
             scattered(&mut board, random.between(2, 12) as usize, &[ahead | PAWN, ahead | ROOK, ahead | QUEEN], random);
             scattered(&mut board, random.between(1, 2) as usize, &[ahead ^ 1 | BISHOP], random);
         }
@@ -85,12 +85,14 @@ fn climbed(
     ((board, side), least)
 }
 
-/// A position whose number in one clause stands at a bound of i16, up to three inside or outside it. The material
-/// and the products that are not asked for stay inside, so that the answer hangs on that number.
+/// A position whose number in one clause stands at a bound of i16: mostly the last number inside or the first outside,
+/// at times up to three further. The material and the products that are not asked for stay inside, so that the answer
+/// hangs on that number.
 pub fn at_bound(random: &mut Random) -> Position {
     let clause = random.pick(&CLAUSES);
     let bound = if clause == Clause::Material || random.one_in(2) { HIGH } else { LOW };
-    let wanted = bound + random.between(-3, 3);
+    let outwards = if random.one_in(4) { random.between(-3, 3) } else { random.between(0, 1) };
+    let wanted = bound + if bound == HIGH { outwards } else { -outwards };
     let aim = |board: &[Piece; 64], side: Color| {
         let wide = Wide::of(board, side);
         let near = wide.tested(clause).iter().map(|&number| (number - wanted).abs()).min().unwrap();

@@ -1,6 +1,6 @@
 -- One turn of each loop over a text: a byte looked at from the front, or from the end. Assumes nothing.
 use mathlib.Core.Path.{_≡_, refl, sym, ap, _∙_}
-use mathlib.Core.Bool.{Bool, true, false, cond, _&&_, and-false}
+use mathlib.Core.Bool.{Bool, true, false, cond, _&&_, and-false, and-true, and-assoc, and-comm}
 use mathlib.Core.List.{List, [], _∷_, _++_, reverse, reverse-append, reverse-reverse}
 use Prim.Native.Nat.{ℕ, zero, suc, _+_, _-_, _≤_, _<_}
 use native.Mathlib.Nat.{add-zero, add-suc, suc-add, not-suc-le-zero}
@@ -14,18 +14,15 @@ use Rattle.laws.specs.Tests.{same}
 use Rattle.fields.specs.Text.{every, before, without, withoutLast}
 
 -- ---- every byte
-module _ (test : ℕ → Bool) (s : List ℕ) (i : ℕ) (e : every test s ≡ every test (drop i s)) where
-  pub every-more : i < length s → test (getD s i 0) ≡ true → every test s ≡ every test (drop (i + 1) s)
+module _ (test : ℕ → Bool) (s : List ℕ) (i : ℕ) (all : Bool) (e : every test s ≡ (all && every test (drop i s))) where
+  pub every-more : i < length s → (t : Bool) → t ≡ test (getD s i 0) → every test s ≡ ((t && all) && every test (drop (i + 1) s))
   unfolding every
-  every-more h q = e ∙ rw (drop-cons s i 0, add-one, q)
+  every-more h t q =
+      e ∙ rw (drop-cons s i 0, add-one i, ← q) (sym (and-assoc all t (every test (drop (suc i) s))) ∙ ap (λ (b : Bool). b && every test (drop (suc i) s)) (and-comm all t))
 
-  pub every-stop : i < length s → test (getD s i 0) ≡ false → false ≡ every test s
+  pub every-end : length s ≤ i → all ≡ every test s
   unfolding every
-  every-stop h q = sym (e ∙ rw (drop-cons s i 0, q))
-
-  pub every-end : length s ≤ i → true ≡ every test s
-  unfolding every
-  every-end h = sym (e ∙ rw (drop-of-length-le s h))
+  every-end h = sym (e ∙ rw (drop-of-length-le s h, and-true))
 
 -- ---- the first such byte
 module _ (mark : ℕ) (s : List ℕ) (i : ℕ) (e : length (before mark s) ≡ i + length (before mark (drop i s))) where

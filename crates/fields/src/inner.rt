@@ -12,18 +12,17 @@ fn plain(b: u8) -> bool
     b < 127
 }
 
-// Every byte is one that a line may have.
+// Every byte is one that a line may have. No way out before the end: the machine then looks at many bytes at once.
 pub fn is_text(s: &[u8]) -> bool
     ensures { λ r. ⌜ IsText (now (s .entry)) r ⌝ }
 {
+    let mut all = true;
     let mut i = 0;
     while i < s.len() {
-        if !plain(s[i]) {
-            return false;
-        }
+        all = plain(s[i]) & all;
         i += 1;
     }
-    true
+    all
 }
 
 // Where a byte stands first; the length where it does not.

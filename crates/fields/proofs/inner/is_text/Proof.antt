@@ -1,21 +1,21 @@
 -- `fields::inner::is_text` meets its contract. Assumes nothing.
-use mathlib.Core.Path.{_≡_, refl, sym, _∙_}
+use mathlib.Core.Path.{_≡_, refl}
+use mathlib.Core.Bool.{_&&_}
 use Prim.Native.Nat.{_-_, _≤_}
 use native.Mathlib.Omega.{arith}
 use borrow.Author.Needs.{needs}
-use borrow.Author.Tests.{not-true, not-false}
 use denote.Ref.{now}
 use lib.ListN.{length, drop}
 use Rattle.fields.specs.Text.{isText, every}
-use Rattle.fields.proofs.Texts.{every-more, every-stop, every-end}
+use Rattle.fields.proofs.Texts.{every-more, every-end}
 use Rattle.fields.proofs.inner.is_text.Statement.{statement}
 use Rattle.fields.proofs.inner.is_text.Tie as tie
 
 abbrev Inv-loop : tie.InvT-loop
-Inv-loop s i₀ i = (i ≤ length s) × (every isText s ≡ every isText (drop i s))
+Inv-loop s all₀ i₀ all i = (i ≤ length s) × (every isText s ≡ (all && every isText (drop i s)))
 
 abbrev μ-loop : tie.MeasureT-loop
-μ-loop s i₀ i = length s - i
+μ-loop s all₀ i₀ all i = length s - i
 
 loop-holds : tie.Need-loop-holds Inv-loop μ-loop
 loop-holds c = (omega arith, refl)
@@ -26,12 +26,6 @@ shared-slice-read-plain c = omega arith
 plain-requires : tie.Need-plain-requires Inv-loop μ-loop
 plain-requires c κs = tt
 
-returns : tie.Need-returns Inv-loop μ-loop
-returns c =
-    let s = now (c .before .before .before .before .before .before .args .s) in
-    let l = c .before .before .before .before .loop in
-    every-stop isText s (l .i) (l .inv .1) (omega arith) (sym (c .before .plain .ensures) ∙ not-true _ (c .if1 .taken))
-
 add-i : tie.Need-add-i Inv-loop μ-loop
 add-i c = search needs
 
@@ -40,17 +34,17 @@ loop-less c = omega arith
 
 loop-again : tie.Need-loop-again Inv-loop μ-loop
 loop-again c =
-    let s = now (c .before .before .before .before .before .before .args .s) in
-    let l = c .before .before .before .before .loop in
-    (omega arith, every-more isText s (l .i) (l .inv .1) (omega arith) (sym (c .before .plain .ensures) ∙ not-false _ (c .if1 .left)))
+    let s = now (c .before .before .before .before .before .args .s) in
+    let l = c .before .before .before .loop in
+    (omega arith, every-more isText s (l .i) (l .all) (l .inv .1) (omega arith) (c .plain .result) (c .plain .ensures))
 
-returns-2 : tie.Need-returns-2 Inv-loop μ-loop
-returns-2 c =
+returns : tie.Need-returns Inv-loop μ-loop
+returns c =
     let s = now (c .before .before .before .args .s) in
     let l = c .before .loop in
-    every-end isText s (l .i) (l .inv .1) (omega arith)
+    every-end isText s (l .i) (l .all) (l .inv .1) (omega arith)
 
 pub is-text-spec : {M : Type 1} → statement M
 is-text-spec =
     tie.close
-    (tie.spec Inv-loop μ-loop loop-holds shared-slice-read-plain plain-requires returns add-i loop-less loop-again returns-2)
+    (tie.spec Inv-loop μ-loop loop-holds shared-slice-read-plain plain-requires add-i loop-less loop-again returns)

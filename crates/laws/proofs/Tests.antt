@@ -11,6 +11,7 @@ use native.Mathlib.Omega.{arith}
 use lib.Dec.{T, eqb, leb, eqb→eq, leb→le}
 use lib.ListN.{getD}
 use Rattle.laws.specs.Tests.{allBelow, allBelow2}
+pub use Rattle.laws.specs.Tests.{same}
 use Rattle.laws.proofs.Truth.{and-l, and-r, and-i, iff, true-T}
 
 -- ---- all numbers below n
@@ -65,12 +66,6 @@ pub tried-all : (n k : ℕ) (f : ℕ → Bool) → k ≡ n → T (allBelow k f) 
 tried-all n k f e t = iff true (allBelow n f) (λ u. subst (λ (j : ℕ). T (allBelow j f)) e t) (λ u. tt)
 
 -- ---- two lists, number by number
-abbrev pub same : List ℕ → List ℕ → Bool
-same [] [] = true
-same [] (y ∷ ys) = false
-same (x ∷ xs) [] = false
-same (x ∷ xs) (y ∷ ys) = eqb x y && same xs ys
-
 pub is-same : (xs ys : List ℕ) → T (same xs ys) → xs ≡ ys
 is-same [] [] t = refl
 is-same [] (y ∷ ys) t = absurd t

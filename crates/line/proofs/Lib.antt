@@ -1,0 +1,4 @@
+pub mod Copies
+pub mod Words
+pub mod Answers
+pub mod Memory

@@ -1,0 +1,129 @@
+// The ranks of a position field, read in one pass: total, and no door.
+ghost use mathlib.Core.Path.{_≡_};
+ghost use Rattle.ranks.specs.Ranks.{pieceOf, runOf};
+ghost use Prim.Native.Nat.{_≤_};
+ghost use Rattle.ranks.specs.Steps.{stepOf};
+ghost use Rattle.ranks.specs.Promises.{Places, Nothing};
+
+// The 64 bytes of the board from a1 on, where the text is eight ranks; else nothing stands on it.
+pub struct Placed {
+    pub ok: bool,
+    pub board: [u8; 64],
+}
+
+fn piece(b: u8) -> u8
+    ensures { λ r. ⌜ r ≡ pieceOf b ⌝ }
+{
+    match b {
+        b'P' => 2,
+        b'p' => 3,
+        b'N' => 4,
+        b'n' => 5,
+        b'B' => 8,
+        b'b' => 9,
+        b'R' => 10,
+        b'r' => 11,
+        b'Q' => 12,
+        b'q' => 13,
+        b'K' => 6,
+        b'k' => 7,
+        _ => 0,
+    }
+}
+
+fn run(b: u8) -> usize
+    ensures { λ r. ⌜ r ≡ runOf b ⌝ }
+{
+    if b < b'1' {
+        return 0;
+    }
+    if b > b'8' {
+        return 0;
+    }
+    (b - b'0') as usize
+}
+
+fn nothing() -> Placed
+    ensures { λ r. ⌜ Nothing r ⌝ }
+{
+    Placed {
+        ok: false,
+        board: [0; 64],
+    }
+}
+
+// What one byte of the ranks says: go to the rank below, a piece, so many empty squares, or no ranks.
+enum Next {
+    Below,
+    Piece(u8),
+    Empty(usize),
+    Wrong,
+}
+
+// `rank` ranks are to come below this one, and `file` squares of it are passed.
+fn step(rank: usize, file: usize, b: u8) -> Next
+    requires { ⌜ file ≤ 8 ⌝ }
+    ensures { λ r. ⌜ r ≡ stepOf rank file b ⌝ }
+{
+    if b == b'/' {
+        if rank == 0 {
+            return Next::Wrong;
+        }
+        if file != 8 {
+            return Next::Wrong;
+        }
+        return Next::Below;
+    }
+    let empty = run(b);
+    if empty > 0 {
+        if file + empty > 8 {
+            return Next::Wrong;
+        }
+        return Next::Empty(empty);
+    }
+    let code = piece(b);
+    if code == 0 {
+        return Next::Wrong;
+    }
+    if file >= 8 {
+        return Next::Wrong;
+    }
+    Next::Piece(code)
+}
+
+// Ranks come from 8 to 1, files from a to h.
+pub fn place(s: &[u8]) -> Placed
+    ensures { λ r. ⌜ Places (now (s .entry)) r ⌝ }
+{
+    let mut board = [0u8; 64];
+    let mut rank: usize = 7;
+    let mut file: usize = 0;
+    let mut i = 0;
+    while i < s.len() {
+        let b = s[i];
+        i += 1;
+        match step(rank, file, b) {
+            Next::Below => {
+                rank -= 1;
+                file = 0;
+            }
+            Next::Piece(code) => {
+                board[8 * rank + file] = code;
+                file += 1;
+            }
+            Next::Empty(empty) => {
+                file += empty;
+            }
+            Next::Wrong => {
+                return nothing();
+            }
+        }
+    }
+    if rank != 0 {
+        return nothing();
+    }
+    if file != 8 {
+        return nothing();
+    }
+    Placed { ok: true, board }
+}

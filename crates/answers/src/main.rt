@@ -1,5 +1,7 @@
 // Answers the oracle's questions on standard input, one a line: the file stdout holds what the Rust answered (oracle/README.md).
+mod attacks;
 mod bitboards;
+mod positions;
 mod words;
 
 fn main() {
@@ -52,5 +54,9 @@ fn answer(question: &[u8], out: &mut [u8]) -> usize {
     let word = words::first(question);
     let rest = words::after(question, 1);
     let a = bitboards::answer(word, rest, out);
+    if a > 0 {
+        return words::ended(out, a);
+    }
+    let a = attacks::answer(word, rest, out);
     words::ended(out, a)
 }

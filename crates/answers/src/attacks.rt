@@ -1,7 +1,8 @@
 // Questions of attacks: a piece's, those on a square, check, and the step tables, which are a piece's attacks too.
-use attack::{Found, Told};
 use crate::positions;
 use crate::words;
+use attack::Found;
+use attack::Told;
 
 pub(crate) fn answer(word: &[u8], rest: &[u8], out: &mut [u8]) -> usize {
     if check::same(word, b"knight") {
@@ -11,10 +12,20 @@ pub(crate) fn answer(word: &[u8], rest: &[u8], out: &mut [u8]) -> usize {
         return put_found(out, attack::piece_attacks(6, words::byte(rest, 0), 0));
     }
     if check::same(word, b"pawn") {
-        return put_found(out, attack::piece_attacks(pawn(words::byte(rest, 0)), words::byte(rest, 1), 0));
+        return put_found(
+            out,
+            attack::piece_attacks(pawn(words::byte(rest, 0)), words::byte(rest, 1), 0),
+        );
     }
     if check::same(word, b"piece_attacks") {
-        return put_found(out, attack::piece_attacks(words::byte(rest, 0), words::byte(rest, 1), words::natural(rest, 2)));
+        return put_found(
+            out,
+            attack::piece_attacks(
+                words::byte(rest, 0),
+                words::byte(rest, 1),
+                words::natural(rest, 2),
+            ),
+        );
     }
     of_position(word, rest, out)
 }
@@ -43,21 +54,42 @@ fn attacks_to(rest: &[u8], out: &mut [u8]) -> usize {
     let p = positions::load(words::after(rest, 2));
     let bitboards = p.bitboards;
     let board = p.board;
-    put_found(out, attack::attacks_to(&bitboards, &board, p.state, words::byte(rest, 0), words::natural(rest, 1)))
+    put_found(
+        out,
+        attack::attacks_to(
+            &bitboards,
+            &board,
+            p.state,
+            words::byte(rest, 0),
+            words::natural(rest, 1),
+        ),
+    )
 }
 
 fn is_attacked(rest: &[u8], out: &mut [u8]) -> usize {
     let p = positions::load(words::after(rest, 2));
     let bitboards = p.bitboards;
     let board = p.board;
-    put_told(out, attack::is_attacked(&bitboards, &board, p.state, words::byte(rest, 0), words::byte(rest, 1)))
+    put_told(
+        out,
+        attack::is_attacked(
+            &bitboards,
+            &board,
+            p.state,
+            words::byte(rest, 0),
+            words::byte(rest, 1),
+        ),
+    )
 }
 
 fn is_check(rest: &[u8], out: &mut [u8]) -> usize {
     let p = positions::load(words::after(rest, 1));
     let bitboards = p.bitboards;
     let board = p.board;
-    put_told(out, attack::is_check(&bitboards, &board, p.state, words::byte(rest, 0)))
+    put_told(
+        out,
+        attack::is_check(&bitboards, &board, p.state, words::byte(rest, 0)),
+    )
 }
 
 fn put_found(out: &mut [u8], found: Found) -> usize {

@@ -47,8 +47,7 @@ fn put_next(out: &mut [u8], next: Lowest) -> usize {
     match next {
         Lowest::At(square, rest) => {
             let a = words::put_natural(out, 0, square as u64);
-            let b = words::put(out, a, b" ");
-            words::put_natural(out, b, rest)
+            words::put_next(out, a, rest)
         }
         Lowest::Done => words::put(out, 0, b"none"),
     }

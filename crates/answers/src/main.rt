@@ -1,6 +1,7 @@
 // Answers the oracle's questions on standard input, one a line: the file stdout holds what the Rust answered (oracle/README.md).
 mod attacks;
 mod bitboards;
+mod lines;
 mod positions;
 mod words;
 
@@ -11,7 +12,7 @@ fn main() {
 
 // Reads to the end. A proved loop has to end: the reads are counted, up to more than any run makes.
 fn answer_all(chunk: &mut [u8]) {
-    let mut line = [0u8; 256];
+    let mut line = [0u8; 1024];
     let mut n = 0;
     let mut more = true;
     let mut reads: u32 = 0;
@@ -20,12 +21,12 @@ fn answer_all(chunk: &mut [u8]) {
         let got = libc::read(libc::STDIN_FILENO, chunk);
         more = got > 0;
         let k = io::count(got, chunk);
-        n = lines(&mut line, n, &chunk[..k]);
+        n = each(&mut line, n, &chunk[..k]);
     }
 }
 
 // Answers each line that ends in the chunk; what is left of it waits in the line, and how much that is comes back.
-fn lines(line: &mut [u8], waiting: usize, chunk: &[u8]) -> usize {
+fn each(line: &mut [u8], waiting: usize, chunk: &[u8]) -> usize {
     let mut n = waiting;
     let mut i = 0;
     while i < chunk.len() {
@@ -58,5 +59,9 @@ fn answer(question: &[u8], out: &mut [u8]) -> usize {
         return words::ended(out, a);
     }
     let a = attacks::answer(word, rest, out);
+    if a > 0 {
+        return words::ended(out, a);
+    }
+    let a = lines::answer(word, rest, out);
     words::ended(out, a)
 }

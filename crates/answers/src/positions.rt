@@ -13,7 +13,15 @@ pub(crate) fn load(text: &[u8]) -> Position {
     let mut bitboards = [0u64; 14];
     let mut board = [0u8; 64];
     match line::read_line(text, &mut bitboards, &mut board) {
-        Read::Position(state, _) => Position { bitboards, board, state },
-        Read::Refused(_) => Position { bitboards, board, state: State { side: 0 } },
+        Read::Position(state, _) => Position {
+            bitboards,
+            board,
+            state,
+        },
+        Read::Refused(_) => Position {
+            bitboards,
+            board,
+            state: State { side: 0 },
+        },
     }
 }

@@ -152,6 +152,12 @@ pub(crate) fn put(out: &mut [u8], at: usize, s: &[u8]) -> usize {
     text::put(out, at, s).or(at)
 }
 
+// A space and a number.
+pub(crate) fn put_next(out: &mut [u8], at: usize, n: u64) -> usize {
+    let a = put(out, at, b" ");
+    put_natural(out, a, n)
+}
+
 pub(crate) fn put_bool(out: &mut [u8], at: usize, t: bool) -> usize {
     if t {
         return put(out, at, b"1");

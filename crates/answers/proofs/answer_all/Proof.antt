@@ -9,7 +9,7 @@ use Rattle.answers.proofs.answer_all.Statement.{statement}
 use Rattle.answers.proofs.answer_all.Tie as tie
 
 abbrev Inv-loop : tie.InvT-loop
-Inv-loop chunk₀ line₀ n₀ more₀ reads₀ chunk line n more reads = (reads ≤ 1000000) × (length line ≡ 256) × (length chunk ≡ length chunk₀)
+Inv-loop chunk₀ line₀ n₀ more₀ reads₀ chunk line n more reads = (reads ≤ 1000000) × (length line ≡ 1024) × (length chunk ≡ length chunk₀)
 
 abbrev μ-loop : tie.MeasureT-loop
 μ-loop chunk₀ line₀ n₀ more₀ reads₀ chunk line n more reads = 1000000 - reads
@@ -26,17 +26,17 @@ read-requires c κs = search needs
 count-requires : tie.Need-count-requires Inv-loop μ-loop
 count-requires c κs = search needs
 
-slice-aggregate-lines : tie.Need-slice-aggregate-lines Inv-loop μ-loop
-slice-aggregate-lines c = search needs
+slice-aggregate-each : tie.Need-slice-aggregate-each Inv-loop μ-loop
+slice-aggregate-each c = search needs
 
-slice-reshare-prefix-lines : tie.Need-slice-reshare-prefix-lines Inv-loop μ-loop
-slice-reshare-prefix-lines c = search needs
+slice-reshare-prefix-each : tie.Need-slice-reshare-prefix-each Inv-loop μ-loop
+slice-reshare-prefix-each c = search needs
 
-slice-aggregate-lines-2 : tie.Need-slice-aggregate-lines-2 Inv-loop μ-loop
-slice-aggregate-lines-2 c = search needs
+slice-aggregate-each-2 : tie.Need-slice-aggregate-each-2 Inv-loop μ-loop
+slice-aggregate-each-2 c = search needs
 
-lines-requires : tie.Need-lines-requires Inv-loop μ-loop
-lines-requires c κs = search needs
+each-requires : tie.Need-each-requires Inv-loop μ-loop
+each-requires c κs = search needs
 
 loop-less : tie.Need-loop-less Inv-loop μ-loop
 loop-less c = omega (arith, ltb-true)
@@ -66,10 +66,10 @@ answer-all-spec =
     add-reads
     read-requires
     count-requires
-    slice-aggregate-lines
-    slice-reshare-prefix-lines
-    slice-aggregate-lines-2
-    lines-requires
+    slice-aggregate-each
+    slice-reshare-prefix-each
+    slice-aggregate-each-2
+    each-requires
     loop-less
     loop-again
     same-length

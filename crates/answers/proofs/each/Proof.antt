@@ -1,11 +1,11 @@
--- `answers::lines` is safe and ends. Assumes nothing.
+-- `answers::each` is safe and ends. Assumes nothing.
 use Prim.Native.Nat.{_≤_, _<_, _+_, _-_}
 use native.Mathlib.Omega.{arith}
 use mathlib.Core.Path.{_≡_}
 use lib.ListN.{length}
 use borrow.Author.Needs.{needs}
-use Rattle.answers.proofs.lines.Statement.{statement}
-use Rattle.answers.proofs.lines.Tie as tie
+use Rattle.answers.proofs.each.Statement.{statement}
+use Rattle.answers.proofs.each.Tie as tie
 
 abbrev Inv-loop : tie.InvT-loop
 Inv-loop line₀ waiting chunk n₀ i₀ line n i = (i ≤ length chunk) × (length line ≡ length line₀)
@@ -46,8 +46,8 @@ same-length c = search needs
 returns : tie.Need-returns Inv-loop μ-loop
 returns c = search needs
 
-pub lines-spec : {M : Type 1} → statement M
-lines-spec =
+pub each-spec : {M : Type 1} → statement M
+each-spec =
     tie.close
     (tie.spec
     Inv-loop

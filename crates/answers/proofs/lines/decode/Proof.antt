@@ -1,0 +1,93 @@
+-- `answers::lines::decode` is safe and ends. Assumes nothing.
+use Prim.Native.Nat.{_≤_, _<_, _+_, _-_}
+use native.Mathlib.Omega.{arith}
+use mathlib.Core.Path.{_≡_}
+use lib.ListN.{length}
+use borrow.Author.Needs.{needs}
+use Rattle.answers.proofs.lines.decode.Statement.{statement}
+use Rattle.answers.proofs.lines.decode.Tie as tie
+
+abbrev Inv-loop : tie.InvT-loop
+Inv-loop digits bytes₀ n₀ i₀ bytes n i = (i ≤ length digits) × (length bytes ≡ length bytes₀)
+
+abbrev μ-loop : tie.MeasureT-loop
+μ-loop digits bytes₀ n₀ i₀ bytes n i = length bytes₀ - n
+
+loop-holds : tie.Need-loop-holds Inv-loop μ-loop
+loop-holds c = search needs
+
+sub-if1 : tie.Need-sub-if1 Inv-loop μ-loop
+sub-if1 c = search needs
+
+same-length : tie.Need-same-length Inv-loop μ-loop
+same-length c = search needs
+
+returns : tie.Need-returns Inv-loop μ-loop
+returns c = search needs
+
+shared-slice-read-nibble : tie.Need-shared-slice-read-nibble Inv-loop μ-loop
+shared-slice-read-nibble c = search needs
+
+nibble-requires : tie.Need-nibble-requires Inv-loop μ-loop
+nibble-requires c κs = search needs
+
+mul-bytes : tie.Need-mul-bytes Inv-loop μ-loop
+mul-bytes c = search needs
+
+add-nibble : tie.Need-add-nibble Inv-loop μ-loop
+add-nibble c = search needs
+
+shared-slice-read-nibble-2 : tie.Need-shared-slice-read-nibble-2 Inv-loop μ-loop
+shared-slice-read-nibble-2 c = search needs
+
+nibble-requires-2 : tie.Need-nibble-requires-2 Inv-loop μ-loop
+nibble-requires-2 c κs = search needs
+
+add-bytes : tie.Need-add-bytes Inv-loop μ-loop
+add-bytes c = search needs
+
+slice-write-bytes : tie.Need-slice-write-bytes Inv-loop μ-loop
+slice-write-bytes c = search needs
+
+add-i : tie.Need-add-i Inv-loop μ-loop
+add-i c = search needs
+
+add-n : tie.Need-add-n Inv-loop μ-loop
+add-n c = search needs
+
+loop-less : tie.Need-loop-less Inv-loop μ-loop
+loop-less c = search needs
+
+loop-again : tie.Need-loop-again Inv-loop μ-loop
+loop-again c = search needs
+
+same-length-2 : tie.Need-same-length-2 Inv-loop μ-loop
+same-length-2 c = search needs
+
+returns-2 : tie.Need-returns-2 Inv-loop μ-loop
+returns-2 c = search needs
+
+pub decode-spec : {M : Type 1} → statement M
+decode-spec =
+    tie.close
+    (tie.spec
+    Inv-loop
+    μ-loop
+    loop-holds
+    sub-if1
+    same-length
+    returns
+    shared-slice-read-nibble
+    nibble-requires
+    mul-bytes
+    add-nibble
+    shared-slice-read-nibble-2
+    nibble-requires-2
+    add-bytes
+    slice-write-bytes
+    add-i
+    add-n
+    loop-less
+    loop-again
+    same-length-2
+    returns-2)

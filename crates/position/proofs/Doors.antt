@@ -1,9 +1,9 @@
 -- What a call knows after `check`, and how it passes a refusal on: a door's return is one of these lines. Assumes nothing.
 use mathlib.Core.Path.{_≡_, refl, sym, ap, ap₂, _∙_}
-use mathlib.Core.Bool.{Bool, true, false, true≢false, cond, _&&_, and-false}
-use mathlib.Core.List.{List, []}
+use mathlib.Core.Bool.{Bool, true, false, _&&_, and-false}
+use mathlib.Core.List.{List}
 use Prim.Native.Nat.{ℕ, _≤_, _<_}
-use lib.Dec.{T, eqb, ltb, eqb→eq, ltb→lt}
+use lib.Dec.{eqb, ltb, eqb→eq, ltb→lt}
 use lib.ListN.{length}
 use borrow.Author.Tests.{eq-eqb, ne-eqb, lt-ltb, le-ltb}
 use Rattle.laws.proofs.Truth.{true-T, and-l, and-r}
@@ -89,9 +89,9 @@ module _ (bbs bytes : List ℕ) (state : State) (r : Checked) (promise : Checks 
   fit-rest rest e = sound bbs bytes (state .side) rest (fit-shaped e) (fit-consistent e)
 
   -- it is refused: so is every call on the position
-  pub pass-on : {A : Type 0} (rest : Answer A) (q : Refusal) → r ≡ Refused q → refusalOf q ≡ checked bbs bytes (state .side) rest
+  pub pass-on : {A : Type 0} (rest : Answer A) {q : Refusal} → r ≡ Refused q → refusalOf q ≡ checked bbs bytes (state .side) rest
   unfolding checked
-  pass-on {A} rest q e = go (shaped bbs bytes (state .side)) (consistent bbs bytes) (sym (ap paper e) ∙ promise)
+  pass-on {A} rest {q} e = go (shaped bbs bytes (state .side)) (consistent bbs bytes) (sym (ap paper e) ∙ promise)
     where
       go : (s t : Bool) → refusalOf q ≡ orRefuse s (numberOf R.Shape) (orRefuse t (numberOf R.Board) done) → refusalOf q ≡ orRefuse s (numberOf R.Shape) (orRefuse t (numberOf R.Board) rest)
       go true true p = given-not (sym p)

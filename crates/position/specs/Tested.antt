@@ -1,4 +1,4 @@
--- What the private functions of the test give: whole bitboards, where the definition goes square by square. Definitions only.
+-- What the private functions give: whole bitboards and tables, where the definitions go square by square. Definitions only.
 use mathlib.Core.Bool.{cond}
 use mathlib.Core.List.{List}
 use Prim.Native.Nat.{ℕ, _-_, _^_}

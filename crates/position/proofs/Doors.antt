@@ -89,9 +89,9 @@ module _ (bbs bytes : List ℕ) (state : State) (r : Checked) (promise : Checks 
   fit-rest rest e = sound bbs bytes (state .side) rest (fit-shaped e) (fit-consistent e)
 
   -- it is refused: so is every call on the position
-  pub pass-on : {A : Type 0} (rest : Answer A) {q : Refusal} → r ≡ Refused q → refusalOf q ≡ checked bbs bytes (state .side) rest
+  pub pass-on : {A : Type 0} (rest : Answer A) (q : Refusal) → r ≡ Refused q → refusalOf q ≡ checked bbs bytes (state .side) rest
   unfolding checked
-  pass-on {A} rest {q} e = go (shaped bbs bytes (state .side)) (consistent bbs bytes) (sym (ap paper e) ∙ promise)
+  pass-on {A} rest q e = go (shaped bbs bytes (state .side)) (consistent bbs bytes) (sym (ap paper e) ∙ promise)
     where
       go : (s t : Bool) → refusalOf q ≡ orRefuse s (numberOf R.Shape) (orRefuse t (numberOf R.Board) done) → refusalOf q ≡ orRefuse s (numberOf R.Shape) (orRefuse t (numberOf R.Board) rest)
       go true true p = given-not (sym p)

@@ -1,5 +1,5 @@
 -- A bitboard filled from a1 upward, one square a turn: what a loop over the 64 squares holds, and what a turn adds. Assumes nothing.
-use mathlib.Core.Path.{_≡_, refl, sym, ap, ap₂, _∙_}
+use mathlib.Core.Path.{_≡_, sym, ap, _∙_}
 use mathlib.Core.Bool.{Bool, true, false}
 use Prim.Native.Nat.{ℕ, suc, _+_, _*_, _-_, _/_, _%_, _^_, _<_}
 use native.Mathlib.Nat.{mod-lt, mod-eq-of-lt, one-mul, zero-mul, zero-add, pow-suc}
@@ -7,7 +7,7 @@ use native.Mathlib.Numerals.{one-add}
 use native.Mathlib.Omega.{arith}
 use lib.Bits.{bitAnd, bitOr, and-high, or-shifted, or-shifted-r}
 use lib.Pow.{pow-lt}
-use Rattle.bits.specs.Bitboard.{isSet, has, digit, those}
+use Rattle.bits.specs.Bitboard.{has, digit, those}
 use Rattle.bits.proofs.Counts.{digit-of}
 use Rattle.bits.proofs.Digits.{two-pos}
 use Rattle.bits.proofs.Those.{those-lt}

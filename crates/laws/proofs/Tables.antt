@@ -1,7 +1,6 @@
 -- A table's entry is its rule's value. A proof cites `entry` under `unfolding tabulate`, and antt compares the constant of the source
 -- with the list that the rule builds, entry by entry: no file repeats the numbers. Assumes nothing.
 use mathlib.Core.Path.{_≡_, refl, ap}
-use mathlib.Core.List.{List, [], _∷_}
 use Prim.Native.Nat.{ℕ, zero, suc, _<_}
 use native.Mathlib.Nat.{not-suc-le-zero}
 use native.Mathlib.Omega.{arith}

@@ -1,7 +1,7 @@
 -- "The twelve piece boards (codes 2 to 13) don't overlap": no two of them share a square, exactly where the first test holds at every square.
 -- Assumes nothing.
-use mathlib.Core.Path.{_≡_, refl, sym, ap, _∙_, subst}
-use mathlib.Core.Bool.{Bool, true, false}
+use mathlib.Core.Path.{_≡_, ap, _∙_}
+use mathlib.Core.Bool.{true}
 use mathlib.Core.List.{List}
 use Prim.Native.Nat.{ℕ, _+_, _-_, _≤_, _<_}
 use native.Mathlib.Omega.{arith}
@@ -11,7 +11,6 @@ use Rattle.laws.specs.Tests.{allBelow}
 use Rattle.laws.proofs.Tests.{all-at, all-of}
 use Rattle.laws.proofs.Truth.{true-T, T-true, and-l, and-r, and-i}
 use Rattle.chess.specs.Codes.{isPiece}
-use Rattle.bits.specs.Bitboard.{howMany}
 use Rattle.bits.proofs.Counts.{one-alone, alone-one}
 use Rattle.position.specs.Consistent.{on, crowd, apart}
 

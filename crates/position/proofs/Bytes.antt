@@ -1,19 +1,18 @@
 -- "Each board byte is the code whose bit is set there, or 0": the byte is a piece's code and that board has the square, or it is 0 and no piece
 -- board has it. Assumes nothing.
-use mathlib.Core.Path.{_≡_, refl, sym, ap, ap₂, _∙_, subst}
+use mathlib.Core.Path.{_≡_, refl, sym, ap, ap₂, _∙_}
 use mathlib.Core.Logic.{_⊎_, inl, inr, ⊎-elim}
 use mathlib.Core.Bool.{Bool, true, false, cond, _&&_}
 use mathlib.Core.List.{List}
-use Prim.Native.Nat.{ℕ, _+_, _-_, _≤_, _<_}
+use Prim.Native.Nat.{ℕ, _+_, _-_, _<_}
 use native.Mathlib.Omega.{arith}
-use lib.Dec.{T, eqb, leb}
+use lib.Dec.{T, eqb}
 use lib.ListN.{getD}
-use borrow.Author.Tests.{eqb-true, eqb-false, eq-eqb, ne-eqb}
+use borrow.Author.Tests.{eqb-true, eq-eqb, ne-eqb}
 use Rattle.laws.specs.Tests.{allBelow}
 use Rattle.laws.proofs.Tests.{all-at, all-of}
-use Rattle.laws.proofs.Truth.{true-T, T-true, and-l, and-r, and-i}
+use Rattle.laws.proofs.Truth.{true-T, T-true, and-l, and-r}
 use Rattle.chess.specs.Codes.{isPiece}
-use Rattle.bits.specs.Bitboard.{howMany}
 use Rattle.bits.proofs.Counts.{none-many, many-none}
 use Rattle.position.specs.Consistent.{on, crowd, agrees}
 use Rattle.position.proofs.Apart.{code-from, code-to, code-is}

@@ -1,15 +1,15 @@
 -- One more board: what it does to the squares that one board has, that two have, and that a colour has. Assumes nothing.
-use mathlib.Core.Path.{_≡_, refl, sym, ap, ap₂, _∙_}
-use mathlib.Core.Bool.{Bool, true, false, _||_, _&&_, and-true, and-false, or-true}
+use mathlib.Core.Path.{_≡_, refl, sym, ap, _∙_}
+use mathlib.Core.Bool.{Bool, true, false, _||_, _&&_, and-false}
 use mathlib.Core.List.{List}
-use Prim.Native.Nat.{ℕ, zero, suc, _+_, _*_, _^_, _≤_, _<_}
+use Prim.Native.Nat.{ℕ, zero, suc, _+_, _*_, _^_, _<_}
 use native.Mathlib.Nat.{zero-add}
 use native.Mathlib.Omega.{arith}
 use lib.Bits.{bitAnd, bitOr}
 use lib.Dec.{leb, leb·suc-zero}
 use lib.ListN.{getD}
-use borrow.Author.Tests.{le-leb, lt-leb}
-use Rattle.bits.specs.Bitboard.{has, digit, those, some, howMany}
+use borrow.Author.Tests.{le-leb}
+use Rattle.bits.specs.Bitboard.{digit, those, some, howMany}
 use Rattle.bits.proofs.Digits.{has-zero}
 use Rattle.bits.proofs.Those.{is-those, those-same, those-of, those-or, those-and}
 use Rattle.position.specs.Consistent.{on, crowd, ofColour}

@@ -2,6 +2,7 @@ pub mod Apart
 pub mod United
 pub mod Bytes
 pub mod Parts
+pub mod Words
 pub mod Crowded
 pub mod Places
 pub mod Copied

@@ -1,19 +1,18 @@
 -- The sorted bytes are the bitboards of the bytes, and a byte that is no code is seen at place 1 or 14. Assumes nothing.
 use mathlib.Core.Path.{_≡_, refl, sym, ap, ap₂, _∙_}
 use mathlib.Core.Bool.{Bool, true, false, not, cond, _||_, _&&_, Bool·beq}
-use mathlib.Core.List.{List, [], _∷_}
+use mathlib.Core.List.{List}
 use Prim.Native.Nat.{ℕ, _+_, _*_, _≤_, _<_}
 use native.Mathlib.Omega.{arith}
 use lib.Bits.{bitOr}
 use lib.Dec.{T, eqb, leb, ltb}
 use lib.ListN.{getD}
 use borrow.Author.Tests.{ltb-true, ltb-false, ne-eqb, le-leb}
-use Rattle.laws.specs.Tables.{tabulate}
 use Rattle.laws.specs.Tests.{allBelow, allBelow2}
 use Rattle.laws.proofs.Tables.{entry, tabulate-same}
 use Rattle.laws.proofs.Tests.{all-at, all2-at, all-same}
 use Rattle.laws.proofs.Truth.{is-beq}
-use Rattle.chess.specs.Codes.{isPiece, colourOf}
+use Rattle.chess.specs.Codes.{colourOf}
 use Rattle.bits.specs.Bitboard.{has, those, some}
 use Rattle.bits.proofs.Some.{some-same}
 use Rattle.bits.proofs.Those.{has-those, those-same, those-or, those-none}

@@ -1,22 +1,20 @@
 -- The bitboards of 64 bytes are consistent with them where every byte is 0 or a piece's code, and no other 14 bitboards are: a consistent
 -- position is told by its bytes. Assumes nothing.
-use mathlib.Core.Path.{_≡_, refl, sym, ap, ap₂, _∙_, subst}
-use mathlib.Core.Logic.{_⊎_, ⊎-elim}
-use mathlib.Core.Bool.{Bool, true, false, not, cond, _||_, _&&_, and-false, Bool·beq}
+use mathlib.Core.Path.{_≡_, refl, sym, ap, ap₂, _∙_}
+use mathlib.Core.Bool.{Bool, true, false, cond, _||_, _&&_, and-false}
 use mathlib.Core.List.{List}
 use Prim.Native.Nat.{ℕ, zero, suc, _+_, _*_, _-_, _^_, _≤_, _<_}
 use native.Mathlib.Omega.{arith}
-use lib.Dec.{T, eqb, leb, ltb}
+use lib.Dec.{T, eqb}
 use lib.ListN.{getD, length}
 use lib.Seq.{ext-getD}
-use borrow.Author.Tests.{eq-eqb, ne-eqb, eqb-true, eqb-false, le-leb, ltb-true, ltb-false, le-ltb}
-use Rattle.laws.specs.Tables.{tabulate}
-use Rattle.laws.specs.Tests.{allBelow, allBelow2}
+use borrow.Author.Tests.{eq-eqb, eqb-true, le-leb, le-ltb}
+use Rattle.laws.specs.Tests.{allBelow}
 use Rattle.laws.proofs.Tables.{entry, tabulate-length}
 use Rattle.laws.proofs.Tests.{all-at, all-of}
-use Rattle.laws.proofs.Truth.{true-T, T-true, and-l, and-r, and-i, or-l, or-r}
+use Rattle.laws.proofs.Truth.{true-T, T-true, and-i}
 use Rattle.chess.specs.Codes.{isPiece, colourOf}
-use Rattle.bits.specs.Bitboard.{has, digit, those, some, howMany}
+use Rattle.bits.specs.Bitboard.{has, digit, those, howMany}
 use Rattle.bits.proofs.Counts.{many-same}
 use Rattle.bits.proofs.Some.{some-same}
 use Rattle.bits.proofs.Those.{has-those, is-those}
@@ -27,7 +25,7 @@ use Rattle.position.specs.Tested.{placeOf}
 use Rattle.position.specs.declared.Boards.{Boards}
 use Rattle.position.proofs.Places.{by-place, no-piece}
 use Rattle.position.proofs.Made.{on-its-board, on-its-colour}
-use Rattle.position.proofs.Apart.{code-from, code-to, code-is, apart-everywhere}
+use Rattle.position.proofs.Apart.{code-from, code-to, code-is}
 use Rattle.position.proofs.United.{united-white, united-black, united-at}
 use Rattle.position.proofs.Parts.{three-consistent, consistent-united, board-by-byte}
 

@@ -14,7 +14,7 @@ use Rattle.laws.proofs.Truth.{true-T, T-true, and-l, and-r, or-l, or-r}
 use Rattle.chess.specs.Codes.{isPiece}
 use Rattle.position.specs.Consistent.{on, apart, united, agrees, consistent}
 use Rattle.position.specs.Boards.{isByte, coded}
-use Rattle.position.proofs.Apart.{OneAtMost, code-from, apart-everywhere}
+use Rattle.position.proofs.Apart.{code-from, apart-everywhere}
 use Rattle.position.proofs.Bytes.{Vacant, Occupied, agrees-everywhere}
 
 pub three-consistent : (bbs bytes : List ℕ) → T (allBelow 64 (apart bbs)) → T (allBelow 64 (united bbs)) → T (allBelow 64 (agrees bbs bytes)) → consistent bbs bytes ≡ true

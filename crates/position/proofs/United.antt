@@ -1,7 +1,7 @@
 -- "Board 0 is the union of the even codes from 2, board 1 of the odd codes from 3": a colour's board has a square exactly where the board of one
 -- of its codes has it. Assumes nothing.
-use mathlib.Core.Path.{_≡_, refl, sym, ap, _∙_, subst}
-use mathlib.Core.Bool.{Bool, true, false, _&&_, Bool·beq}
+use mathlib.Core.Path.{_≡_, sym, ap, _∙_}
+use mathlib.Core.Bool.{true, Bool·beq}
 use mathlib.Core.List.{List}
 use Prim.Native.Nat.{ℕ, _+_, _*_, _-_, _/_, _%_, _≤_, _<_}
 use native.Mathlib.Omega.{arith}
@@ -11,7 +11,7 @@ use Rattle.laws.proofs.Tests.{all-at, all-of}
 use Rattle.laws.proofs.Truth.{true-T, T-true, and-l, and-r, and-i, iff, is-beq, beq-is}
 use Rattle.chess.specs.Codes.{isPiece, colourOf}
 use Rattle.bits.specs.Bitboard.{some}
-use Rattle.bits.proofs.Some.{Somewhere, some-where, some-at}
+use Rattle.bits.proofs.Some.{some-where, some-at}
 use Rattle.position.specs.Consistent.{on, ofColour, united}
 use Rattle.position.proofs.Apart.{code-from, code-to, code-is}
 

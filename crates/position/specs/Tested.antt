@@ -1,4 +1,4 @@
--- What the private functions of the test give: whole bitboards, where the definition goes square by square. Definitions only.
+-- What the private functions give: whole bitboards and tables, where the definitions go square by square. Definitions only.
 use mathlib.Core.Bool.{cond}
 use mathlib.Core.List.{List}
 use Prim.Native.Nat.{ℕ, _-_, _^_}
@@ -25,6 +25,7 @@ rightAt bbs taken byte = cond (eqb byte 0) (2 ^ 64 - 1 - taken) (cond (isPiece b
 abbrev pub placeOf : ℕ → ℕ
 placeOf byte = cond (ltb byte 14) byte 14
 
+-- the squares where each byte is right, by its place
 unfoldable pub rightPlaces : List ℕ → ℕ → List ℕ
 rightPlaces bbs taken = tabulate 15 (rightAt bbs taken)
 

@@ -1,6 +1,6 @@
 -- `position::sorted` meets its contract: after k bytes the first k are sorted. Assumes nothing.
 use mathlib.Core.Path.{_≡_, refl, _∙_}
-use Prim.Native.Nat.{ℕ, _≤_, _-_, _%_, _^_}
+use Prim.Native.Nat.{_≤_, _-_, _%_, _^_}
 use native.Mathlib.Numerals.{add-one}
 use native.Mathlib.Omega.{arith}
 use borrow.Author.Needs.{needs}

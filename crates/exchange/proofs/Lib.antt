@@ -1,0 +1,3 @@
+pub mod Picked
+pub mod Forward
+pub mod Backward

@@ -1,3 +1,5 @@
 pub mod Picked
 pub mod Forward
 pub mod Backward
+pub mod Ending
+pub mod Tested

@@ -1,53 +1,72 @@
+-- `exchange::lvp` meets its contract. Assumes nothing.
+use mathlib.Core.Path.{_≡_, sym, ap, _∙_}
+use native.Mathlib.Omega.{arith}
+use Rattle.chess.specs.Answer.{Answer, given}
+use Rattle.position.specs.Consistent.{checked}
+use Rattle.position.proofs.Doors.{pass-on, fit-rest}
+use Rattle.attack.proofs.Doors.{no-colour, a-colour}
+use Rattle.exchange.specs.Least.{leastOf, order}
+use Rattle.exchange.specs.Answers.{squareOf}
+use Rattle.exchange.specs.Lent.{told}
 use borrow.Author.Needs.{needs}
 use Rattle.exchange.proofs.lvp.Statement.{statement}
 use Rattle.exchange.proofs.lvp.Tie as tie
-use Rattle.exchange.proofs.lvp.Reads as reads
-use Rattle.exchange.proofs.lvp.Lts as lts
-use Rattle.exchange.proofs.pick.Reads as pick-reads
-use Rattle.position.proofs.check.Reads as check-reads
 
--- src/lib.rt:227:9
 returns : tie.Need-returns
-returns c = ?
+returns c =
+    let a = c .before .before .before .args in
+    no-colour (a .color) (checked (a .bitboards .now) (a .board .now) (a .state .side) (given (squareOf (leastOf order (a .bitboards .now) (a .color) (a .attacks) (a .occupied))))) (omega arith)
 
--- src/lib.rt:229:40
 check-requires : tie.Need-check-requires
 check-requires c κs = search needs
 
--- src/lib.rt:229:29
 enum-known-refusal : tie.Need-enum-known-refusal
 enum-known-refusal c = search needs
 
--- src/lib.rt:230:9
 returns-2 : tie.Need-returns-2
-returns-2 c = ?
+returns-2 c =
+    let k = c .before .before .before in
+    let a = k .before .before .before .before .args in
+    let rest = given (squareOf (leastOf order (a .bitboards .now) (a .color) (a .attacks) (a .occupied))) in
+    pass-on (a .bitboards .now) (a .board .now) (a .state) (k .check .result) (k .check .ensures) rest (c .before .refusal .given .0 .0) (c .before .refusal .given .1)
+    ∙ a-colour (a .color) (checked (a .bitboards .now) (a .board .now) (a .state .side) rest) (omega arith)
 
 enum-told : tie.Need-enum-told
 enum-told c = search needs
 
--- src/lib.rt:233:51
 slice-aggregate-pick : tie.Need-slice-aggregate-pick
 slice-aggregate-pick c = search needs
 
--- src/lib.rt:233:35
 pick-requires : tie.Need-pick-requires
 pick-requires c κs = search needs
 
--- src/lib.rt:233:22
 enum-known-square : tie.Need-enum-known-square
 enum-known-square c = search needs
 
--- src/lib.rt:234:9
 enum-told-2 : tie.Need-enum-told-2
 enum-told-2 c = search needs
 
--- src/lib.rt:234:9
 returns-3 : tie.Need-returns-3
-returns-3 c = ?
+returns-3 c =
+    let p = c .before .before in
+    let e = p .before .before in
+    let k = e .before .before in
+    let a = k .before .before .before .before .args in
+    let rest = given (squareOf (leastOf order (a .bitboards .now) (a .color) (a .attacks) (a .occupied))) in
+    ap (λ x. given (squareOf x)) (sym (ap told (c .enum-told2 .given .1)) ∙ p .pick .ensures)
+    ∙ fit-rest (a .bitboards .now) (a .board .now) (a .state) (k .check .result) (k .check .ensures) rest (e .enum-told .given .1)
+    ∙ a-colour (a .color) (checked (a .bitboards .now) (a .board .now) (a .state .side) rest) (omega arith)
 
--- src/lib.rt:216:1
 returns-4 : tie.Need-returns-4
-returns-4 c = ?
+returns-4 c =
+    let p = c .before .before .before in
+    let e = p .before .before in
+    let k = e .before .before in
+    let a = k .before .before .before .before .args in
+    let rest = given (squareOf (leastOf order (a .bitboards .now) (a .color) (a .attacks) (a .occupied))) in
+    ap (λ x. given (squareOf x)) (sym (ap told (c .before .square .given .1)) ∙ p .pick .ensures)
+    ∙ fit-rest (a .bitboards .now) (a .board .now) (a .state) (k .check .result) (k .check .ensures) rest (e .enum-told .given .1)
+    ∙ a-colour (a .color) (checked (a .bitboards .now) (a .board .now) (a .state .side) rest) (omega arith)
 
 pub lvp-spec : {M : Type 1} → statement M
 lvp-spec =

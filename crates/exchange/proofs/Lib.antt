@@ -3,3 +3,4 @@ pub mod Forward
 pub mod Backward
 pub mod Ending
 pub mod Tested
+pub mod Doors

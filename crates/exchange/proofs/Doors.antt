@@ -43,7 +43,7 @@ module _ (kinds bbs bytes : List ℕ) (side from to : ℕ) where
   abbrev target : ℕ
   target = valueOf (kindOn bytes to)
 
-  exchange-is : exchangeOf kinds bbs bytes side from to ≡ settled (values (captures kinds bbs (attackers bbs to) 64 side from first target))
+  pub exchange-is : exchangeOf kinds bbs bytes side from to ≡ settled (values (captures kinds bbs (attackers bbs to) 64 side from first target))
   unfolding exchangeOf
   exchange-is = refl
 

@@ -4,3 +4,6 @@ pub mod Backward
 pub mod Ending
 pub mod Tested
 pub mod Doors
+pub mod Gains
+pub mod Kings
+pub mod Source

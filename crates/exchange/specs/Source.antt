@@ -1,4 +1,4 @@
--- How the source works an exchange out: `gains` filled going forward, then folded back in place. Definitions only.
+-- How the source works an exchange out (eval.rs, `see`): `gains` filled going forward, then folded back in place. Definitions only.
 use mathlib.Core.Bool.{cond}
 use mathlib.Core.List.{List, [], _∷_, map}
 use Prim.Native.Nat.{ℕ, zero, suc, _-_}
@@ -7,7 +7,7 @@ use lib.ListN.{length, getD, set}
 use lib.Signed.{leZ}
 use Rattle.chess.specs.Values.{valueOf}
 use Rattle.exchange.specs.Least.{order}
-use Rattle.exchange.specs.Exchange.{Capture, kindOn, capturesOf}
+use Rattle.exchange.specs.Exchange.{kindOn, capturesOf}
 
 -- `gains[d] = value - gains[d - 1]`, where the gain before the first is g
 unfoldable pub gains : ℤ → List ℕ → List ℤ
@@ -17,10 +17,14 @@ gains g (v ∷ vs) = (pos v -ℤ g) ∷ gains (pos v -ℤ g) vs
 abbrev pub maxZ : ℤ → ℤ → ℤ
 maxZ x y = cond (leZ x y) y x
 
--- `gains[d - 1] = -cmp::max(-gains[d - 1], gains[d])`, for d from so many down to 1
+-- `gains[d - 1] = -cmp::max(-gains[d - 1], gains[d])`, at d for d - 1
+abbrev pub stepBack : ℕ → List ℤ → List ℤ
+stepBack d gs = set gs d (negℤ (maxZ (negℤ (getD gs d (pos 0))) (getD gs (suc d) (pos 0))))
+
+-- so many of these steps, down to d - 1 = 0
 unfoldable pub foldedBack : ℕ → List ℤ → List ℤ
 foldedBack zero gs = gs
-foldedBack (suc d) gs = foldedBack d (set gs d (negℤ (maxZ (negℤ (getD gs d (pos 0))) (getD gs (suc d) (pos 0)))))
+foldedBack (suc d) gs = foldedBack d (stepBack d gs)
 
 -- the kinds whose values the source reads: the target's, then each capturer's, the last one's too
 unfoldable pub kindsRead : List ℕ → List ℕ → ℕ → ℕ → ℕ → List ℕ
@@ -32,7 +36,11 @@ unfoldable pub gainsOf : List ℕ → List ℕ → ℕ → ℕ → ℕ → List 
 unfolding gains kindsRead
 gainsOf bbs bytes side from to = gains (pos 0) (map valueOf (kindsRead bbs bytes side from to))
 
--- `while { d -= 1; d > 0 }`, where d is how many captures there were, and then `gains[0]`
+-- `while { d -= 1; d > 0 }` begins with d at the number of captures
+abbrev pub stepsBack : List ℕ → List ℕ → ℕ → ℕ → ℕ → ℕ
+stepsBack bbs bytes side from to = length (capturesOf order bbs bytes side from to) - 1
+
+-- `gains[0]` after it
 unfoldable pub sourceSee : List ℕ → List ℕ → ℕ → ℕ → ℕ → ℤ
 unfolding foldedBack gainsOf
-sourceSee bbs bytes side from to = getD (foldedBack (length (capturesOf order bbs bytes side from to) - 1) (gainsOf bbs bytes side from to)) 0 (pos 0)
+sourceSee bbs bytes side from to = getD (foldedBack (stepsBack bbs bytes side from to) (gainsOf bbs bytes side from to)) 0 (pos 0)

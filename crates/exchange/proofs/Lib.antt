@@ -7,3 +7,5 @@ pub mod Doors
 pub mod Gains
 pub mod Kings
 pub mod Source
+pub mod Determined
+pub mod Examples

@@ -113,8 +113,11 @@ module _ (kinds bbs : List ℕ) (afresh : ℕ → ℕ) where
         ⊎-elim
         (λ q. rw (stops kinds bbs afresh (suc n) occ colour value q) (omega (arith, one-less occ to on-board e)))
         (λ w. rw (goes kinds bbs afresh n occ colour value (w .square) (w .kind) (w .is))
-        (omega (arith, less-one occ colour (w .square) (w .kind) (w .is),
-        few n (without occ (w .square)) (other colour) (valueOf (w .kind)) (kept occ (w .square) to on-board e (not-target occ colour (w .square) (w .kind) (w .is))))))
+        (omega (
+          arith,
+          less-one occ colour (w .square) (w .kind) (w .is),
+          few n (without occ (w .square)) (other colour) (valueOf (w .kind)) (kept occ (w .square) to on-board e (not-target occ colour (w .square) (w .kind) (w .is))),
+        )))
         (which (picks colour occ))
 
     -- fewer captures than pieces: at most 31 where there are 32

@@ -116,8 +116,11 @@ module _ (bbs : List ℕ) (to : ℕ) where
   -- all of a colour, with one that stands on the target
   target-too : (colour occ kind : ℕ) → to < 64 → (kind ≡ 5 → has (standing bbs 5 colour) to ≡ true) → isKing kind + beside colour occ ≤ howMany 64 (has (standing bbs 5 colour))
   target-too colour occ kind h k =
-      omega (arith, with-one to kind (has (standing bbs 5 colour)) h k,
-      more 64 (king colour occ) (λ j. has (standing bbs 5 colour) j && not (eqb j to)) (λ j l t. drop-first (has occ j) (has (standing bbs 5 colour) j) (not (eqb j to)) t))
+      omega (
+        arith,
+        with-one to kind (has (standing bbs 5 colour)) h k,
+        more 64 (king colour occ) (λ j. has (standing bbs 5 colour) j && not (eqb j to)) (λ j l t. drop-first (has occ j) (has (standing bbs 5 colour) j) (not (eqb j to)) t),
+      )
     where
       drop-first : (a b c : Bool) → T ((a && b) && c) → T (b && c)
       drop-first true b c t = t
@@ -152,7 +155,7 @@ module _ (kinds bbs : List ℕ) (afresh : ℕ → ℕ) (to : ℕ) (on-board : to
       one-more s k q ih =
           let w = comes kinds bbs colour (afresh occ) occ s k q in
           let l = leaves bbs to colour occ s k (w .on-board) (w .there) (not-target kinds bbs afresh to on-board not-itself occ colour s k q)
-            (λ z. subst (λ (x : ℕ). has (standing bbs x colour) s ≡ true) z (w .its-kind)) in
+          (λ z. subst (λ (x : ℕ). has (standing bbs x colour) s ≡ true) z (w .its-kind)) in
           let f = fades bbs to (other colour) occ s in
           let o : beside bbs to (other (other colour)) (without occ s) ≡ beside bbs to colour (without occ s) = ap (λ (c : ℕ). beside bbs to c (without occ s)) (other-back colour h) in
           rw (goes kinds bbs afresh n occ colour value s k q) (omega arith, omega arith)

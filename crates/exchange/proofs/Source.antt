@@ -111,9 +111,12 @@ module _ (bbs bytes : List ℕ) (side from to : ℕ) where
     pub at-most-31 : length (capturesOf order bbs bytes side from to) ≤ 31
     at-most-31 =
         rw captures-are
-        (omega (arith, few-pieces bbs few,
-        fewer-captures order bbs (attackers bbs to) to ht (λ occ. not-self bbs to occ ht) 64 side from (kindOn bytes from) (valueOf (kindOn bytes to)) hf apart there
-        (stands-there bbs (other side) to ht (other-lt side) their)))
+        (omega (
+          arith,
+          few-pieces bbs few,
+          fewer-captures order bbs (attackers bbs to) to ht (λ occ. not-self bbs to occ ht) 64 side from (kindOn bytes from) (valueOf (kindOn bytes to)) hf apart there
+              (stands-there bbs (other side) to ht (other-lt side) their),
+        ))
 
     one-king : (colour : ℕ) → colour < 2 → howMany 64 (has (standing bbs 5 colour)) ≤ 1
     one-king zero h = one-white-king bbs few

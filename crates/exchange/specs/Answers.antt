@@ -51,8 +51,7 @@ abbrev pub seeOf : List ℕ → List ℕ → ℕ → ℕ → ℕ → Answer ℤ
 seeOf bbs bytes side from to =
     checked bbs bytes side
     (orRefuse (bothOnBoard from to) (numberOf R.Square)
-    (orRefuse (mayCapture bbs bytes side from to) (numberOf R.Move)
-    (orRefuse (uncrowded bbs) (numberOf R.Crowd) (given (exchangeOf order bbs bytes side from to)))))
+    (orRefuse (mayCapture bbs bytes side from to) (numberOf R.Move) (orRefuse (uncrowded bbs) (numberOf R.Crowd) (given (exchangeOf order bbs bytes side from to)))))
 
 -- ---- the code's answers on the paper
 abbrev pub least : Least → Answer (List ℕ)

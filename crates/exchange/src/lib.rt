@@ -10,11 +10,17 @@ ghost use Rattle.exchange.specs.Exchange.{kindOn, without, settled};
 ghost use Rattle.exchange.specs.Answers.{uncrowded};
 ghost use Rattle.exchange.specs.Lent.{told, leastWith, mayCaptureWith, exchangeWith};
 ghost use Rattle.exchange.specs.Promises.{Lvp, See};
-use attack::inner::{attacks, attacks_to, occupied, other, standing};
+use attack::inner::attacks;
+use attack::inner::attacks_to;
+use attack::inner::occupied;
+use attack::inner::other;
+use attack::inner::standing;
 use bits::inner::at;
-use chess::inner::{index, value};
+use chess::inner::index;
+use chess::inner::value;
 use chess::refusal::Refusal;
-use position::{Checked, State};
+use position::Checked;
+use position::State;
 
 // The square of the least attacker.
 pub enum Least {
@@ -195,7 +201,13 @@ fn may_capture(
     if !stands(bitboards, other(side), to) {
         return false;
     }
-    let targets = attacks(kind_on(board, from), side, from, occupied(bitboards), tables);
+    let targets = attacks(
+        kind_on(board, from),
+        side,
+        from,
+        occupied(bitboards),
+        tables,
+    );
     holds(targets, to)
 }
 

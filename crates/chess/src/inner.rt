@@ -3,7 +3,7 @@ ghost use mathlib.Core.Path.{_≡_};
 ghost use Rattle.chess.specs.Squares.{Flips};
 ghost use Rattle.chess.specs.Codes.{kindOfHalf, Same, White, Kinds, Codes};
 ghost use Rattle.chess.specs.Places.{EntryPlace, WeightPlace};
-ghost use Rattle.chess.specs.Values.{Values};
+ghost use Rattle.chess.specs.Values.{Worth};
 use crate::kind::Kind;
 
 // A number as an index.
@@ -68,7 +68,7 @@ pub fn code(kind: u8, color: u8) -> usize
 
 // What a piece of a kind is worth; nothing for a number that is no kind.
 pub fn value(kind: u8) -> u32
-    ensures { λ r. ⌜ Values kind r ⌝ }
+    ensures { λ r. ⌜ Worth kind r ⌝ }
 {
     match kind {
         0 => Kind::PAWN_VALUE,

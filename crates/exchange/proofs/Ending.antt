@@ -2,17 +2,16 @@
 -- its own attacker there are fewer captures than pieces. Assumes nothing.
 use mathlib.Core.Path.{_≡_, refl, sym, ap, ap₂, _∙_}
 use mathlib.Core.Logic.{_⊎_, inl, inr, ⊎-elim}
-use mathlib.Core.Bool.{Bool, true, false, true≢false, not, _&&_, and-true, and-false}
+use mathlib.Core.Bool.{Bool, true, false, true≢false, not, _&&_}
 use mathlib.Core.List.{List, [], _∷_}
 use Prim.Native.Nat.{ℕ, zero, suc, _≤_, _<_}
-use native.Mathlib.Nat.{not-suc-le-zero, le-suc-iff, suc-inj}
 use native.Mathlib.Omega.{arith}
 use lib.Dec.{eqb}
 use lib.ListN.{length}
-use borrow.Author.Tests.{eq-eqb, ne-eqb}
+use borrow.Author.Tests.{ne-eqb}
 use Rattle.chess.specs.Values.{valueOf}
-use Rattle.bits.specs.Bitboard.{has, those, digit, howMany}
-use Rattle.bits.proofs.Counts.{many-same}
+use Rattle.bits.specs.Bitboard.{has, those, howMany}
+use Rattle.bits.proofs.Counts.{many-same, many-less}
 use Rattle.bits.proofs.Those.{has-those}
 use Rattle.attack.specs.Attacks.{occupied, other}
 use Rattle.exchange.specs.Least.{Attacker, nobody, attacker}
@@ -21,21 +20,6 @@ use Rattle.exchange.proofs.Picked.{comes}
 use Rattle.exchange.proofs.Forward.{next, stops, goes, forced, spent}
 
 -- ---- a square taken away is one piece less
-pub fewer : (n s : ℕ) (f : ℕ → Bool) → s < n → f s ≡ true → howMany n f ≡ suc (howMany n (λ k. f k && not (eqb k s)))
-unfolding howMany
-fewer zero s f h e = absurd (not-suc-le-zero h)
-fewer (suc n) s f h e =
-    ⊎-elim
-    (λ l. omega (arith, fewer n s f l e, ap digit (kept n (λ q. omega arith))))
-    (λ q. omega (arith, top (suc-inj q), many-same n f (λ k. f k && not (eqb k s)) (λ k l. sym (kept k (λ p. omega (arith, suc-inj q))))))
-    (le-suc-iff .0 h)
-  where
-    kept : (k : ℕ) → (k ≡ s → ⊥) → (f k && not (eqb k s)) ≡ f k
-    kept k ne = ap (λ (t : Bool). f k && not t) (ne-eqb k s ne) ∙ and-true (f k)
-
-    top : s ≡ n → digit (f n) ≡ suc (digit (f n && not (eqb n s)))
-    top q = ap digit (ap f (sym q) ∙ e) ∙ sym (ap (λ (t : Bool). suc (digit (f n && not t))) (eq-eqb n s (sym q)) ∙ ap (λ (t : Bool). suc (digit t)) (and-false (f n)))
-
 pub has-without : (b s k : ℕ) → k < 64 → has (without b s) k ≡ (has b k && not (eqb k s))
 unfolding without
 has-without b s k h = has-those 64 (λ j. has b j && not (eqb j s)) k h
@@ -48,7 +32,7 @@ pieces b = howMany 64 (has b)
 
 pub one-less : (b s : ℕ) → s < 64 → has b s ≡ true → pieces b ≡ suc (pieces (without b s))
 one-less b s h e =
-    fewer 64 s (has b) h e
+    many-less 64 s (has b) h e
     ∙ ap suc (sym (many-same 64 (has (without b s)) (λ k. has b k && not (eqb k s)) (λ k l. has-without b s k l)))
 
 -- ---- the captures

@@ -14,18 +14,18 @@ use Rattle.chess.specs.Codes.{isPiece, codeOf, kindOf, colourOf}
 use Rattle.chess.specs.Values.{valueOf}
 use Rattle.chess.proofs.Codes.{code-back}
 use Rattle.bits.specs.Bitboard.{has, digit, howMany}
-use Rattle.bits.proofs.Counts.{many-same}
+use Rattle.bits.proofs.Counts.{many-same, many-more, many-less}
 use Rattle.position.specs.Consistent.{on, consistent}
 use Rattle.position.specs.Boards.{standsOn}
 use Rattle.position.proofs.Apart.{code-to}
 use Rattle.position.proofs.Only.{every-board}
 use Rattle.attack.specs.Attacks.{standing, occupied, other}
-use Rattle.attack.proofs.Attacked.{other-lt}
+use Rattle.attack.proofs.Attacked.{other-lt, other-back}
 use Rattle.exchange.specs.Least.{attacker}
 use Rattle.exchange.specs.Exchange.{Capture, kindOn, without, recaptures, captures}
 use Rattle.exchange.proofs.Picked.{comes}
 use Rattle.exchange.proofs.Forward.{next, stops, goes, forced, spent}
-use Rattle.exchange.proofs.Ending.{fewer, has-without, which, not-target}
+use Rattle.exchange.proofs.Ending.{has-without, which, not-target}
 use Rattle.exchange.proofs.Gains.{alternate, isKing}
 
 -- ---- what stands where in a consistent position
@@ -65,24 +65,14 @@ module _ (bbs bytes : List ℕ) (e : consistent bbs bytes ≡ true) where
       differ (suc zero) h q = omega arith
       differ (suc (suc c)) h q = omega arith
 
--- ---- counts of what passes a test
-more : (n : ℕ) (f g : ℕ → Bool) → ((k : ℕ) → k < n → T (f k) → T (g k)) → howMany n f ≤ howMany n g
-unfolding howMany
-more zero f g h = omega arith
-more (suc n) f g h = omega (arith, more n f g (λ k l. h k (omega arith)), digits (f n) (g n) (h n (omega arith)))
-  where
-    digits : (a b : Bool) → (T a → T b) → digit a ≤ digit b
-    digits true true i = omega arith
-    digits true false i = absurd (i tt)
-    digits false b i = omega arith
-
+-- ---- kings that stand beside the target
 -- one that is a king and passes, with those that pass elsewhere
 with-one : (s kind : ℕ) (f : ℕ → Bool) → s < 64 → (kind ≡ 5 → f s ≡ true) → isKing kind + howMany 64 (λ k. f k && not (eqb k s)) ≤ howMany 64 f
 with-one s kind f h i = go (eqb kind 5) refl
   where
     go : (t : Bool) → eqb kind 5 ≡ t → digit t + howMany 64 (λ k. f k && not (eqb k s)) ≤ howMany 64 f
-    go true e = omega (arith, fewer 64 s f h (i (eqb-true kind 5 e)))
-    go false e = omega (arith, more 64 (λ k. f k && not (eqb k s)) f (λ k l t. and-l (f k) (not (eqb k s)) t))
+    go true e = omega (arith, many-less 64 s f h (i (eqb-true kind 5 e)))
+    go false e = omega (arith, many-more 64 (λ k. f k && not (eqb k s)) f (λ k l t. and-l (f k) (not (eqb k s)) t))
 
 module _ (bbs : List ℕ) (to : ℕ) where
   -- a king of the colour stands there, and not on the target
@@ -111,7 +101,7 @@ module _ (bbs : List ℕ) (to : ℕ) where
       (λ q. ap₂ (λ (a b : Bool). a && b && not (eqb s to)) there (k q) ∙ ap not (ne-eqb s to (λ z. ne (sym z)))))
 
   fades : (colour occ s : ℕ) → beside colour (without occ s) ≤ beside colour occ
-  fades colour occ s = rw (fewer-there colour occ s) (more 64 (λ k. king colour occ k && not (eqb k s)) (king colour occ) (λ k l t. and-l (king colour occ k) (not (eqb k s)) t))
+  fades colour occ s = rw (fewer-there colour occ s) (many-more 64 (λ k. king colour occ k && not (eqb k s)) (king colour occ) (λ k l t. and-l (king colour occ k) (not (eqb k s)) t))
 
   -- all of a colour, with one that stands on the target
   target-too : (colour occ kind : ℕ) → to < 64 → (kind ≡ 5 → has (standing bbs 5 colour) to ≡ true) → isKing kind + beside colour occ ≤ howMany 64 (has (standing bbs 5 colour))
@@ -119,17 +109,12 @@ module _ (bbs : List ℕ) (to : ℕ) where
       omega (
         arith,
         with-one to kind (has (standing bbs 5 colour)) h k,
-        more 64 (king colour occ) (λ j. has (standing bbs 5 colour) j && not (eqb j to)) (λ j l t. drop-first (has occ j) (has (standing bbs 5 colour) j) (not (eqb j to)) t),
+        many-more 64 (king colour occ) (λ j. has (standing bbs 5 colour) j && not (eqb j to)) (λ j l t. drop-first (has occ j) (has (standing bbs 5 colour) j) (not (eqb j to)) t),
       )
     where
       drop-first : (a b c : Bool) → T ((a && b) && c) → T (b && c)
       drop-first true b c t = t
       drop-first false b c t = absurd t
-
-other-back : (c : ℕ) → c < 2 → other (other c) ≡ c
-other-back zero h = refl
-other-back (suc zero) h = refl
-other-back (suc (suc c)) h = absurd (omega arith)
 
 -- ---- the captures: kings of the side that begins at every other place, of the other side between
 abbrev pub kingsOf : List Capture → List ℕ

@@ -18,6 +18,7 @@ use Rattle.bits.proofs.Digits.{has-and}
 use Rattle.bits.proofs.Those.{has-those, those-lt, is-those}
 use Rattle.bits.proofs.Scanned.{lowest, scan-is, scan-lt}
 use Rattle.attack.specs.Attacks.{standing}
+use Rattle.attack.proofs.ByKind.{lowest-lt}
 use Rattle.exchange.specs.Least.{Attacker, nobody, attacker, stillThere, leastOf}
 
 -- ---- the code's `&`
@@ -50,9 +51,6 @@ unfolding leastOf
 none-left kinds bbs colour attacks occ i e = rw e refl
 
 -- ---- who it is
-pub lowest-on : (b : ℕ) → b < 2 ^ 64 → (b ≡ 0 → ⊥) → lowestOf b < 64
-lowest-on b h ne = subst (λ (x : ℕ). x < 64) (scan-is b) (scan-lt b h ne)
-
 lowest-in : (b : ℕ) → b < 2 ^ 64 → (b ≡ 0 → ⊥) → has b (lowestOf b) ≡ true
 lowest-in b h ne = subst (λ (x : ℕ). has b x ≡ true) (scan-is b) (lowest 64 b .found (scan-lt b h ne))
 
@@ -98,4 +96,4 @@ comes (kind ∷ kinds) bbs colour attacks occ s k e =
         let ne : b ≡ 0 → ⊥ = eqb-false (stillThere bbs kind colour attacks occ) 0 f in
         subst (λ (q : ℕ). Comes bbs colour attacks occ s q) y
         (subst (λ (q : ℕ). Comes bbs colour attacks occ q kind) x
-        (of-kind bbs kind colour attacks occ (lowestOf b) (lowest-on b (there-lt bbs kind colour attacks occ) ne) (lowest-in b (there-lt bbs kind colour attacks occ) ne)))
+        (of-kind bbs kind colour attacks occ (lowestOf b) (lowest-lt b (there-lt bbs kind colour attacks occ) ne) (lowest-in b (there-lt bbs kind colour attacks occ) ne)))

@@ -4,8 +4,9 @@ use Prim.Native.Nat.{ℕ, _-_}
 use native.Mathlib.Omega.{arith}
 use lib.ListN.{getD, length, drop, drop-of-length-le}
 use Rattle.bits.specs.Bitboard.{lowestOf}
+use Rattle.attack.proofs.ByKind.{lowest-lt}
 use Rattle.exchange.specs.Least.{attacker, leastOf}
-use Rattle.exchange.proofs.Picked.{passed, found, none-left, lowest-on}
+use Rattle.exchange.proofs.Picked.{passed, found, none-left}
 use borrow.Author.Needs.{needs}
 use Rattle.exchange.proofs.pick.Statement.{statement}
 use Rattle.exchange.proofs.pick.Tie as tie
@@ -29,7 +30,7 @@ scan-requires : tie.Need-scan-requires Inv-loop μ-loop
 scan-requires c κs = search needs
 
 cast-t14 : tie.Need-cast-t14 Inv-loop μ-loop
-cast-t14 c = omega (arith, c .scan .ensures, lowest-on (c .before .before .still-there .result) (c .before .before .still-there .ok) (c .before .if1 .taken))
+cast-t14 c = omega (arith, c .scan .ensures, lowest-lt (c .before .before .still-there .result) (c .before .before .still-there .ok) (c .before .if1 .taken))
 
 returns : tie.Need-returns Inv-loop μ-loop
 returns c =

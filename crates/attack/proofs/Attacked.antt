@@ -3,7 +3,7 @@
 use mathlib.Core.Path.{_≡_, refl, sym, ap, ap₂, _∙_}
 use mathlib.Core.Bool.{Bool, true, false, cond, _&&_, and-comm, and-false}
 use mathlib.Core.List.{List}
-use Prim.Native.Nat.{ℕ, _<_}
+use Prim.Native.Nat.{ℕ, zero, suc, _<_}
 use native.Mathlib.Omega.{arith}
 use lib.Dec.{T, eqb, ltb}
 use lib.ListN.{getD}
@@ -24,12 +24,17 @@ hits bytes occ colour s k =
     let piece : ℕ = getD bytes k 0 in
     (isPiece piece && eqb (colourOf piece) colour) && has (attacks (kindOf piece) (colourOf piece) k occ) s
 
-other-lt : (colour : ℕ) → other colour < 2
+pub other-lt : (colour : ℕ) → other colour < 2
 other-lt colour = go (eqb colour 0)
   where
     go : (b : Bool) → cond b 1 0 < 2
     go true = omega arith
     go false = omega arith
+
+pub other-back : (colour : ℕ) → colour < 2 → other (other colour) ≡ colour
+other-back zero h = refl
+other-back (suc zero) h = refl
+other-back (suc (suc colour)) h = absurd (omega arith)
 
 module _ (bbs bytes : List ℕ) (e : consistent bbs bytes ≡ true) where
   from-each : (occ colour s k : ℕ) → colour < 2 → s < 64 → k < 64 → (has (attackers bbs s occ) k && on bbs colour k) ≡ hits bytes occ colour s k

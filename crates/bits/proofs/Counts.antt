@@ -1,13 +1,15 @@
 -- How many squares a bitboard has: the machine's count of ones. Assumes nothing.
 use mathlib.Core.Path.{_≡_, refl, sym, ap, ap₂, _∙_, subst}
 use mathlib.Core.Logic.{⊎-elim}
-use mathlib.Core.Bool.{Bool, true, false}
+use mathlib.Core.Bool.{Bool, true, false, not, _&&_, and-true, and-false}
 use Prim.Native.Nat.{ℕ, zero, suc, _+_, _/_, _%_, _^_, _≤_, _<_}
 use native.Mathlib.Nat.{mod-lt, mod-eq-of-lt, not-suc-le-zero, le-suc-iff, suc-inj}
 use native.Mathlib.Omega.{arith}
 use lib.Pow.{pow-pos, shr-lt, split}
 use lib.Arith.{lt-one}
 use lib.Count.{ones, ones-cat}
+use lib.Dec.{T, eqb}
+use borrow.Author.Tests.{eq-eqb, ne-eqb}
 use Rattle.bits.specs.Bitboard.{isSet, has, digit, howMany}
 use Rattle.bits.proofs.Digits.{has-mod}
 
@@ -97,3 +99,29 @@ alone-one (suc n) f e = go (alone-one n f (λ i j hi hj. e i j (omega arith) (om
     go : howMany n f ≤ 1 → (t : Bool) → f n ≡ t → digit t + howMany n f ≤ 1
     go h true q = omega (arith, many-none n f (λ i l. others q i l (f i) refl))
     go h false q = omega arith
+
+-- ---- a weaker test passes as many or more; one that passes and is left out makes one less
+pub many-more : (n : ℕ) (f g : ℕ → Bool) → ((k : ℕ) → k < n → T (f k) → T (g k)) → howMany n f ≤ howMany n g
+unfolding howMany
+many-more zero f g h = omega arith
+many-more (suc n) f g h = omega (arith, many-more n f g (λ k l. h k (omega arith)), digits (f n) (g n) (h n (omega arith)))
+  where
+    digits : (a b : Bool) → (T a → T b) → digit a ≤ digit b
+    digits true true i = omega arith
+    digits true false i = absurd (i tt)
+    digits false b i = omega arith
+
+pub many-less : (n s : ℕ) (f : ℕ → Bool) → s < n → f s ≡ true → howMany n f ≡ suc (howMany n (λ k. f k && not (eqb k s)))
+unfolding howMany
+many-less zero s f h e = absurd (not-suc-le-zero h)
+many-less (suc n) s f h e =
+    ⊎-elim
+    (λ l. omega (arith, many-less n s f l e, ap digit (kept n (λ q. omega arith))))
+    (λ q. omega (arith, top (suc-inj q), many-same n f (λ k. f k && not (eqb k s)) (λ k l. sym (kept k (λ p. omega (arith, suc-inj q))))))
+    (le-suc-iff .0 h)
+  where
+    kept : (k : ℕ) → (k ≡ s → ⊥) → (f k && not (eqb k s)) ≡ f k
+    kept k ne = ap (λ (t : Bool). f k && not t) (ne-eqb k s ne) ∙ and-true (f k)
+
+    top : s ≡ n → digit (f n) ≡ suc (digit (f n && not (eqb n s)))
+    top q = ap digit (ap f (sym q) ∙ e) ∙ sym (ap (λ (t : Bool). suc (digit (f n && not t))) (eq-eqb n s (sym q)) ∙ ap (λ (t : Bool). suc (digit t)) (and-false (f n)))

@@ -8,6 +8,7 @@ use Rattle.chess.specs.Kinds.{NewKind, KindIndex, KindOf, paper as kind-
 use Rattle.chess.specs.Phases.{NewPhase, PhaseIndex, paper as phase-paper}
 use Rattle.chess.specs.Squares.{NewSquare, SquareIndex, Flips, FlipsSquare, paper as square-paper}
 use Rattle.chess.specs.Pieces.{NewPiece, PieceCode, PieceColor, PieceKind, PieceOf, paper as piece-paper}
+use Rattle.chess.specs.Values.{Worth}
 use Rattle.chess.specs.Places.{EntryPlace, WeightPlace, EntryOf, EntryIndex, SquareWeightOf, SquareWeightIndex, WeightOf, WeightIndex}
 use Rattle.chess.specs.declared.refusal.Refusal.{Refusal}
 use Rattle.chess.specs.declared.color.Color.{Color}
@@ -160,6 +161,9 @@ inner-kind-number code r s = one
 
 pub inner-code : (kind colour r s : ℕ) → Codes kind colour r → Codes kind colour s → r ≡ s
 inner-code kind colour r s = one
+
+pub inner-value : (kind r s : ℕ) → Worth kind r → Worth kind s → r ≡ s
+inner-value kind r s = one
 
 pub inner-entry-place : (kind square colour r s : ℕ) → EntryPlace kind square colour r → EntryPlace kind square colour s → r ≡ s
 inner-entry-place kind square colour r s = one

@@ -3,3 +3,4 @@ pub mod Codes
 pub mod Determined
 pub mod Examples
 pub mod Paper
+pub mod Values

@@ -1,6 +1,7 @@
 pub mod Answer
 pub mod Refusals
 pub mod Codes
+pub mod Values
 pub mod Colors
 pub mod Kinds
 pub mod Phases

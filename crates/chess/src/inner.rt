@@ -3,6 +3,8 @@ ghost use mathlib.Core.Path.{_≡_};
 ghost use Rattle.chess.specs.Squares.{Flips};
 ghost use Rattle.chess.specs.Codes.{kindOfHalf, Same, White, Kinds, Codes};
 ghost use Rattle.chess.specs.Places.{EntryPlace, WeightPlace};
+ghost use Rattle.chess.specs.Values.{Worth};
+use crate::kind::Kind;
 
 // A number as an index.
 pub fn index(number: u8) -> usize
@@ -62,6 +64,21 @@ pub fn code(kind: u8, color: u8) -> usize
     ensures { λ r. ⌜ Codes kind color r ⌝ }
 {
     index(white(kind)) + index(color)
+}
+
+// What a piece of a kind is worth; nothing for a number that is no kind.
+pub fn value(kind: u8) -> u32
+    ensures { λ r. ⌜ Worth kind r ⌝ }
+{
+    match kind {
+        0 => Kind::PAWN_VALUE,
+        1 => Kind::KNIGHT_VALUE,
+        2 => Kind::BISHOP_VALUE,
+        3 => Kind::ROOK_VALUE,
+        4 => Kind::QUEEN_VALUE,
+        5 => Kind::KING_VALUE,
+        _ => 0,
+    }
 }
 
 // Where a trace has the entry of a kind, a square and a colour.

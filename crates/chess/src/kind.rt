@@ -27,6 +27,18 @@ impl Kind {
 
     pub const KING: Kind = Kind(5);
 
+    pub const PAWN_VALUE: u32 = 100;
+
+    pub const KNIGHT_VALUE: u32 = 304;
+
+    pub const BISHOP_VALUE: u32 = 292;
+
+    pub const ROOK_VALUE: u32 = 487;
+
+    pub const QUEEN_VALUE: u32 = 1013;
+
+    pub const KING_VALUE: u32 = 10000;
+
     pub fn new(index: u8) -> Made
         ensures { λ r. ⌜ NewKind index r ⌝ }
     {

@@ -1,0 +1,11 @@
+pub mod Picked
+pub mod Forward
+pub mod Backward
+pub mod Ending
+pub mod Tested
+pub mod Doors
+pub mod Gains
+pub mod Kings
+pub mod Source
+pub mod Determined
+pub mod Examples

@@ -94,17 +94,17 @@ module _ (line bitboards board : List ℕ) where
 
       pub turned-away : (q : Refusal) → r .answer ≡ Refused q → ReadsLine line bitboards board (r .answer) bitboards board
       turned-away q told =
-          record
-            { answer = l .answer ∙ ap valueOf shaped
-            ; boards = kept-boards (lineOf line) (r .answer) (l .answer) q told bitboards ∙ ap (λ (a : Answer Line). bitboardsAfter a bitboards) shaped
-            ; bytes = kept (lineOf line) (r .answer) (l .answer) q told board ∙ ap (λ (a : Answer Line). boardAfter a board) shaped
-            }
+          record {
+            answer = l .answer ∙ ap valueOf shaped;
+            boards = kept-boards (lineOf line) (r .answer) (l .answer) q told bitboards ∙ ap (λ (a : Answer Line). bitboardsAfter a bitboards) shaped;
+            bytes = kept (lineOf line) (r .answer) (l .answer) q told board ∙ ap (λ (a : Answer Line). boardAfter a board) shaped;
+          }
 
       pub written : (state : State) (half : ℕ) → r .answer ≡ Position state half → (bitboards′ board′ : List ℕ) → bitboards′ ≡ r .bitboards → board′ ≡ r .board
           → ReadsLine line bitboards board (r .answer) bitboards′ board′
       written state half told bitboards′ board′ p q =
-          record
-            { answer = l .answer ∙ ap valueOf shaped
-            ; boards = p ∙ l .boards ∙ over-boards (lineOf line) (r .answer) (l .answer) state half told (bitboardsOf bare) bitboards ∙ ap (λ (a : Answer Line). bitboardsAfter a bitboards) shaped
-            ; bytes = q ∙ l .bytes ∙ over (lineOf line) (r .answer) (l .answer) state half told bare board ∙ ap (λ (a : Answer Line). boardAfter a board) shaped
-            }
+          record {
+            answer = l .answer ∙ ap valueOf shaped;
+            boards = p ∙ l .boards ∙ over-boards (lineOf line) (r .answer) (l .answer) state half told (bitboardsOf bare) bitboards ∙ ap (λ (a : Answer Line). bitboardsAfter a bitboards) shaped;
+            bytes = q ∙ l .bytes ∙ over (lineOf line) (r .answer) (l .answer) state half told bare board ∙ ap (λ (a : Answer Line). boardAfter a board) shaped;
+          }

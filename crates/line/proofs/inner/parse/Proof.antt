@@ -53,7 +53,7 @@ returns-3 c =
 inside : (c : tie.Else3) → c .before .find .result < length (now (c .before .before .before .before .before .before .args .line))
 inside c =
     let h : c .before .find .result ≤ length (now (c .before .before .before .before .before .before .args .line)) =
-        before-found semicolon (now (c .before .before .before .before .before .before .args .line)) (c .before .find .ensures)
+    before-found semicolon (now (c .before .before .before .before .before .before .args .line)) (c .before .find .ensures)
     in
     let n = c .if3 .left in
     omega arith

@@ -2,3 +2,8 @@ pub mod Copies
 pub mod Words
 pub mod Answers
 pub mod Memory
+pub mod Given
+pub mod Loaded
+pub mod Field
+pub mod Examples
+pub mod Determined

@@ -65,8 +65,8 @@ pub fn read_line(line: &[u8], bitboards: &mut [u64], board: &mut [u8]) -> Read
 pub fn position_field(line: &[u8]) -> &[u8]
     ensures { λ r. ⌜ GivesField (now (line .entry)) (now r) ⌝ }
 {
-    let answer = inner::parse(line).answer;
-    if let Read::Refused(_) = answer {
+    let said = inner::parse(line).answer;
+    if let Read::Refused(_) = said {
         return &line[..0];
     }
     let end = find(line, b';');

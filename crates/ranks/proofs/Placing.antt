@@ -201,7 +201,7 @@ module _ (s board : List ℕ) (i : ℕ) (h : i < length s) where
       subst (After s board i rank file) (sym e ∙ told) (elim (ℕ-discrete (getD s i 0) 47) [ yes q ↦ at-slash rank file t q | no q ↦ at-mark rank file t q ])
 
 -- ---- the end of the text
-none-left : (n : ℕ) → areRanks n [] ≡ false
+pub none-left : (n : ℕ) → areRanks n [] ≡ false
 unfolding areRanks
 none-left zero = refl
 none-left (suc n) = refl
@@ -218,16 +218,16 @@ module _ (s board : List ℕ) (file i : ℕ) (h : length s ≤ i) where
   too-few zero t n = absurd (n refl)
   too-few (suc m) t n = ended (suc m) t ∙ ap (λ (x : Bool). Rows.goodRow file [] && x) (none-left m) ∙ and-false (Rows.goodRow file [])
 
-  pub too-short : (rank : ℕ) → Turn s board rank file i → rank ≡ 0 → (file ≡ 8 → ⊥) → areRanks 7 s ≡ false
+  pub too-short : (rank : ℕ) → Turn s board rank file i → rank ≡ 0 → file < 8 → areRanks 7 s ≡ false
   unfolding every squaresOf
   too-short zero t e n = ended zero t ∙ rw (ne-eqb (file + 0) 8 (omega arith))
   too-short (suc m) t e n = absurd (omega arith)
 
-  pub complete : (rank : ℕ) → Turn s board rank file i → rank ≡ 0 → file ≡ 8 → Places s (record { ok = true; board = board })
+  pub complete : (rank : ℕ) → Turn s board rank file i → rank ≡ 0 → 8 ≤ file → Places s (record { ok = true; board = board })
   unfolding every squaresOf
   complete (suc m) t e q = absurd (omega arith)
   complete zero t e q =
-      let good : areRanks 7 s ≡ true = ended zero t ∙ rw (eq-eqb (file + 0) 8 (omega arith)) in
+      let good : areRanks 7 s ≡ true = ended zero t ∙ rw (eq-eqb (file + 0) 8 (omega (arith, t .within))) in
       let z : 8 - file ≡ 0 = omega arith in
       let spelt : boardOf 7 s ≡ t .row ++ t .done =
       t .spells ∙ ap (λ (l : List ℕ). Rows.comes 0 (t .row) l ++ t .done) (drop-of-length-le s h) ∙ ap (λ (l : List ℕ). l ++ t .done) (append-nil (t .row))

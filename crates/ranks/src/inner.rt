@@ -122,7 +122,7 @@ pub fn place(s: &[u8]) -> Placed
     if rank != 0 {
         return nothing();
     }
-    if file != 8 {
+    if file < 8 {
         return nothing();
     }
     Placed { ok: true, board }

@@ -1,0 +1,69 @@
+-- The position field's call: always a part of the line, and "an empty part exactly when the line is refused". Assumes nothing.
+use mathlib.Core.Path.{_≡_, refl, sym, ap, _∙_}
+use mathlib.Core.Logic.{_↔_}
+use mathlib.Core.Bool.{Bool, true, false, true≢false}
+use mathlib.Core.List.{List, []}
+use Prim.Native.Nat.{ℕ, _≤_}
+use native.Mathlib.Omega.{arith}
+use Rattle.chess.specs.Answer.{Answer, given, refused, orRefuse}
+use Rattle.chess.proofs.Answers.{given-not}
+use lib.Dec.{leb}
+use lib.ListN.{length}
+use Rattle.fields.specs.Text.{semicolon, space, isText, every, holds, before, placeIn}
+use Rattle.fields.proofs.Within.{Within, Part, inner, cut, before-within, trim-within}
+use Rattle.ranks.specs.Ranks.{areRanks, boardOf}
+use Rattle.ranks.proofs.Placing.{none-left}
+use Rattle.line.specs.Line.{Line, sides, results, isOneOf, ranksOf, sideWord, positionField, resultField, unlessRefused, fieldsSay, lineOf, fieldOf}
+use Rattle.line.proofs.Given.{given-spells}
+
+-- ---- always a part of the line
+field-within : (line : List ℕ) → Within line (positionField line)
+field-within line = inner (before-within semicolon line) (trim-within (before semicolon line))
+
+pub field-part : (line : List ℕ) → Part line (fieldOf line)
+unfolding fieldOf
+field-part line = go (lineOf line)
+  where
+    go : (a : Answer Line) → Part line (unlessRefused a (positionField line))
+    go (given l) = cut (field-within line)
+    go (refused n v) = record { from = 0; size = 0; is = refl }
+
+-- ---- empty exactly when refused
+-- no ranks stand in an empty field
+no-ranks : (field : List ℕ) → field ≡ [] → areRanks 7 (ranksOf field) ≡ false
+unfolding before
+no-ranks field e = ap (λ (f : List ℕ). areRanks 7 (ranksOf f)) e ∙ none-left 7
+
+pub empty-exactly : (line : List ℕ) → (fieldOf line ≡ []) ↔ ((n : ℕ) × (v : List ℕ) × (lineOf line ≡ refused n v))
+unfolding fieldOf
+empty-exactly line = (λ e. to (lineOf line) refl e, λ h. ap (λ (a : Answer Line). unlessRefused a (positionField line)) (h .2))
+  where
+    to : (a : Answer Line) → lineOf line ≡ a → unlessRefused a (positionField line) ≡ [] → (n : ℕ) × (v : List ℕ) × (lineOf line ≡ refused n v)
+    to (given l) q e = absurd (true≢false (sym (given-spells line l q .ranks) ∙ no-ranks (positionField line) e))
+    to (refused n v) q e = (n, v, q)
+
+-- ---- a line is refused by 8 to 13, with nothing beside the number
+abbrev InRange : Answer Line → Type 0
+InRange a = (n : ℕ) (v : List ℕ) → a ≡ refused n v → (8 ≤ n) × (n ≤ 13) × (v ≡ [])
+
+test : (t : Bool) (k : ℕ) (a : Answer Line) → 8 ≤ k → k ≤ 13 → InRange a → InRange (orRefuse t k a)
+test true k a l u h n v e = h n v e
+test false k a l u h n v e = let q : k ≡ n = cc in (omega arith, omega arith, cc)
+
+fields-refused-by : (field result : List ℕ) → InRange (fieldsSay field result)
+unfolding fieldsSay
+fields-refused-by field result =
+    let x : Line = record { state = record { side = placeIn sides (sideWord field) }; half = placeIn results result; board = boardOf 7 (ranksOf field) } in
+    let c : Answer Line = orRefuse (isOneOf results result) 13 (given x) in
+    let b : Answer Line = orRefuse (isOneOf sides (sideWord field)) 12 c in
+    test (areRanks 7 (ranksOf field)) 11 b (omega arith) (omega arith)
+    (test (isOneOf sides (sideWord field)) 12 c (omega arith) (omega arith) (test (isOneOf results result) 13 (given x) (omega arith) (omega arith) (λ n v e. given-not e)))
+
+pub refused-by : (line : List ℕ) → InRange (lineOf line)
+unfolding lineOf
+refused-by line =
+    let a : Answer Line = fieldsSay (positionField line) (resultField line) in
+    let b : Answer Line = orRefuse (holds semicolon line) 10 a in
+    let c : Answer Line = orRefuse (every isText line) 9 b in
+    test (leb (length line) 256) 8 c (omega arith) (omega arith)
+    (test (every isText line) 9 b (omega arith) (omega arith) (test (holds semicolon line) 10 a (omega arith) (omega arith) (fields-refused-by (positionField line) (resultField line))))

@@ -1,0 +1,48 @@
+-- What a line that is not refused writes is a consistent position, and the only one whose bytes its ranks spell. So a call on it meets
+-- neither SHAPE nor BOARD. Assumes nothing.
+use mathlib.Core.Path.{_≡_, sym, ap, subst, _∙_}
+use mathlib.Core.Bool.{Bool, true}
+use mathlib.Core.List.{List}
+use Prim.Native.Nat.{ℕ, _^_, _<_}
+use lib.ListN.{length, getD}
+use Rattle.laws.specs.Tests.{allBelow}
+use Rattle.laws.proofs.Tests.{all-of}
+use Rattle.laws.proofs.Truth.{T-true}
+use Rattle.chess.specs.Answer.{Answer, given}
+use Rattle.position.specs.Consistent.{consistent, checked}
+use Rattle.position.specs.Boards.{isByte, coded, bitboardsOf}
+use Rattle.position.proofs.Only.{made-consistent, made-length, only-made}
+use Rattle.position.proofs.Doors.{in-shape, sound}
+use Rattle.fields.proofs.Every.{every-at}
+use Rattle.ranks.specs.Ranks.{areRanks, boardOf}
+use Rattle.ranks.proofs.Board.{board-64, board-bytes}
+use Rattle.line.specs.Line.{Line, ranksOf, positionField, lineOf}
+use Rattle.line.proofs.Given.{given-spells}
+
+all-coded : (s : List ℕ) → coded (boardOf 7 s) ≡ true
+unfolding coded
+all-coded s =
+    T-true (allBelow 64 (λ k. isByte (getD (boardOf 7 s) k 0)))
+    (all-of 64 (λ k. isByte (getD (boardOf 7 s) k 0)) (λ k h. every-at isByte tt (boardOf 7 s) (board-bytes 7 s) k))
+
+module _ (line : List ℕ) (l : Line) (e : lineOf line ≡ given l) where
+  -- its bytes are those that the ranks spell, 64 of them
+  pub loaded-board : l .board ≡ boardOf 7 (ranksOf (positionField line))
+  loaded-board = given-spells line l e .board
+
+  pub loaded-64 : length (l .board) ≡ 64
+  loaded-64 = ap length loaded-board ∙ board-64 (ranksOf (positionField line)) (given-spells line l e .ranks)
+
+  -- it is consistent
+  pub loaded-consistent : consistent (bitboardsOf (l .board)) (l .board) ≡ true
+  loaded-consistent = made-consistent (l .board) (ap coded loaded-board ∙ all-coded (ranksOf (positionField line)))
+
+  -- and no other 14 bitboards are, with these bytes
+  pub loaded-only : (bitboards : List ℕ) → length bitboards ≡ 14 → ((board : ℕ) → getD bitboards board 0 < 2 ^ 64) → consistent bitboards (l .board) ≡ true → bitboards ≡ bitboardsOf (l .board)
+  loaded-only bitboards n small c = only-made bitboards (l .board) c n small
+
+  -- neither SHAPE nor BOARD stands before what is asked of it
+  pub loaded-checked : {A : Type 0} (rest : Answer A) → checked (bitboardsOf (l .board)) (l .board) (l .state .side) rest ≡ rest
+  loaded-checked rest =
+      sym (sound (bitboardsOf (l .board)) (l .board) (l .state .side) rest
+      (in-shape (bitboardsOf (l .board)) (l .board) (l .state .side) (made-length (l .board)) loaded-64 (given-spells line l e .side)) loaded-consistent)

@@ -22,17 +22,17 @@ const WHITE: u8 = 0;
 const BLACK: u8 = 1;
 
 // Kinds in document 01's order.
-const PAWN: u8 = 0;
+pub const PAWN: u8 = 0;
 
-const KNIGHT: u8 = 1;
+pub const KNIGHT: u8 = 1;
 
-const BISHOP: u8 = 2;
+pub const BISHOP: u8 = 2;
 
-const ROOK: u8 = 3;
+pub const ROOK: u8 = 3;
 
-const QUEEN: u8 = 4;
+pub const QUEEN: u8 = 4;
 
-const KING: u8 = 5;
+pub const KING: u8 = 5;
 
 // The colour that is not the one named; any number but White's has White for the other.
 pub fn other(color: u8) -> u8

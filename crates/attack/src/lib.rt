@@ -24,9 +24,9 @@ fn attacks(kind: u8, color: u8, square: u8, occupied: u64) -> u64
     ensures { λ r. ⌜ r ≡ attacks kind color square occupied ⌝ }
 {
     match kind {
-        2 => rays::inner::bishop(square, occupied),
-        3 => rays::inner::rook(square, occupied),
-        4 => rays::inner::queen(square, occupied),
+        inner::BISHOP => rays::inner::bishop(square, occupied),
+        inner::ROOK => rays::inner::rook(square, occupied),
+        inner::QUEEN => rays::inner::queen(square, occupied),
         _ => {
             let tables = steps::inner::tables();
             inner::attacks(kind, color, square, occupied, &tables)

@@ -16,9 +16,15 @@ use Rattle.steps.specs.Steps.{Step}
 use Rattle.rays.specs.Rays.{onward, path, through, rayOf, dirOf, nowhere, north, east, northWest, northEast, south, west, southEast, southWest}
 
 -- one step leads to a square of the board, or to 64
-pub onward-le : (d s : ℕ) → d < 8 → s < 64 → onward (dirOf d) s ≤ 64
+pub onward-le : (d s : ℕ) → d < 8 → s ≤ 64 → onward (dirOf d) s ≤ 64
 unfolding onward allBelow2
-onward-le d s hd hs = leb→le (onward (dirOf d) s) 64 (all2-at 8 64 (λ e t. leb (onward (dirOf e) t) 64) tt d s hd hs)
+onward-le d s hd hs = leb→le (onward (dirOf d) s) 64 (all2-at 8 65 (λ e t. leb (onward (dirOf e) t) 64) tt d s hd (omega arith))
+
+-- no ray is longer than seven squares
+pub path-seven : (d s : ℕ) → d < 8 → s < 64 → length (path (dirOf d) (onward (dirOf d) s)) ≤ 7
+unfolding path onward allBelow2
+path-seven d s hd hs =
+    leb→le (length (path (dirOf d) (onward (dirOf d) s))) 7 (all2-at 8 64 (λ e t. leb (length (path (dirOf e) (onward (dirOf e) t))) 7) tt d s hd hs)
 
 -- the way from t on is t and the way from the next square on
 pub path-step : (d t : ℕ) → d < 8 → t < 64 → path (dirOf d) t ≡ t ∷ path (dirOf d) (onward (dirOf d) t)
@@ -36,7 +42,11 @@ unfolding through
 on-step d t occ hd ht =
     ap (λ (l : List ℕ). board (through occ l)) (path-step d t hd ht) ∙ board-cons t (cond (has occ t) [] (through occ (path (dirOf d) (onward (dirOf d) t)))) ht
 
--- nothing is seen from beyond the board
+-- beyond the board there is no way, and nothing is seen
+pub path-off : (d : Step) → path d 64 ≡ []
+unfolding path
+path-off d = refl
+
 pub on-off : (d occ : ℕ) → on d occ 64 ≡ 0
 unfolding through path board
 on-off d occ = refl
@@ -46,7 +56,7 @@ unfolding rayOf
 ray-on d s occ = refl
 
 -- ---- from a square above 63 no ray goes out, and none in a direction past the eight
-off : (d : Step) (s : ℕ) → 64 ≤ s → onward d s ≡ 64
+pub off : (d : Step) (s : ℕ) → 64 ≤ s → onward d s ≡ 64
 unfolding onward
 off d s h = simp (le-ltb s 64 h)
 

@@ -34,11 +34,6 @@ bit-off = refl
 pub bit-lt : (t : ℕ) → t ≤ 64 → bitOf t < 2 ^ 64
 bit-lt t h = ⊎-elim (λ e. subst (λ (x : ℕ). x < 2 ^ 64) (sym (ap bitOf e ∙ bit-off)) (lit< tt)) (λ l. subst (λ (x : ℕ). x < 2 ^ 64) (sym (bit-on t l)) (pow-lt l)) (eq-or-lt-of-le h)
 
--- a square is read off its bit: one test
-pub square-back : (t : ℕ) → t ≤ 64 → lowestOf (bitOf t) ≡ t
-unfolding lowestOf bitOf allBelow
-square-back t h = eqb→eq (lowestOf (bitOf t)) t (all-at 65 (λ s. eqb (lowestOf (bitOf s)) s) tt t (omega arith))
-
 -- a number that is none of the eight directions' is past them
 four : (k n : ℕ) → k ≤ n → (n ≡ k → ⊥) → (n ≡ k + 1 → ⊥) → (n ≡ k + 2 → ⊥) → (n ≡ k + 3 → ⊥) → k + 4 ≤ n
 four k n h h₀ h₁ h₂ h₃ = omega arith
@@ -63,13 +58,13 @@ turn-range d n h e =
     (subst (λ (x : ℕ). 1 ≤ x) (sym e) low, subst (λ (x : ℕ). x < 64) (sym e) high)
 
 -- ---- a turn is a step: one test over the directions and squares
-pub turn-step : (d t : ℕ) → d < 8 → t < 64 → turned (bitOf t) (turnOf d) (maskOf d) ≡ bitOf (onward (dirOf d) t)
+pub turn-step : (d t : ℕ) → d < 8 → t ≤ 64 → turned (bitOf t) (turnOf d) (maskOf d) ≡ bitOf (onward (dirOf d) t)
 unfolding bitOf onward allBelow2
 turn-step d t hd ht =
     eqb→eq (turned (bitOf t) (turnOf d) (maskOf d)) (bitOf (onward (dirOf d) t))
-    (all2-at 8 64 (λ e s. eqb (turned (bitOf s) (turnOf e) (maskOf e)) (bitOf (onward (dirOf e) s))) tt d t hd ht)
+    (all2-at 8 65 (λ e s. eqb (turned (bitOf s) (turnOf e) (maskOf e)) (bitOf (onward (dirOf e) s))) tt d t hd (omega arith))
 
--- ---- whether the walk goes on: its bit meets the empty squares
+-- ---- whether the walk goes on: its bit and the empty squares
 abbrev pub meets : ℕ → ℕ → ℕ
 meets at occ = bitAnd at (2 ^ 64 - 1 - occ)
 
@@ -78,31 +73,22 @@ meets-has t occ k ht ho hk =
     has-and (bitOf t) (2 ^ 64 - 1 - occ) k
     ∙ ap₂ (λ (a b : Bool). a && b) (ap (λ (x : ℕ). has x k) (bit-on t ht) ∙ has-one t k) (has-not occ k ho hk)
 
--- it stops on an occupied square ..
-pub stopped : (t occ : ℕ) → t < 64 → occ < 2 ^ 64 → meets (bitOf t) occ ≡ 0 → has occ t ≡ true
-stopped t occ ht ho e = go (has occ t) refl
+-- it is gone from an occupied square ..
+pub taken : (t occ : ℕ) → t < 64 → occ < 2 ^ 64 → has occ t ≡ true → meets (bitOf t) occ ≡ 0
+taken t occ ht ho q =
+    ext 64 (meets (bitOf t) occ) 0 (and-lt 64 (bitOf t) (2 ^ 64 - 1 - occ) (bit-lt t (omega arith)) (omega arith)) (omega arith)
+    (λ k hk. meets-has t occ k ht ho hk ∙ none k (eqb k t) refl ∙ sym (has-zero k))
   where
-    go : (b : Bool) → has occ t ≡ b → has occ t ≡ true
-    go true q = q
-    go false q =
-        absurd (true≢false (sym (ap₂ (λ (a b : Bool). a && not b) (eqb-same t) q) ∙ sym (meets-has t occ t ht ho ht) ∙ ap (λ (x : ℕ). has x t) e ∙ has-zero t))
-      where
-        eqb-same : (n : ℕ) → eqb n n ≡ true
-        eqb-same n = eq-eqb n n refl
+    none : (k : ℕ) (b : Bool) → eqb k t ≡ b → (eqb k t && not (has occ k)) ≡ false
+    none k true r = ap₂ (λ (x y : Bool). x && not y) r (ap (has occ) (eqb-true k t r) ∙ q)
+    none k false r = ap (λ (x : Bool). x && not (has occ k)) r
 
--- .. and goes on from an empty one
-pub clear : (t occ : ℕ) → t < 64 → occ < 2 ^ 64 → (meets (bitOf t) occ ≡ 0 → ⊥) → has occ t ≡ false
-clear t occ ht ho ne = go (has occ t) refl
+-- .. and stays on an empty one
+pub clear : (t occ : ℕ) → t < 64 → occ < 2 ^ 64 → has occ t ≡ false → meets (bitOf t) occ ≡ bitOf t
+clear t occ ht ho q =
+    ext 64 (meets (bitOf t) occ) (bitOf t) (and-lt 64 (bitOf t) (2 ^ 64 - 1 - occ) (bit-lt t (omega arith)) (omega arith)) (bit-lt t (omega arith))
+    (λ k hk. meets-has t occ k ht ho hk ∙ same k (eqb k t) refl ∙ sym (ap (λ (x : ℕ). has x k) (bit-on t ht) ∙ has-one t k))
   where
-    go : (b : Bool) → has occ t ≡ b → has occ t ≡ false
-    go false q = q
-    go true q =
-        absurd (ne (ext 64 (meets (bitOf t) occ) 0 (and-lt 64 (bitOf t) (2 ^ 64 - 1 - occ) (bit-lt t (omega arith)) (omega arith)) (omega arith) (λ k hk. meets-has t occ k ht ho hk ∙ none k (eqb k t) refl ∙ sym (has-zero k))))
-      where
-        none : (k : ℕ) (b : Bool) → eqb k t ≡ b → (eqb k t && not (has occ k)) ≡ false
-        none k true r = ap₂ (λ (x y : Bool). x && not y) r (ap (has occ) (eqb-true k t r) ∙ q)
-        none k false r = ap (λ (x : Bool). x && not (has occ k)) r
-
--- a bit that is gone meets nothing
-pub inside : (t occ : ℕ) → t ≤ 64 → (meets (bitOf t) occ ≡ 0 → ⊥) → t < 64
-inside t occ h ne = ⊎-elim (λ e. absurd (ne (ap (λ (x : ℕ). meets (bitOf x) occ) e ∙ ap (λ (x : ℕ). meets x occ) bit-off ∙ and-zero-l (2 ^ 64 - 1 - occ)))) (λ l. l) (eq-or-lt-of-le h)
+    same : (k : ℕ) (b : Bool) → eqb k t ≡ b → (eqb k t && not (has occ k)) ≡ eqb k t
+    same k true r = ap₂ (λ (x y : Bool). x && not y) r (ap (has occ) (eqb-true k t r) ∙ q) ∙ sym r
+    same k false r = ap (λ (x : Bool). x && not (has occ k)) r ∙ sym r

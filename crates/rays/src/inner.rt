@@ -1,4 +1,4 @@
-// Total, and no door: a square above 63 and a direction past the eight see nothing.
+// Total, and no door: from a square above 63 and in a direction past the eight nothing is seen.
 ghost use mathlib.Core.Path.{_≡_};
 ghost use Prim.Native.Nat.{_≤_, _<_};
 ghost use Rattle.rays.specs.Walk.{turnOf, maskOf, turned};
@@ -26,14 +26,14 @@ fn turn(direction: u8) -> u64
     ensures { λ r. ⌜ r ≡ turnOf direction ⌝ }
 {
     match direction {
-        0 => 8,
-        1 => 1,
-        2 => 7,
-        3 => 9,
-        4 => 56,
-        5 => 63,
-        6 => 57,
-        7 => 55,
+        NORTH => 8,
+        EAST => 1,
+        NORTHWEST => 7,
+        NORTHEAST => 9,
+        SOUTH => 56,
+        WEST => 63,
+        SOUTHEAST => 57,
+        SOUTHWEST => 55,
         _ => 1,
     }
 }
@@ -43,14 +43,14 @@ fn mask(direction: u8) -> u64
     ensures { λ r. ⌜ r ≡ maskOf direction ⌝ }
 {
     match direction {
-        0 => 0xffff_ffff_ffff_ff00,
-        1 => 0xfefe_fefe_fefe_fefe,
-        2 => 0x7f7f_7f7f_7f7f_7f00,
-        3 => 0xfefe_fefe_fefe_fe00,
-        4 => 0x00ff_ffff_ffff_ffff,
-        5 => 0x7f7f_7f7f_7f7f_7f7f,
-        6 => 0x00fe_fefe_fefe_fefe,
-        7 => 0x007f_7f7f_7f7f_7f7f,
+        NORTH => 0xffff_ffff_ffff_ff00,
+        EAST => 0xfefe_fefe_fefe_fefe,
+        NORTHWEST => 0x7f7f_7f7f_7f7f_7f00,
+        NORTHEAST => 0xfefe_fefe_fefe_fe00,
+        SOUTH => 0x00ff_ffff_ffff_ffff,
+        WEST => 0x7f7f_7f7f_7f7f_7f7f,
+        SOUTHEAST => 0x00fe_fefe_fefe_fefe,
+        SOUTHWEST => 0x007f_7f7f_7f7f_7f7f,
         _ => 0,
     }
 }
@@ -63,11 +63,15 @@ fn onward(at: u64, turn: u64, mask: u64) -> u64
     ((at << turn) | (at >> (64 - turn))) & mask
 }
 
-// The squares from a square on in a direction, up to and including the first that is occupied.
+// No ray is longer.
+const LONGEST: u32 = 7;
+
+// The squares from a square on in a direction, up to and including the first that is occupied. Every walk takes seven turns, whatever it meets:
+// a bit that has stopped is gone, and no branch has to be guessed.
 pub fn ray(direction: u8, square: u8, occupied: u64) -> u64
     ensures { λ r. ⌜ Rays direction square occupied r ⌝ }
 {
-    if direction > 7 {
+    if direction > SOUTHWEST {
         return 0;
     }
     if square > 63 {
@@ -77,12 +81,16 @@ pub fn ray(direction: u8, square: u8, occupied: u64) -> u64
     let mask = mask(direction);
     let empty = !occupied;
     let mut seen: u64 = 0;
-    let mut at = onward(1 << square, turn, mask);
-    while at & empty != 0 {
+    // where the walk goes on from: the square itself, then each empty one
+    let mut from: u64 = 1 << square;
+    let mut n: u32 = 0;
+    while n < LONGEST {
+        let at = onward(from, turn, mask);
         seen |= at;
-        at = onward(at, turn, mask);
+        from = at & empty;
+        n += 1;
     }
-    seen | at
+    seen
 }
 
 pub fn bishop(square: u8, occupied: u64) -> u64

@@ -1,73 +1,98 @@
 -- What a number attacks, kind by kind, and whether a square is attacked, as the code finds them. Assumes nothing.
 use mathlib.Core.Path.{_≡_, refl, sym, ap, ap₂, _∙_, subst}
-use mathlib.Core.Bool.{Bool, true, false, not, cond, _&&_}
+use mathlib.Core.Bool.{Bool, true, false, not, cond, _&&_, and-false}
 use mathlib.Core.List.{List, [], _∷_, _++_}
-use Prim.Native.Nat.{ℕ, _^_, _<_, _≤_}
-use native.Mathlib.Omega.{arith}
+use Prim.Native.Nat.{ℕ, zero, suc, _^_, _<_}
 use lib.Bits.{bitAnd}
-use lib.Dec.{eqb}
-use lib.ListN.{getD, List·getD-eq-default}
+use lib.Dec.{eqb, ltb}
+use lib.ListN.{getD}
 use borrow.Author.Tests.{eq-eqb, ne-eqb}
 use Rattle.bits.specs.Bitboard.{has, some, lowestOf, board}
 use Rattle.bits.proofs.Some.{meet}
 use Rattle.bits.proofs.Scanned.{scan-is, scan-lt}
 use Rattle.rays.specs.Rays.{seen, straight, slanted}
-use Rattle.steps.specs.Steps.{stepIn, reached, pawnSteps, knightSteps, kingSteps}
-use Rattle.attack.specs.Attacks.{other, standing, occupied, attacks}
-use Rattle.attack.specs.Lent.{pawnRow, attacksWith, attackersWith, isAttackedWith, isCheckWith}
+use Rattle.steps.specs.Steps.{stepIn, stepsOf, reached, pawnSteps, knightSteps, kingSteps}
+use Rattle.steps.proofs.Tables.{reached-none}
+use Rattle.attack.specs.Attacks.{other, standing, occupied, attacksBy, attacks}
+use Rattle.attack.proofs.Lent.{pawn-steps}
+use Rattle.attack.specs.Lent.{pawnRow, rowOf, attacksWith, attackersWith, isAttackedWith, isCheckWith}
 
--- ---- with the tables lent
-module _ (tables : List (List ℕ)) (kind colour s occ : ℕ) where
+-- ---- the row of a kind
+pub row-pawn : (kind colour r : ℕ) → kind ≡ 0 → r ≡ pawnRow colour → r ≡ rowOf kind colour
+row-pawn kind colour r e h = h ∙ sym (ap (λ (k : ℕ). rowOf k colour) e)
+
+pub row-none : (kind colour : ℕ) → (kind ≡ 0 → ⊥) → (kind ≡ 1 → ⊥) → (kind ≡ 5 → ⊥) → 4 ≡ rowOf kind colour
+row-none zero colour p n k = absurd (p refl)
+row-none (suc zero) colour p n k = absurd (n refl)
+row-none (suc (suc zero)) colour p n k = refl
+row-none (suc (suc (suc zero))) colour p n k = refl
+row-none (suc (suc (suc (suc zero)))) colour p n k = refl
+row-none (suc (suc (suc (suc (suc zero))))) colour p n k = absurd (k refl)
+row-none (suc (suc (suc (suc (suc (suc kind)))))) colour p n k = refl
+
+-- ---- a kind by the three sliders, and any other number by its row
+module _ (pawn knight king colour s occ : ℕ) where
   abbrev here : ℕ → ℕ
-  here k = attacksWith tables k colour s occ
+  here = λ k. attacksBy pawn knight king k s occ
 
-  of : (k b : ℕ) → kind ≡ k → b ≡ here k → b ≡ here kind
-  of k b e h = h ∙ sym (ap here e)
+  slides : (kind k b : ℕ) → kind ≡ k → b ≡ here k → b ≡ here kind
+  slides kind k b e h = h ∙ sym (ap here e)
 
-  pub pawns : (row b : ℕ) → kind ≡ 0 → row ≡ pawnRow colour → b ≡ stepIn tables row s → b ≡ here kind
+  -- f is what a row gives
+  walks : (f : ℕ → ℕ) → f (pawnRow colour) ≡ pawn → f 2 ≡ knight → f 3 ≡ king → f 4 ≡ 0
+      → (kind : ℕ) → (kind ≡ 2 → ⊥) → (kind ≡ 3 → ⊥) → (kind ≡ 4 → ⊥) → f (rowOf kind colour) ≡ here kind
+  walks f p n k z zero b r q = p
+  walks f p n k z (suc zero) b r q = n
+  walks f p n k z (suc (suc zero)) b r q = absurd (b refl)
+  walks f p n k z (suc (suc (suc zero))) b r q = absurd (r refl)
+  walks f p n k z (suc (suc (suc (suc zero)))) b r q = absurd (q refl)
+  walks f p n k z (suc (suc (suc (suc (suc zero))))) b r q = k
+  walks f p n k z (suc (suc (suc (suc (suc (suc kind)))))) b r q = z
+
+-- with the tables lent
+module _ (tables : List (List ℕ)) (kind colour s occ b : ℕ) where
+  pub bishops : kind ≡ 2 → b ≡ board (seen slanted s occ) → b ≡ attacksWith tables kind colour s occ
   unfolding attacksWith
-  pawns row b e r h = of 0 b e (h ∙ ap (λ (x : ℕ). stepIn tables x s) r)
+  bishops = slides (stepIn tables (pawnRow colour) s) (stepIn tables 2 s) (stepIn tables 3 s) colour s occ kind 2 b
 
-  pub knights : (b : ℕ) → kind ≡ 1 → b ≡ stepIn tables 2 s → b ≡ here kind
+  pub rooks : kind ≡ 3 → b ≡ board (seen straight s occ) → b ≡ attacksWith tables kind colour s occ
   unfolding attacksWith
-  knights b e h = of 1 b e h
+  rooks = slides (stepIn tables (pawnRow colour) s) (stepIn tables 2 s) (stepIn tables 3 s) colour s occ kind 3 b
 
-  pub bishops : (b : ℕ) → kind ≡ 2 → b ≡ board (seen slanted s occ) → b ≡ here kind
+  pub queens : kind ≡ 4 → b ≡ board (seen (straight ++ slanted) s occ) → b ≡ attacksWith tables kind colour s occ
   unfolding attacksWith
-  bishops b e h = of 2 b e h
+  queens = slides (stepIn tables (pawnRow colour) s) (stepIn tables 2 s) (stepIn tables 3 s) colour s occ kind 4 b
 
-  pub rooks : (b : ℕ) → kind ≡ 3 → b ≡ board (seen straight s occ) → b ≡ here kind
+  pub others : (row : ℕ) → (kind ≡ 2 → ⊥) → (kind ≡ 3 → ⊥) → (kind ≡ 4 → ⊥) → row ≡ rowOf kind colour → b ≡ stepIn tables row s → b ≡ attacksWith tables kind colour s occ
   unfolding attacksWith
-  rooks b e h = of 3 b e h
+  others row hb hr hq e h =
+      h ∙ ap (λ (x : ℕ). stepIn tables x s) e
+      ∙ walks (stepIn tables (pawnRow colour) s) (stepIn tables 2 s) (stepIn tables 3 s) colour s occ (λ x. stepIn tables x s) refl refl refl
+      (ap (λ (t : Bool). cond t (getD (getD tables 4 []) s 0) 0) (and-false (ltb s 64))) kind hb hr hq
 
-  pub queens : (b : ℕ) → kind ≡ 4 → b ≡ board (seen (straight ++ slanted) s occ) → b ≡ here kind
-  unfolding attacksWith
-  queens b e h = of 4 b e h
-
-  pub kings : (b : ℕ) → kind ≡ 5 → b ≡ stepIn tables 3 s → b ≡ here kind
-  unfolding attacksWith
-  kings b e h = of 5 b e h
-
-  pub no-kind : 6 ≤ kind → 0 ≡ here kind
-  unfolding attacksWith
-  no-kind h =
-      sym (List·getD-eq-default
-      (stepIn tables (pawnRow colour) s ∷ stepIn tables 2 s ∷ board (seen slanted s occ) ∷ board (seen straight s occ) ∷ board (seen (straight ++ slanted) s occ) ∷ stepIn tables 3 s ∷ [])
-      0 h)
-
--- ---- with 01's own steps: what a slider attacks
+-- with 01's own steps
 module _ (kind colour s occ b : ℕ) where
   pub bishop : kind ≡ 2 → b ≡ board (seen slanted s occ) → b ≡ attacks kind colour s occ
   unfolding attacks
-  bishop e h = h ∙ sym (ap (λ (k : ℕ). attacks k colour s occ) e)
+  bishop = slides (reached (pawnSteps colour) s) (reached knightSteps s) (reached kingSteps s) colour s occ kind 2 b
 
   pub rook : kind ≡ 3 → b ≡ board (seen straight s occ) → b ≡ attacks kind colour s occ
   unfolding attacks
-  rook e h = h ∙ sym (ap (λ (k : ℕ). attacks k colour s occ) e)
+  rook = slides (reached (pawnSteps colour) s) (reached knightSteps s) (reached kingSteps s) colour s occ kind 3 b
 
   pub queen : kind ≡ 4 → b ≡ board (seen (straight ++ slanted) s occ) → b ≡ attacks kind colour s occ
   unfolding attacks
-  queen e h = h ∙ sym (ap (λ (k : ℕ). attacks k colour s occ) e)
+  queen = slides (reached (pawnSteps colour) s) (reached knightSteps s) (reached kingSteps s) colour s occ kind 4 b
+
+  pub other-kind : (row : ℕ) → (kind ≡ 2 → ⊥) → (kind ≡ 3 → ⊥) → (kind ≡ 4 → ⊥) → row ≡ rowOf kind colour → b ≡ reached (stepsOf row) s → b ≡ attacks kind colour s occ
+  unfolding attacks
+  other-kind row hb hr hq e h =
+      h ∙ ap (λ (x : ℕ). reached (stepsOf x) s) e
+      ∙ walks (reached (pawnSteps colour) s) (reached knightSteps s) (reached kingSteps s) colour s occ (λ x. reached (stepsOf x) s) pawn refl refl
+      (reached-none s) kind hb hr hq
+    where
+      pawn : reached (stepsOf (pawnRow colour)) s ≡ reached (pawnSteps colour) s
+      pawn = ap (λ ds. reached ds s) (pawn-steps colour)
 
 -- ---- attacked, and in check
 pub attacked : (tables : List (List ℕ)) (bbs : List ℕ) (s colour occ by side place own : ℕ) → by < 2 ^ 64 → own < 2 ^ 64

@@ -6,17 +6,20 @@ use Prim.Native.Nat.{ℕ}
 use lib.Dec.{eqb}
 use Rattle.bits.specs.Bitboard.{lowestOf, board}
 use Rattle.rays.specs.Rays.{seen, straight, slanted}
-use Rattle.steps.specs.Steps.{stepTables, stepIn, reached, pawnSteps, whitePawnSteps, blackPawnSteps, knightSteps, kingSteps}
+use Rattle.steps.specs.Steps.{stepTables, stepIn, stepsOf, reached, pawnSteps, whitePawnSteps, blackPawnSteps, knightSteps, kingSteps}
 use Rattle.steps.proofs.Tables.{step-is}
 use Rattle.attack.specs.Attacks.{standing, occupied, attacksBy, attacks, attackers, isAttacked, isCheck}
 use Rattle.attack.specs.Lent.{pawnRow, attacksWith, attackersWith, isAttackedWith, isCheckWith}
 
-pawn-is : (colour s : ℕ) → stepIn stepTables (pawnRow colour) s ≡ reached (pawnSteps colour) s
-pawn-is colour s = step-is (pawnRow colour) s ∙ ap (λ ds. reached ds s) (go (eqb colour 0))
+pub pawn-steps : (colour : ℕ) → stepsOf (pawnRow colour) ≡ pawnSteps colour
+pawn-steps colour = go (eqb colour 0)
   where
-    go : (b : Bool) → Rattle.steps.specs.Steps.stepsOf (cond b 0 1) ≡ cond b whitePawnSteps blackPawnSteps
+    go : (b : Bool) → stepsOf (cond b 0 1) ≡ cond b whitePawnSteps blackPawnSteps
     go true = refl
     go false = refl
+
+pawn-is : (colour s : ℕ) → stepIn stepTables (pawnRow colour) s ≡ reached (pawnSteps colour) s
+pawn-is colour s = step-is (pawnRow colour) s ∙ ap (λ ds. reached ds s) (pawn-steps colour)
 
 pub lent-attacks : (kind colour s occ : ℕ) → attacksWith stepTables kind colour s occ ≡ attacks kind colour s occ
 unfolding attacksWith attacks

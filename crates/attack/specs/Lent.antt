@@ -1,7 +1,7 @@
 -- The same with the four step tables lent, whatever they hold: what the inner functions answer. Where the tables are `stepTables`, these are
 -- the definitions of Attacks. Definitions only.
 use mathlib.Core.Bool.{Bool, true, cond, _&&_}
-use mathlib.Core.List.{List}
+use mathlib.Core.List.{List, [], _∷_}
 use Prim.Native.Nat.{ℕ}
 use lib.Dec.{eqb}
 use lib.ListN.{getD}
@@ -13,6 +13,10 @@ use Rattle.attack.specs.Attacks.{standing, occupied, other, attacksBy, a
 -- a pawn's row of the tables
 abbrev pub pawnRow : ℕ → ℕ
 pawnRow colour = cond (eqb colour 0) 0 1
+
+-- the row of a kind that steps; past the four for one that doesn't, and for a number that is no kind
+abbrev pub rowOf : ℕ → ℕ → ℕ
+rowOf kind colour = getD (pawnRow colour ∷ 2 ∷ 4 ∷ 4 ∷ 4 ∷ 3 ∷ []) kind 4
 
 unfoldable pub attacksWith : List (List ℕ) → ℕ → ℕ → ℕ → ℕ → ℕ
 unfolding board seen

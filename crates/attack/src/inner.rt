@@ -3,7 +3,6 @@
 ghost use mathlib.Core.Path.{_≡_};
 ghost use lib.Bits.{bitOr};
 ghost use Rattle.attack.specs.Attacks.{standing};
-ghost use Rattle.attack.specs.Lent.{pawnRow};
 ghost use Rattle.attack.specs.Promises.{Other, Standing, Occupied, AttacksWith, AttackersWith, AttackedWith, CheckWith};
 use bits::inner::at;
 use chess::inner::code;
@@ -58,27 +57,15 @@ pub fn occupied(bitboards: &[u64]) -> u64
     bits::inner::union(at(bitboards, 0), at(bitboards, 1))
 }
 
-fn pawn_row(color: u8) -> usize
-    ensures { λ r. ⌜ r ≡ pawnRow color ⌝ }
-{
-    if color == WHITE {
-        return WHITE_PAWN_ROW;
-    }
-    BLACK_PAWN_ROW
-}
-
 // The squares that a piece of a kind and a colour attacks; none from a square above 63, and none for a number that is no kind.
 pub fn attacks(kind: u8, color: u8, square: u8, occupied: u64, tables: &[[u64; 64]; 4]) -> u64
     ensures { λ r. ⌜ AttacksWith (now (tables .entry)) kind color square occupied r ⌝ }
 {
     match kind {
-        PAWN => step(tables, pawn_row(color), square),
-        KNIGHT => step(tables, KNIGHT_ROW, square),
         BISHOP => bishop(square, occupied),
         ROOK => rook(square, occupied),
         QUEEN => queen(square, occupied),
-        KING => step(tables, KING_ROW, square),
-        _ => 0,
+        _ => step(tables, crate::row(kind, color), square),
     }
 }
 

@@ -1,10 +1,20 @@
 // What a piece attacks, who attacks a square, and check, as attack.rs has them: the doors.
 ghost use mathlib.Core.Path.{_≡_};
 ghost use Rattle.attack.specs.Attacks.{attacks};
+ghost use Rattle.attack.specs.Lent.{pawnRow, rowOf};
 ghost use Rattle.attack.specs.Promises.{PieceAttacks, AttacksTo, IsAttacked, IsCheck};
 use chess::refusal::Refusal;
 use position::Checked;
 use position::State;
+use rays::inner::bishop;
+use rays::inner::queen;
+use rays::inner::rook;
+use steps::inner::BLACK_PAWN_ROW;
+use steps::inner::KING_ROW;
+use steps::inner::KNIGHT_ROW;
+use steps::inner::WHITE_PAWN_ROW;
+use steps::inner::reached;
+use steps::inner::tables;
 
 pub mod inner;
 
@@ -19,18 +29,36 @@ pub enum Told {
     Refused(Refusal),
 }
 
-// A slider needs no table.
+fn pawn_row(color: u8) -> usize
+    ensures { λ r. ⌜ r ≡ pawnRow color ⌝ }
+{
+    if color == 0 {
+        return WHITE_PAWN_ROW;
+    }
+    BLACK_PAWN_ROW
+}
+
+// The row of a kind in the step tables; past the four for a kind that takes no steps.
+fn row(kind: u8, color: u8) -> usize
+    ensures { λ r. ⌜ r ≡ rowOf kind color ⌝ }
+{
+    match kind {
+        inner::PAWN => pawn_row(color),
+        inner::KNIGHT => KNIGHT_ROW,
+        inner::KING => KING_ROW,
+        _ => 4,
+    }
+}
+
+// What `inner::attacks` gives, where no tables are at hand.
 fn attacks(kind: u8, color: u8, square: u8, occupied: u64) -> u64
     ensures { λ r. ⌜ r ≡ attacks kind color square occupied ⌝ }
 {
     match kind {
-        inner::BISHOP => rays::inner::bishop(square, occupied),
-        inner::ROOK => rays::inner::rook(square, occupied),
-        inner::QUEEN => rays::inner::queen(square, occupied),
-        _ => {
-            let tables = steps::inner::tables();
-            inner::attacks(kind, color, square, occupied, &tables)
-        }
+        inner::BISHOP => bishop(square, occupied),
+        inner::ROOK => rook(square, occupied),
+        inner::QUEEN => queen(square, occupied),
+        _ => reached(row(kind, color), square),
     }
 }
 
@@ -60,7 +88,7 @@ pub fn attacks_to(bitboards: &[u64], board: &[u8], state: State, square: u8, occ
     if square > 63 {
         return Found::Refused(Refusal::Square);
     }
-    let tables = steps::inner::tables();
+    let tables = tables();
     Found::Squares(inner::attacks_to(bitboards, square, occupied, &tables))
 }
 
@@ -77,7 +105,7 @@ pub fn is_attacked(bitboards: &[u64], board: &[u8], state: State, square: u8, co
     if square > 63 {
         return Told::Refused(Refusal::Square);
     }
-    let tables = steps::inner::tables();
+    let tables = tables();
     Told::Is(inner::is_attacked(bitboards, square, color, &tables))
 }
 
@@ -91,6 +119,6 @@ pub fn is_check(bitboards: &[u64], board: &[u8], state: State, color: u8) -> Tol
     if let Checked::Refused(refusal) = position::check(bitboards, board, state) {
         return Told::Refused(refusal);
     }
-    let tables = steps::inner::tables();
+    let tables = tables();
     Told::Is(inner::is_check(bitboards, color, &tables))
 }

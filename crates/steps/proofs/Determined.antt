@@ -3,10 +3,13 @@ use mathlib.Core.Path.{_≡_}
 use mathlib.Core.List.{List}
 use Prim.Native.Nat.{ℕ}
 use Rattle.chess.proofs.Paper.{one}
-use Rattle.steps.specs.Promises.{Tables, Steps}
+use Rattle.steps.specs.Promises.{Tables, Reaches, Steps}
 
 pub tables : (r s : List (List ℕ)) → Tables r → Tables s → r ≡ s
 tables r s = one
 
 pub step : (tables : List (List ℕ)) (row square r s : ℕ) → Steps tables row square r → Steps tables row square s → r ≡ s
 step tables row square r s = one
+
+pub reached : (row square r s : ℕ) → Reaches row square r → Reaches row square s → r ≡ s
+reached row square r s = one

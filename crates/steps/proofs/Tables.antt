@@ -5,7 +5,7 @@ use mathlib.Core.List.{List, [], _∷_}
 use Prim.Native.Nat.{ℕ, zero, suc, _^_, _≤_, _<_}
 use native.Mathlib.Omega.{arith}
 use lib.Dec.{ltb, lit<}
-use lib.ListN.{getD}
+use lib.ListN.{getD, List·getD-eq-default}
 use borrow.Author.Tests.{lt-ltb, le-ltb, ltb-true, ltb-false}
 use Rattle.laws.proofs.Tables.{entry}
 use Rattle.bits.specs.Bitboard.{has, those}
@@ -58,3 +58,14 @@ step-is (suc (suc (suc zero))) s = row kingSteps s
 step-is (suc (suc (suc (suc r)))) s =
     ap (λ (b : Bool). cond (ltb s 64 && b) (getD (getD stepTables (suc (suc (suc (suc r)))) []) s 0) 0) (le-ltb (suc (suc (suc (suc r)))) 4 (omega arith))
     ∙ ap (λ (b : Bool). cond b (getD (getD stepTables (suc (suc (suc (suc r)))) []) s 0) 0) (and-false (ltb s 64)) ∙ sym (reached-none s)
+
+-- ---- as the code has them
+pub at-row : (l : List ℕ) (r k : ℕ) → r ≡ k → l ≡ stepTable (stepsOf k) → l ≡ stepTable (stepsOf r)
+at-row l r k e h = h ∙ sym (ap (λ (x : ℕ). stepTable (stepsOf x)) e)
+
+pub past-rows : (r : ℕ) → 4 ≤ r → stepTable [] ≡ stepTable (stepsOf r)
+past-rows r h = sym (ap stepTable (List·getD-eq-default (whitePawnSteps ∷ blackPawnSteps ∷ knightSteps ∷ kingSteps ∷ []) [] h))
+
+pub table-entry : (l : List ℕ) (r s : ℕ) → s < 64 → l ≡ stepTable (stepsOf r) → getD l s 0 ≡ reached (stepsOf r) s
+unfolding stepTable
+table-entry l r s h e = ap (λ (x : List ℕ). getD x s 0) e ∙ entry 64 (reached (stepsOf r)) 0 s h

@@ -2,11 +2,14 @@
 use mathlib.Core.Path.{_≡_}
 use mathlib.Core.List.{List}
 use Prim.Native.Nat.{ℕ}
-use Rattle.steps.specs.Steps.{stepTables, stepIn}
+use Rattle.steps.specs.Steps.{reached, stepsOf, stepTables, stepIn}
 
 -- each table is the rule's, over its piece's steps
 abbrev pub Tables : List (List ℕ) → Type 0
 Tables r = r ≡ stepTables
+
+abbrev pub Reaches : ℕ → ℕ → ℕ → Type 0
+Reaches row s r = r ≡ reached (stepsOf row) s
 
 abbrev pub Steps : List (List ℕ) → ℕ → ℕ → ℕ → Type 0
 Steps tables row s r = r ≡ stepIn tables row s

@@ -1,5 +1,7 @@
 // The tables as the crates above take them: made once for a call, then lent. Total, and no door.
-ghost use Rattle.steps.specs.Promises.{Tables, Steps};
+ghost use mathlib.Core.Path.{_≡_};
+ghost use Rattle.steps.specs.Steps.{stepTable, stepsOf};
+ghost use Rattle.steps.specs.Promises.{Tables, Reaches, Steps};
 use crate::BLACK_PAWN;
 use crate::KING;
 use crate::KNIGHT;
@@ -14,11 +16,40 @@ pub const KNIGHT_ROW: usize = 2;
 
 pub const KING_ROW: usize = 3;
 
+// One table; past the four, an empty one.
+fn table(row: usize) -> [u64; 64]
+    ensures { λ r. ⌜ r ≡ stepTable (stepsOf row) ⌝ }
+{
+    match row {
+        WHITE_PAWN_ROW => WHITE_PAWN,
+        BLACK_PAWN_ROW => BLACK_PAWN,
+        KNIGHT_ROW => KNIGHT,
+        KING_ROW => KING,
+        _ => [0; 64],
+    }
+}
+
 // A constant array is built anew wherever it is read: make these once, and lend them.
 pub fn tables() -> [[u64; 64]; 4]
     ensures { λ r. ⌜ Tables r ⌝ }
 {
-    [WHITE_PAWN, BLACK_PAWN, KNIGHT, KING]
+    [
+        table(WHITE_PAWN_ROW),
+        table(BLACK_PAWN_ROW),
+        table(KNIGHT_ROW),
+        table(KING_ROW),
+    ]
+}
+
+// For a single square, where no tables are at hand.
+pub fn reached(row: usize, square: u8) -> u64
+    ensures { λ r. ⌜ Reaches row square r ⌝ }
+{
+    let table = table(row);
+    if square > 63 {
+        return 0;
+    }
+    table[square as usize]
 }
 
 // The squares that the steps of a row reach from a square; none past the tables.

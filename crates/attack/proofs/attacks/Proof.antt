@@ -1,6 +1,5 @@
 -- `attack::attacks` meets its contract. Assumes nothing.
-use Rattle.attack.proofs.ByKind.{bishop, rook, queen}
-use Rattle.attack.proofs.Doors.{told-attacks}
+use Rattle.attack.proofs.ByKind.{bishop, rook, queen, other-kind}
 use borrow.Author.Needs.{needs}
 use Rattle.attack.proofs.attacks.Statement.{statement}
 use Rattle.attack.proofs.attacks.Tie as tie
@@ -14,11 +13,11 @@ rook-requires c κs = search needs
 queen-requires : tie.Need-queen-requires
 queen-requires c κs = search needs
 
-tables-requires : tie.Need-tables-requires
-tables-requires c κs = search needs
+row-requires : tie.Need-row-requires
+row-requires c κs = search needs
 
-attacks-requires : tie.Need-attacks-requires
-attacks-requires c κs = search needs
+reached-requires : tie.Need-reached-requires
+reached-requires c κs = search needs
 
 returns : tie.Need-returns
 returns c =
@@ -37,8 +36,10 @@ returns-3 c =
 
 returns-4 : tie.Need-returns-4
 returns-4 c =
-    let a = c .before .before .before .before .args in
-    told-attacks _ (a .kind) (a .color) (a .square) (a .occupied) (c .attacks .result) (c .before .before .tables .ensures) (c .attacks .ensures)
+    let m = c .before .before in
+    let a = m .before .args in
+    let r = m .match .rest in
+    other-kind (a .kind) (a .color) (a .square) (a .occupied) (c .reached .result) (c .before .row .result) (r .0 .0 .1) (r .0 .1) (r .1) (c .before .row .ensures) (c .reached .ensures)
 
 pub attacks-spec : {M : Type 1} → statement M
 attacks-spec =
@@ -47,8 +48,8 @@ attacks-spec =
     bishop-requires
     rook-requires
     queen-requires
-    tables-requires
-    attacks-requires
+    row-requires
+    reached-requires
     returns
     returns-2
     returns-3

@@ -1,7 +1,7 @@
--- `attack::inner::pawn_row` meets its contract. Assumes nothing.
+-- `attack::pawn_row` meets its contract. Assumes nothing.
 use borrow.Author.Tests.{eq-eqb, ne-eqb}
-use Rattle.attack.proofs.inner.pawn_row.Statement.{statement}
-use Rattle.attack.proofs.inner.pawn_row.Tie as tie
+use Rattle.attack.proofs.pawn_row.Statement.{statement}
+use Rattle.attack.proofs.pawn_row.Tie as tie
 
 returns : tie.Need-returns
 returns c = simp (eq-eqb (c .before .args .color) 0 (c .if1 .taken))

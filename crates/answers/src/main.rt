@@ -1,6 +1,7 @@
 // Answers the oracle's questions on standard input, one a line: the file stdout holds what the Rust answered (oracle/README.md).
 mod attacks;
 mod bitboards;
+mod exchanges;
 mod lines;
 mod positions;
 mod words;
@@ -54,14 +55,23 @@ fn answer_line(line: &[u8], n: usize) {
 fn answer(question: &[u8], out: &mut [u8]) -> usize {
     let word = words::first(question);
     let rest = words::after(question, 1);
+    let a = tried(word, rest, out);
+    words::ended(out, a)
+}
+
+// Each kind of question in turn: a word that is none of its own writes nothing.
+fn tried(word: &[u8], rest: &[u8], out: &mut [u8]) -> usize {
     let a = bitboards::answer(word, rest, out);
     if a > 0 {
-        return words::ended(out, a);
+        return a;
     }
     let a = attacks::answer(word, rest, out);
     if a > 0 {
-        return words::ended(out, a);
+        return a;
     }
-    let a = lines::answer(word, rest, out);
-    words::ended(out, a)
+    let a = exchanges::answer(word, rest, out);
+    if a > 0 {
+        return a;
+    }
+    lines::answer(word, rest, out)
 }

@@ -165,6 +165,10 @@ pub(crate) fn put_bool(out: &mut [u8], at: usize, t: bool) -> usize {
     put(out, at, b"0")
 }
 
+pub(crate) fn put_score(out: &mut [u8], at: usize, n: i16) -> usize {
+    text::signed(out, at, n as i64).or(at)
+}
+
 pub(crate) fn put_refusal(out: &mut [u8], at: usize, r: Refusal) -> usize {
     let a = put(out, at, b"refused ");
     put_natural(out, a, r.number() as u64)

@@ -17,8 +17,8 @@ text (c then s) = code c ∷ text s
 abbrev pub tab : ℕ
 tab = code "\t"
 
-abbrev pub return : ℕ
-return = code "\r"
+abbrev pub cr : ℕ
+cr = code "\r"
 
 abbrev pub space : ℕ
 space = code " "
@@ -31,11 +31,11 @@ semicolon = code ";"
 
 -- BYTE: "a byte other than 32..126, tab and CR"
 abbrev pub isText : ℕ → Bool
-isText b = (leb 32 b && leb b 126) || (eqb b tab || eqb b return)
+isText b = (leb 32 b && leb b 126) || (eqb b tab || eqb b cr)
 
 -- "trimmed of spaces, tabs and CR"
 abbrev pub isBlank : ℕ → Bool
-isBlank b = eqb b space || (eqb b tab || eqb b return)
+isBlank b = eqb b space || (eqb b tab || eqb b cr)
 
 abbrev pub isSpace : ℕ → Bool
 isSpace b = eqb b space

@@ -1,18 +1,19 @@
 -- Each way through a line gives what its definition says: "First in order wins." Assumes nothing.
 use mathlib.Core.Path.{_≡_, refl, sym, ap, _∙_}
 use mathlib.Core.Bool.{Bool, true, false}
-use mathlib.Core.List.{List}
+use mathlib.Core.List.{List, []}
 use Prim.Native.Nat.{ℕ, _≤_, _<_}
 use native.Mathlib.Omega.{arith}
 use lib.Dec.{ltb}
 use lib.ListN.{length}
 use borrow.Author.Tests.{lt-leb, le-leb, lt-ltb, le-ltb}
+use Rattle.chess.specs.Answer.{refused}
 use Rattle.chess.specs.declared.refusal.Refusal.{Refusal}
 use Rattle.chess.specs.declared.refusal.Refusal.the-variants as R
 use Rattle.position.specs.declared.State.{State}
 use Rattle.fields.specs.Text.{semicolon, isText, every, holds, before, placeIn}
 use Rattle.fields.proofs.Parts.{before-le, holds-is}
-use Rattle.ranks.specs.Ranks.{areRanks, boardOf}
+use Rattle.ranks.specs.Ranks.{areEightRanks, boardOf}
 use Rattle.line.specs.Line.{Line, sides, results, ranksOf, sideWord, positionField, resultField, fieldsSay, lineOf}
 use Rattle.line.specs.Promises.{Says, Turned, paper}
 use Rattle.line.specs.declared.inner.Parsed.{Parsed}
@@ -24,26 +25,26 @@ parsed side half board = record { answer = Position (record { side = side }) hal
 
 -- ---- PLACE, SIDE, RESULT
 module _ (field result : List ℕ) where
-  pub bad-place : (r : Parsed) → Turned R.Place r → areRanks 7 (ranksOf field) ≡ false → Says (fieldsSay field result) r
+  pub bad-place : (r : Parsed) → Turned R.Place r → areEightRanks (ranksOf field) ≡ false → Says (fieldsSay field result) r
   unfolding fieldsSay
   bad-place r h p = record { answer = ap paper (h .answer) ∙ rw p; board = h .board ∙ rw p }
 
-  module _ (p : areRanks 7 (ranksOf field) ≡ true) (side : ℕ) (e : side ≡ placeIn sides (sideWord field)) where
-    pub bad-side : (r : Parsed) → Turned R.Side r → 1 < side → Says (fieldsSay field result) r
+  module _ (p : areEightRanks (ranksOf field) ≡ true) (side : ℕ) (e : side ≡ placeIn sides (sideWord field)) where
+    pub bad-side : (r : Parsed) → Turned R.Side r → 2 ≤ side → Says (fieldsSay field result) r
     unfolding fieldsSay
     bad-side r h l =
         let s : ltb (placeIn sides (sideWord field)) 2 ≡ false = le-ltb (placeIn sides (sideWord field)) 2 (omega arith) in
         record { answer = ap paper (h .answer) ∙ rw (p, s); board = h .board ∙ rw (p, s) }
 
-    module _ (l : side ≤ 1) (half : ℕ) (q : half ≡ placeIn results result) where
-      pub bad-result : (r : Parsed) → Turned R.Result r → 2 < half → Says (fieldsSay field result) r
+    module _ (l : side < 2) (half : ℕ) (q : half ≡ placeIn results result) where
+      pub bad-result : (r : Parsed) → Turned R.Result r → 3 ≤ half → Says (fieldsSay field result) r
       unfolding fieldsSay
       bad-result r h k =
           let s : ltb (placeIn sides (sideWord field)) 2 ≡ true = lt-ltb (placeIn sides (sideWord field)) 2 (omega arith) in
           let u : ltb (placeIn results result) 3 ≡ false = le-ltb (placeIn results result) 3 (omega arith) in
           record { answer = ap paper (h .answer) ∙ rw (p, s, u); board = h .board ∙ rw (p, s, u) }
 
-      pub good : half ≤ 2 → (board : List ℕ) → board ≡ boardOf 7 (ranksOf field) → Says (fieldsSay field result) (parsed side half board)
+      pub good : half < 3 → (board : List ℕ) → board ≡ boardOf (ranksOf field) → Says (fieldsSay field result) (parsed side half board)
       unfolding fieldsSay
       good k board b =
           let s : ltb (placeIn sides (sideWord field)) 2 ≡ true = lt-ltb (placeIn sides (sideWord field)) 2 (omega arith) in
@@ -51,6 +52,11 @@ module _ (field result : List ℕ) where
           record { answer = rw (p, s, u, e, q); board = b ∙ rw (p, s, u) }
 
 -- ---- LONG, BYTE, FIELD
+-- a line of more than 256 bytes, whatever they are
+pub long-line : (line : List ℕ) → 256 < length line → lineOf line ≡ refused 8 []
+unfolding lineOf
+long-line line l = rw (lt-leb (length line) 256 l)
+
 module _ (line : List ℕ) where
   pub too-long : (r : Parsed) → Turned R.Long r → 256 < length line → Says (lineOf line) r
   unfolding lineOf

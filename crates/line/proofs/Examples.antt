@@ -7,11 +7,11 @@ use Prim.Native.String.{String}
 use lib.ListN.{length, replicate}
 use Rattle.chess.specs.Answer.{Answer, given, refused}
 use Rattle.fields.specs.Text.{text, every, holds, before, after, without, trim, placeIn}
-use Rattle.ranks.specs.Ranks.{areRanks, boardOf}
+use Rattle.ranks.specs.Ranks.{areRanks, stacked}
 use Rattle.line.specs.Line.{Line, fieldsSay, lineOf, fieldOf}
 
 said : List ℕ → Answer Line
-unfolding lineOf fieldsSay every holds before after without trim placeIn areRanks boardOf
+unfolding lineOf fieldsSay every holds before after without trim placeIn areRanks stacked
 said s = lineOf s
 
 -- the refusal's number, or 20 + 10·side + half points
@@ -98,7 +98,7 @@ lengths = refl
 
 -- ---- the position field
 fields : List String → List (List ℕ)
-unfolding fieldOf lineOf fieldsSay every holds before after without trim placeIn areRanks boardOf
+unfolding fieldOf lineOf fieldsSay every holds before after without trim placeIn areRanks stacked
 fields lines = map (λ s. fieldOf (text s)) lines
 
 field-parts : fields (" 8/8/8/8/8/8/8/8 w - \r;1-0" ∷ "8/8/8/8/8/8/8/8 w;1/2" ∷ "8/8/8/8/8/8/8/8 w" ∷ []) ≡ text "8/8/8/8/8/8/8/8 w -" ∷ [] ∷ [] ∷ []

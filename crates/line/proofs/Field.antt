@@ -11,7 +11,7 @@ use lib.Dec.{leb}
 use lib.ListN.{length}
 use Rattle.fields.specs.Text.{semicolon, space, isText, every, holds, before, placeIn}
 use Rattle.fields.proofs.Within.{Within, Part, inner, cut, before-within, trim-within}
-use Rattle.ranks.specs.Ranks.{areRanks, boardOf}
+use Rattle.ranks.specs.Ranks.{areEightRanks, boardOf}
 use Rattle.ranks.proofs.Placing.{none-left}
 use Rattle.line.specs.Line.{Line, sides, results, isOneOf, ranksOf, sideWord, positionField, resultField, unlessRefused, fieldsSay, lineOf, fieldOf}
 use Rattle.line.proofs.Given.{given-spells}
@@ -30,9 +30,9 @@ field-part line = go (lineOf line)
 
 -- ---- empty exactly when refused
 -- no ranks stand in an empty field
-no-ranks : (field : List ℕ) → field ≡ [] → areRanks 7 (ranksOf field) ≡ false
+no-ranks : (field : List ℕ) → field ≡ [] → areEightRanks (ranksOf field) ≡ false
 unfolding before
-no-ranks field e = ap (λ (f : List ℕ). areRanks 7 (ranksOf f)) e ∙ none-left 7
+no-ranks field e = ap (λ (f : List ℕ). areEightRanks (ranksOf f)) e ∙ none-left 7
 
 pub empty-exactly : (line : List ℕ) → (fieldOf line ≡ []) ↔ ((n : ℕ) × (v : List ℕ) × (lineOf line ≡ refused n v))
 unfolding fieldOf
@@ -53,10 +53,10 @@ test false k a l u h n v e = let q : k ≡ n = cc in (omega arith, omega arith, 
 fields-refused-by : (field result : List ℕ) → InRange (fieldsSay field result)
 unfolding fieldsSay
 fields-refused-by field result =
-    let x : Line = record { state = record { side = placeIn sides (sideWord field) }; half = placeIn results result; board = boardOf 7 (ranksOf field) } in
+    let x : Line = record { state = record { side = placeIn sides (sideWord field) }; half = placeIn results result; board = boardOf (ranksOf field) } in
     let c : Answer Line = orRefuse (isOneOf results result) 13 (given x) in
     let b : Answer Line = orRefuse (isOneOf sides (sideWord field)) 12 c in
-    test (areRanks 7 (ranksOf field)) 11 b (omega arith) (omega arith)
+    test (areEightRanks (ranksOf field)) 11 b (omega arith) (omega arith)
     (test (isOneOf sides (sideWord field)) 12 c (omega arith) (omega arith) (test (isOneOf results result) 13 (given x) (omega arith) (omega arith) (λ n v e. given-not e)))
 
 pub refused-by : (line : List ℕ) → InRange (lineOf line)

@@ -12,23 +12,23 @@ use Rattle.chess.specs.declared.refusal.Refusal.the-variants as R
 use Rattle.chess.proofs.Answers.{passed}
 use Rattle.position.specs.declared.State.{State}
 use Rattle.fields.specs.Text.{semicolon, isText, every, holds, placeIn}
-use Rattle.ranks.specs.Ranks.{areRanks, boardOf}
+use Rattle.ranks.specs.Ranks.{areEightRanks, boardOf}
 use Rattle.line.specs.Line.{Line, sides, results, isOneOf, ranksOf, sideWord, positionField, resultField, fieldsSay, lineOf}
 
 -- what its fields are
 pub record Spells (field result : List ℕ) (l : Line) : Type 0 where
-  pub ranks : areRanks 7 (ranksOf field) ≡ true
+  pub ranks : areEightRanks (ranksOf field) ≡ true
   pub side : l .state .side < 2
   pub half : l .half < 3
-  pub board : l .board ≡ boardOf 7 (ranksOf field)
+  pub board : l .board ≡ boardOf (ranksOf field)
 
 spells : (field result : List ℕ) (l : Line) → fieldsSay field result ≡ given l → Spells field result l
 unfolding fieldsSay
 spells field result l e =
-    let x : Line = record { state = record { side = placeIn sides (sideWord field) }; half = placeIn results result; board = boardOf 7 (ranksOf field) } in
+    let x : Line = record { state = record { side = placeIn sides (sideWord field) }; half = placeIn results result; board = boardOf (ranksOf field) } in
     let c : Answer Line = orRefuse (isOneOf results result) (numberOf R.Result) (given x) in
     let b : Answer Line = orRefuse (isOneOf sides (sideWord field)) (numberOf R.Side) c in
-    let p = passed (areRanks 7 (ranksOf field)) (numberOf R.Place) l b e in
+    let p = passed (areEightRanks (ranksOf field)) (numberOf R.Place) l b e in
     let q = passed (isOneOf sides (sideWord field)) (numberOf R.Side) l c (p .1) in
     let r = passed (isOneOf results result) (numberOf R.Result) l (given x) (q .1) in
     let same : x ≡ l = cc (r .1) in

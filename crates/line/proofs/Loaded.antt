@@ -4,30 +4,32 @@ use mathlib.Core.Path.{_≡_, sym, ap, subst, _∙_}
 use mathlib.Core.Bool.{Bool, true}
 use mathlib.Core.List.{List}
 use Prim.Native.Nat.{ℕ, _^_, _<_}
+use lib.Dec.{eqb}
 use lib.ListN.{length, getD}
 use Rattle.laws.specs.Tests.{allBelow}
 use Rattle.laws.proofs.Tests.{all-of}
-use Rattle.laws.proofs.Truth.{T-true}
+use Rattle.laws.proofs.Truth.{T-true, or-r}
+use Rattle.chess.specs.Codes.{isPiece}
 use Rattle.chess.specs.Answer.{Answer, given}
 use Rattle.position.specs.Consistent.{consistent, checked}
 use Rattle.position.specs.Boards.{isByte, coded, bitboardsOf}
 use Rattle.position.proofs.Only.{made-consistent, made-length, only-made}
 use Rattle.position.proofs.Doors.{in-shape, sound}
 use Rattle.fields.proofs.Every.{every-at}
-use Rattle.ranks.specs.Ranks.{areRanks, boardOf}
-use Rattle.ranks.proofs.Board.{board-64, board-bytes}
+use Rattle.ranks.specs.Ranks.{areEightRanks, boardOf}
+use Rattle.ranks.proofs.Board.{board-64, board-passes}
 use Rattle.line.specs.Line.{Line, ranksOf, positionField, lineOf}
 use Rattle.line.proofs.Given.{given-spells}
 
-all-coded : (s : List ℕ) → coded (boardOf 7 s) ≡ true
+all-coded : (s : List ℕ) → coded (boardOf s) ≡ true
 unfolding coded
 all-coded s =
-    T-true (allBelow 64 (λ k. isByte (getD (boardOf 7 s) k 0)))
-    (all-of 64 (λ k. isByte (getD (boardOf 7 s) k 0)) (λ k h. every-at isByte tt (boardOf 7 s) (board-bytes 7 s) k))
+    T-true (allBelow 64 (λ k. isByte (getD (boardOf s) k 0)))
+    (all-of 64 (λ k. isByte (getD (boardOf s) k 0)) (λ k h. every-at isByte tt (boardOf s) (board-passes isByte tt (λ c p. or-r (eqb c 0) (isPiece c) p) 7 s) k))
 
 module _ (line : List ℕ) (l : Line) (e : lineOf line ≡ given l) where
   -- its bytes are those that the ranks spell, 64 of them
-  pub loaded-board : l .board ≡ boardOf 7 (ranksOf (positionField line))
+  pub loaded-board : l .board ≡ boardOf (ranksOf (positionField line))
   loaded-board = given-spells line l e .board
 
   pub loaded-64 : length (l .board) ≡ 64

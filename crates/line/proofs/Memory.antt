@@ -3,70 +3,69 @@ use mathlib.Core.Path.{_≡_, refl, sym, ap, ap₂, _∙_}
 use mathlib.Core.Bool.{Bool, true, false, _&&_, and-false}
 use mathlib.Core.List.{List, []}
 use Prim.Native.Nat.{ℕ}
-use native.Mathlib.Omega.{arith}
 use lib.Dec.{eqb}
 use lib.ListN.{length}
 use borrow.Author.Tests.{eq-eqb, ne-eqb}
 use Rattle.chess.specs.Answer.{Answer, given, refused}
 use Rattle.chess.specs.Refusals.{refusalOf}
+use Rattle.chess.proofs.Answers.{given-not}
 use Rattle.chess.specs.declared.refusal.Refusal.{Refusal}
 use Rattle.chess.specs.declared.refusal.Refusal.the-variants as R
 use Rattle.position.specs.declared.State.{State}
 use Rattle.position.specs.Boards.{bitboardsOf}
+use Rattle.ranks.specs.Promises.{bare}
 use Rattle.line.specs.Line.{Line, unlessRefused, lineOf}
-use Rattle.line.specs.Promises.{paper, valueOf, boardAfter, bitboardsAfter, Reads, ReadsLine, Says, Loads, readOf, bare}
+use Rattle.line.specs.Promises.{paper, valueOf, boardAfter, bitboardsAfter, Reads, ReadsLine, Says, Loads, readOf}
 use Rattle.line.specs.declared.Read.{Read}
 use Rattle.line.specs.declared.Read.the-variants.{Position, Refused}
 use Rattle.line.specs.declared.inner.Loaded.{Loaded}
 use Rattle.line.specs.declared.inner.Parsed.{Parsed}
 
--- ---- two kinds of answer
-apart : {A : Type 0} {n : ℕ} {v : List ℕ} {x : Answer (State × ℕ)} {y : State × ℕ} → refused n v ≡ x → x ≡ given y → A
-apart p q = let z : _≡_ {A = ℕ} 0 1 = cc in absurd (omega arith)
-
+-- ---- a refusal keeps what there was
 module _ (a : Answer Line) (r : Read) (e : paper r ≡ valueOf a) (q : Refusal) (told : r ≡ Refused q) where
   pub kept-field : (s : List ℕ) → [] ≡ unlessRefused a s
   kept-field s = go a (sym (ap paper told) ∙ e)
     where
       go : (b : Answer Line) → refusalOf q ≡ valueOf b → [] ≡ unlessRefused b s
-      go (given l) p = apart p refl
+      go (given l) p = given-not (sym p)
       go (refused n v) p = refl
 
   pub kept : (old : List ℕ) → old ≡ boardAfter a old
   kept old = go a (sym (ap paper told) ∙ e)
     where
       go : (b : Answer Line) → refusalOf q ≡ valueOf b → old ≡ boardAfter b old
-      go (given l) p = apart p refl
+      go (given l) p = given-not (sym p)
       go (refused n v) p = refl
 
   pub kept-boards : (old : List ℕ) → old ≡ bitboardsAfter a old
   kept-boards old = go a (sym (ap paper told) ∙ e)
     where
       go : (b : Answer Line) → refusalOf q ≡ valueOf b → old ≡ bitboardsAfter b old
-      go (given l) p = apart p refl
+      go (given l) p = given-not (sym p)
       go (refused n v) p = refl
 
+-- ---- a position is written over it
 module _ (a : Answer Line) (r : Read) (e : paper r ≡ valueOf a) (state : State) (half : ℕ) (told : r ≡ Position state half) where
   pub over-field : (s : List ℕ) → s ≡ unlessRefused a s
   over-field s = go a (sym (ap paper told) ∙ e)
     where
       go : (b : Answer Line) → given (state, half) ≡ valueOf b → s ≡ unlessRefused b s
       go (given l) p = refl
-      go (refused n v) p = apart refl (sym p)
+      go (refused n v) p = given-not p
 
   pub over : (old new : List ℕ) → boardAfter a old ≡ boardAfter a new
   over old new = go a (sym (ap paper told) ∙ e)
     where
       go : (b : Answer Line) → given (state, half) ≡ valueOf b → boardAfter b old ≡ boardAfter b new
       go (given l) p = refl
-      go (refused n v) p = apart refl (sym p)
+      go (refused n v) p = given-not p
 
   pub over-boards : (old new : List ℕ) → bitboardsAfter a old ≡ bitboardsAfter a new
   over-boards old new = go a (sym (ap paper told) ∙ e)
     where
       go : (b : Answer Line) → given (state, half) ≡ valueOf b → bitboardsAfter b old ≡ bitboardsAfter b new
       go (given l) p = refl
-      go (refused n v) p = apart refl (sym p)
+      go (refused n v) p = given-not p
 
 -- ---- the bitboards of what was read
 after-boards : (a : Answer Line) → bitboardsOf (boardAfter a bare) ≡ bitboardsAfter a (bitboardsOf bare)

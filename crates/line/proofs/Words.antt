@@ -8,7 +8,7 @@ use lib.ListN.{length, take, drop}
 use Rattle.laws.specs.Tests.{same}
 use Rattle.fields.specs.Text.{text, space, semicolon, isSpace, before, after, without, trim, placeIn}
 use Rattle.fields.proofs.Parts.{rest, before-take, after-drop, from-mark}
-use Rattle.ranks.specs.Ranks.{areRanks, boardOf}
+use Rattle.ranks.specs.Ranks.{areEightRanks, boardOf}
 use Rattle.ranks.specs.Promises.{Places}
 use Rattle.ranks.specs.declared.inner.Placed.{Placed}
 use Rattle.line.specs.Line.{positionField, resultField, ranksOf, wordOf, sideWord, sides, results}
@@ -80,10 +80,10 @@ module _ (field : List ℕ) (end : ℕ) (q : end ≡ length (before space field)
   ranks : Places (ranksOf field) r
   ranks = subst (λ (s : List ℕ). Places s r) (ap (λ (k : ℕ). take k field) q ∙ before-take space field) h
 
-  pub placed-ok : {b : Bool} → r .ok ≡ b → areRanks 7 (ranksOf field) ≡ b
+  pub placed-ok : {b : Bool} → r .ok ≡ b → areEightRanks (ranksOf field) ≡ b
   placed-ok e = sym (ranks .ok) ∙ e
 
-  pub placed-board : r .ok ≡ true → r .board ≡ boardOf 7 (ranksOf field)
+  pub placed-board : r .ok ≡ true → r .board ≡ boardOf (ranksOf field)
   placed-board e = ranks .board ∙ rw (placed-ok e)
 
 -- ---- the two fields of a line

@@ -10,7 +10,7 @@ use Rattle.chess.specs.Refusals.{numberOf}
 use Rattle.chess.specs.declared.refusal.Refusal.the-variants as R
 use Rattle.position.specs.declared.State.{State}
 use Rattle.fields.specs.Text.{text, space, semicolon, isText, isSpace, every, holds, before, after, without, trim, placeIn}
-use Rattle.ranks.specs.Ranks.{areRanks, boardOf}
+use Rattle.ranks.specs.Ranks.{areEightRanks, boardOf}
 
 -- ---- the parts of a line
 -- a field: what stands before the next `;` or the end, "trimmed of spaces, tabs and CR"
@@ -60,10 +60,10 @@ pub record Line : Type 0 where
 -- what a position field and a result say: PLACE "bad ranks", SIDE "bad side", RESULT "unknown result"
 unfoldable pub fieldsSay : List ℕ → List ℕ → Answer Line
 fieldsSay field result =
-    orRefuse (areRanks 7 (ranksOf field)) (numberOf R.Place)
+    orRefuse (areEightRanks (ranksOf field)) (numberOf R.Place)
     (orRefuse (isOneOf sides (sideWord field)) (numberOf R.Side)
     (orRefuse (isOneOf results result) (numberOf R.Result)
-    (given (record { state = record { side = placeIn sides (sideWord field) }; half = placeIn results result; board = boardOf 7 (ranksOf field) }))))
+    (given (record { state = record { side = placeIn sides (sideWord field) }; half = placeIn results result; board = boardOf (ranksOf field) }))))
 
 -- LONG "line over 256 bytes", BYTE "a byte other than 32..126, tab and CR", FIELD "no `;`", then its fields: "First in order wins."
 unfoldable pub lineOf : List ℕ → Answer Line

@@ -4,13 +4,14 @@ use mathlib.Core.Bool.{_&&_}
 use mathlib.Core.List.{List}
 use Prim.Native.Nat.{ℕ}
 use lib.Dec.{eqb}
-use lib.ListN.{length, replicate}
+use lib.ListN.{length}
 use Rattle.chess.specs.Answer.{Answer, given, refused, orRefuse}
 use Rattle.chess.specs.Refusals.{numberOf, refusalOf}
 use Rattle.chess.specs.declared.refusal.Refusal.{Refusal}
 use Rattle.chess.specs.declared.refusal.Refusal.the-variants as R
 use Rattle.position.specs.declared.State.{State}
 use Rattle.position.specs.Boards.{bitboardsOf}
+use Rattle.ranks.specs.Promises.{bare}
 use Rattle.line.specs.Line.{Line, lineOf, fieldOf}
 use Rattle.line.specs.declared.Read.{Read}
 use Rattle.line.specs.declared.Read.the-variants.{Position, Refused}
@@ -48,11 +49,7 @@ readOf line bitboards board = orRefuse (eqb (length bitboards) 14 && eqb (length
 abbrev pub ReadsLine : List ℕ → List ℕ → List ℕ → Read → List ℕ → List ℕ → Type 0
 ReadsLine line bitboards board r bitboards′ board′ = Reads (readOf line bitboards board) bitboards board r bitboards′ board′
 
--- a board with nothing on it
-abbrev pub bare : List ℕ
-bare = replicate 64 0
-
--- the line read over a bare board
+-- the line read over a bare board, which a refusal leaves bare
 abbrev pub Loads : List ℕ → Loaded → Type 0
 Loads line r = Reads (lineOf line) (bitboardsOf bare) bare (r .answer) (r .bitboards) (r .board)
 

@@ -4,6 +4,7 @@ ghost use Rattle.fields.specs.Text.{placeIn};
 ghost use Rattle.line.specs.Line.{sides, results, wordOf, fieldsSay, lineOf};
 ghost use Rattle.line.specs.Promises.{Loads, Says, Turned};
 use crate::Read;
+use chess::color::Color;
 use chess::piece::Piece;
 use chess::refusal::Refusal;
 use chess::square::Square;
@@ -32,11 +33,16 @@ fn refused(refusal: Refusal) -> Parsed
 {
     Parsed {
         answer: Read::Refused(refusal),
-        board: [0; Square::COUNT],
+        board: [Piece::EMPTY; Square::COUNT],
     }
 }
 
-// The side, 0 or 1, of what follows the ranks; 2 where it is neither.
+// What is neither side, and what is no result.
+const NO_SIDE: u8 = 2;
+
+const NO_RESULT: u8 = 3;
+
+// The side that follows the ranks, or none.
 fn side(s: &[u8]) -> u8
     ensures { λ r. ⌜ r ≡ placeIn sides (wordOf (now (s .entry))) ⌝ }
 {
@@ -44,15 +50,15 @@ fn side(s: &[u8]) -> u8
     let end = find(rest, b' ');
     let word = &rest[..end];
     if is(word, b"w") {
-        return 0;
+        return Color::WHITE.index();
     }
     if is(word, b"b") {
-        return 1;
+        return Color::BLACK.index();
     }
-    2
+    NO_SIDE
 }
 
-// The half points, 0 to 2, of a result; 3 where it is unknown.
+// The half points of a result, or none.
 fn half_points(result: &[u8]) -> u8
     ensures { λ r. ⌜ r ≡ placeIn results (now (result .entry)) ⌝ }
 {
@@ -65,7 +71,7 @@ fn half_points(result: &[u8]) -> u8
     if is(result, b"1-0") {
         return 2;
     }
-    3
+    NO_RESULT
 }
 
 // PLACE, SIDE, RESULT.
@@ -78,11 +84,11 @@ fn read_fields(field: &[u8], result: &[u8]) -> Parsed
         return refused(Refusal::Place);
     }
     let side = side(&field[end..]);
-    if side > 1 {
+    if side >= NO_SIDE {
         return refused(Refusal::Side);
     }
     let half = half_points(result);
-    if half > 2 {
+    if half >= NO_RESULT {
         return refused(Refusal::Result);
     }
     let board = placed.board;

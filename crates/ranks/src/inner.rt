@@ -1,36 +1,43 @@
 // The ranks of a position field, read in one pass: total, and no door.
 ghost use mathlib.Core.Path.{_≡_};
-ghost use Rattle.ranks.specs.Ranks.{pieceOf, runOf};
 ghost use Prim.Native.Nat.{_≤_};
+ghost use Rattle.ranks.specs.Ranks.{pieceOf, runOf};
 ghost use Rattle.ranks.specs.Steps.{stepOf};
 ghost use Rattle.ranks.specs.Promises.{Places, Nothing};
+use chess::piece::Piece;
+use chess::square::Square;
+
+// The squares of a rank.
+const FILES: usize = 8;
 
 // The 64 bytes of the board from a1 on, where the text is eight ranks; else nothing stands on it.
 pub struct Placed {
     pub ok: bool,
-    pub board: [u8; 64],
+    pub board: [u8; Square::COUNT],
 }
 
+// The code of a letter's piece; that of an empty square for a byte that is none of the twelve letters.
 fn piece(b: u8) -> u8
     ensures { λ r. ⌜ r ≡ pieceOf b ⌝ }
 {
     match b {
-        b'P' => 2,
-        b'p' => 3,
-        b'N' => 4,
-        b'n' => 5,
-        b'B' => 8,
-        b'b' => 9,
-        b'R' => 10,
-        b'r' => 11,
-        b'Q' => 12,
-        b'q' => 13,
-        b'K' => 6,
-        b'k' => 7,
-        _ => 0,
+        b'P' => Piece::WHITE_PAWN.code(),
+        b'p' => Piece::BLACK_PAWN.code(),
+        b'N' => Piece::WHITE_KNIGHT.code(),
+        b'n' => Piece::BLACK_KNIGHT.code(),
+        b'B' => Piece::WHITE_BISHOP.code(),
+        b'b' => Piece::BLACK_BISHOP.code(),
+        b'R' => Piece::WHITE_ROOK.code(),
+        b'r' => Piece::BLACK_ROOK.code(),
+        b'Q' => Piece::WHITE_QUEEN.code(),
+        b'q' => Piece::BLACK_QUEEN.code(),
+        b'K' => Piece::WHITE_KING.code(),
+        b'k' => Piece::BLACK_KING.code(),
+        _ => Piece::EMPTY,
     }
 }
 
+// How many empty squares a digit stands for; 0 for a byte that is none of 1 to 8.
 fn run(b: u8) -> usize
     ensures { λ r. ⌜ r ≡ runOf b ⌝ }
 {
@@ -48,7 +55,7 @@ fn nothing() -> Placed
 {
     Placed {
         ok: false,
-        board: [0; 64],
+        board: [Piece::EMPTY; Square::COUNT],
     }
 }
 
@@ -69,23 +76,23 @@ fn step(rank: usize, file: usize, b: u8) -> Next
         if rank == 0 {
             return Next::Wrong;
         }
-        if file != 8 {
+        if file != FILES {
             return Next::Wrong;
         }
         return Next::Below;
     }
     let empty = run(b);
     if empty > 0 {
-        if file + empty > 8 {
+        if file + empty > FILES {
             return Next::Wrong;
         }
         return Next::Empty(empty);
     }
     let code = piece(b);
-    if code == 0 {
+    if code == Piece::EMPTY {
         return Next::Wrong;
     }
-    if file >= 8 {
+    if file >= FILES {
         return Next::Wrong;
     }
     Next::Piece(code)
@@ -95,7 +102,7 @@ fn step(rank: usize, file: usize, b: u8) -> Next
 pub fn place(s: &[u8]) -> Placed
     ensures { λ r. ⌜ Places (now (s .entry)) r ⌝ }
 {
-    let mut board = [0u8; 64];
+    let mut board = [Piece::EMPTY; Square::COUNT];
     let mut rank: usize = 7;
     let mut file: usize = 0;
     let mut i = 0;
@@ -108,7 +115,7 @@ pub fn place(s: &[u8]) -> Placed
                 file = 0;
             }
             Next::Piece(code) => {
-                board[8 * rank + file] = code;
+                board[FILES * rank + file] = code;
                 file += 1;
             }
             Next::Empty(empty) => {
@@ -122,7 +129,7 @@ pub fn place(s: &[u8]) -> Placed
     if rank != 0 {
         return nothing();
     }
-    if file < 8 {
+    if file < FILES {
         return nothing();
     }
     Placed { ok: true, board }

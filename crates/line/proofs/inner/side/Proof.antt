@@ -2,9 +2,11 @@
 use mathlib.Core.Path.{_≡_, sym, _∙_}
 use borrow.Author.Needs.{needs}
 use denote.Ref.{now}
+use lib.ListN.{take}
 use lib.Seq.{length-take-le}
 use Rattle.fields.specs.Text.{space}
 use Rattle.fields.proofs.Parts.{before-found}
+use Rattle.line.specs.Line.{wordOf}
 use Rattle.line.proofs.Words.{word-is, is-white, is-black, no-side}
 use Rattle.line.proofs.inner.side.Statement.{statement}
 use Rattle.line.proofs.inner.side.Tie as tie
@@ -16,7 +18,9 @@ find-requires : tie.Need-find-requires
 find-requires c κs = search needs
 
 slice-aggregate-word : tie.Need-slice-aggregate-word
-slice-aggregate-word c = sym (length-take-le (c .before .find .result) (now (c .before .before .skip-spaces .result)) (before-found space (now (c .before .before .skip-spaces .result)) (c .before .find .ensures)))
+slice-aggregate-word c =
+    let rest = now (c .before .before .skip-spaces .result) in
+    sym (length-take-le (c .before .find .result) rest (before-found space rest (c .before .find .ensures)))
 
 slice-aggregate-is : tie.Need-slice-aggregate-is
 slice-aggregate-is c = search needs
@@ -24,14 +28,18 @@ slice-aggregate-is c = search needs
 is-requires : tie.Need-is-requires
 is-requires c κs = search needs
 
--- the word that the two tests are of
-word : (c : tie.After-find) → _≡_ (lib.ListN.take (c .find .result) (now (c .before .skip-spaces .result))) (Rattle.line.specs.Line.wordOf (now (c .before .before .before .args .s)))
+-- the word that both tests are of
+word : (c : tie.After-find) → take (c .find .result) (now (c .before .skip-spaces .result)) ≡ wordOf (now (c .before .before .before .args .s))
 word c = word-is (now (c .before .before .before .args .s)) (now (c .before .skip-spaces .result)) (c .find .result) (c .before .skip-spaces .ensures) (c .find .ensures)
+
+index-requires : tie.Need-index-requires
+index-requires c κs = search needs
 
 returns : tie.Need-returns
 returns c =
-    let f = c .before .before .before .before in
-    is-white (now (f .before .before .before .args .s)) _ (word f) (c .before .is .result) (c .before .is .ensures) (c .if1 .taken)
+    let i = c .before .before in
+    let f = i .before .before .before in
+    c .index .ensures ∙ is-white (now (f .before .before .before .args .s)) _ (word f) (i .is .result) (i .is .ensures) (c .before .if1 .taken)
 
 slice-aggregate-is-2 : tie.Need-slice-aggregate-is-2
 slice-aggregate-is-2 c = search needs
@@ -39,19 +47,27 @@ slice-aggregate-is-2 c = search needs
 is-requires-2 : tie.Need-is-requires-2
 is-requires-2 c κs = search needs
 
+index-requires-2 : tie.Need-index-requires-2
+index-requires-2 c κs = search needs
+
 returns-2 : tie.Need-returns-2
 returns-2 c =
-    let f = c .before .before .before .before .before .before .before in
-    let i = c .before .before .before .before in
-    is-black (now (f .before .before .before .args .s)) _ (word f) (i .is .result) (i .is .ensures) (c .before .before .before .if1 .left) (c .before .is2 .result) (c .before .is2 .ensures) (c .if2 .taken)
+    let j = c .before .before in
+    let i = j .before .before .before in
+    let f = i .before .before .before in
+    c .index2 .ensures
+    ∙ is-black (now (f .before .before .before .args .s)) _ (word f) (i .is .result) (i .is .ensures) (j .before .before .if1 .left) (j .is2 .result) (j .is2 .ensures) (c .before .if2 .taken)
 
 returns-3 : tie.Need-returns-3
 returns-3 c =
-    let f = c .before .before .before .before .before .before .before in
-    let i = c .before .before .before .before in
-    no-side (now (f .before .before .before .args .s)) _ (word f) (i .is .result) (i .is .ensures) (c .before .before .before .if1 .left) (c .before .is2 .result) (c .before .is2 .ensures) (c .if2 .left)
+    let j = c .before in
+    let i = j .before .before .before in
+    let f = i .before .before .before in
+    no-side (now (f .before .before .before .args .s)) _ (word f) (i .is .result) (i .is .ensures) (j .before .before .if1 .left) (j .is2 .result) (j .is2 .ensures) (c .if2 .left)
 
 pub side-spec : {M : Type 1} → statement M
 side-spec =
     tie.close
-    (tie.spec skip-spaces-requires find-requires slice-aggregate-word slice-aggregate-is is-requires returns slice-aggregate-is-2 is-requires-2 returns-2 returns-3)
+    (tie.spec
+    skip-spaces-requires find-requires slice-aggregate-word slice-aggregate-is is-requires index-requires returns slice-aggregate-is-2 is-requires-2 index-requires-2
+    returns-2 returns-3)

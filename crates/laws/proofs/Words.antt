@@ -11,7 +11,7 @@ use borrow.Author.Tests.{le-ltb}
 use mir.Syntax.{Width}
 use mir.Val.{SFits, hbits, toZ, ofZ}
 use mir.ValLaws.{toZ-ofZ}
-use Rattle.laws.proofs.Diff.{mag-abs}
+use Rattle.laws.proofs.Diff.{mag-abs, abs-mag}
 
 -- ---- what fits a word fits a wider one
 pub widens : {w : Width} {z : ℤ} (v : Width) → T (leb (2 ^ hbits w) (2 ^ hbits v)) → SFits w z → SFits v z
@@ -21,9 +21,16 @@ widens {w} v t f = record { sfits = lt-of-lt-of-le (f .sfits) (leb→le (2 ^ hbi
 pub fits-abs : {w : Width} {z : ℤ} (k : ℕ) → T (ltb k (2 ^ hbits w)) → natAbs z ≤ k → SFits w z
 fits-abs {w} {z} k t h = record { sfits = lt-of-le-of-lt (le-trans (mag-abs z) h) (ltb→lt k (2 ^ hbits w) t) }
 
+-- and what fits is no farther from zero than the word's half
+pub fits-near : {w : Width} {z : ℤ} → SFits w z → natAbs z ≤ 2 ^ hbits w
+fits-near {w} {z} f = le-trans (abs-mag z) (f .sfits)
+
 -- ---- a signed local holds bits, and a need reads it back from them
 abbrev pub held : Width → ℤ → ℤ
 held w z = toZ w (ofZ w z)
+
+pub held-is : {w : Width} {z v : ℤ} → SFits w z → z ≡ v → held w z ≡ v
+held-is {w} {z} f e = toZ-ofZ w z f ∙ e
 
 -- not below zero: it is pos n
 pub record Up (w : Width) (z : ℤ) : Type 0 where

@@ -1,0 +1,3 @@
+pub mod Grids
+pub mod Pst
+pub mod Promises

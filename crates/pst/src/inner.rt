@@ -1,0 +1,29 @@
+// The table for the loops of the crates above: made once, lent, and read. Total, and no door.
+ghost use Rattle.pst.specs.Promises.{Makes, Weighs, Places};
+use crate::PST;
+use chess::inner::index;
+
+// The whole table. A constant is built anew wherever it is read: who loops makes it once and lends it.
+pub fn table() -> [i16; 1792]
+    ensures { λ r. ⌜ Makes r ⌝ }
+{
+    PST
+}
+
+// Where a table has the weight of a code, a square and a phase.
+pub fn place(code: u8, square: u8, phase: u8) -> usize
+    ensures { λ r. ⌜ Places code square phase r ⌝ }
+{
+    128 * index(code) + 2 * index(square) + index(phase)
+}
+
+// The weight that a lent table has there; 0 past its end.
+pub fn weight(pst: &[i16], code: u8, square: u8, phase: u8) -> i16
+    ensures { λ r. ⌜ Weighs (now (pst .entry)) code square phase r ⌝ }
+{
+    let i = place(code, square, phase);
+    if i < pst.len() {
+        return pst[i];
+    }
+    0
+}

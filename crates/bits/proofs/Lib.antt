@@ -10,3 +10,4 @@ pub mod Squares
 pub mod Each
 pub mod Determined
 pub mod Examples
+pub mod Sums

@@ -3,3 +3,4 @@ pub mod Tests
 pub mod Tables
 pub mod Diff
 pub mod Words
+pub mod Sums

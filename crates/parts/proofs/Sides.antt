@@ -10,7 +10,7 @@ use Rattle.chess.specs.Answer.{Answer, given, orRefuse}
 use Rattle.chess.specs.Refusals.{refusalOf}
 use Rattle.chess.specs.declared.refusal.Refusal.the-variants as R
 use Rattle.chess.proofs.Answers.{was-given, was-refused}
-use Rattle.parts.specs.Parts.{in16, openingOf, endingOf, productsOf, sidePart, sideFits}
+use Rattle.parts.specs.Parts.{in16, openingOf, endingOf, productsOf, sidePart, sideFits, first, second, total, sumFits, pointsOf}
 use Rattle.parts.specs.Answers.{part, broughtOf}
 use Rattle.parts.specs.declared.Side.{Side}
 use Rattle.parts.specs.declared.inner.Part.{Part}
@@ -47,3 +47,10 @@ module _ (own other sum : Bool) (z : ℤ) where
 
   pub both : own ≡ true → other ≡ true → orRefuse sum 3 (given z) ≡ orRefuse (own && other && sum) 3 (given z)
   both e f = sym (ap₂ (λ (t u : Bool). orRefuse (t && u && sum) 3 (given z)) e f)
+
+-- ---- a score that is given is of 16 bits
+pub given-short : (own other : Side) (x : ℕ) (z : ℤ) → given z ≡ pointsOf own other x → in16 z ≡ true
+given-short own other x z e =
+    let g = was-given (sideFits own x && sideFits other x && sumFits own other x) 3 z (total own other x) e in
+    let t : T (sumFits own other x) = and-r (sideFits own x && sideFits other x) (sumFits own other x) (true-T (g .0)) in
+    ap in16 (g .1) ∙ T-true (in16 (total own other x)) (and-r (in16 (first own other x) && in16 (second own other x)) (in16 (total own other x)) t)

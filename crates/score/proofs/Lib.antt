@@ -1,0 +1,8 @@
+pub mod Constants
+pub mod Pieces
+pub mod Factors
+pub mod Walks
+pub mod Tally
+pub mod Verdicts
+pub mod Lent
+pub mod Examples

@@ -1,0 +1,9 @@
+pub mod Pieces
+pub mod Material
+pub mod Mobility
+pub mod Weights
+pub mod Verdict
+pub mod Score
+pub mod Answers
+pub mod Promises
+pub mod Walked

@@ -1,0 +1,37 @@
+-- Material (document 01, "The score"). Definitions only.
+use mathlib.Core.Bool.{cond}
+use mathlib.Core.List.{List, [], _∷_}
+use Prim.Native.Nat.{ℕ, _+_, _*_}
+use lib.Dec.{leb}
+use lib.ListN.{getD}
+use Rattle.laws.specs.Sums.{sumN}
+use Rattle.laws.specs.Tables.{tabulate}
+use Rattle.chess.specs.Codes.{isPiece, kindOf}
+use Rattle.score.specs.Pieces.{count}
+
+-- "100, 304, 292, 487, 1013, 10000 for pawn, knight, bishop, rook, queen, king"
+abbrev pub values : List ℕ
+values = 100 ∷ 304 ∷ 292 ∷ 487 ∷ 1013 ∷ 10000 ∷ []
+
+abbrev pub valueOf : ℕ → ℕ
+valueOf kind = getD values kind 0
+
+-- the same by code, for both colours; codes 0 and 1 have none
+unfoldable pub pieceValues : List ℕ
+unfolding tabulate
+pieceValues = tabulate 14 (λ code. cond (isPiece code) (valueOf (kindOf code)) 0)
+
+-- what a colour's pieces are worth, as `eval_material` counts
+unfoldable pub worth : List ℕ → ℕ → ℕ
+unfolding sumN count
+worth bbs colour = sumN 6 (λ kind. count bbs kind colour * valueOf kind)
+
+-- "two or more bishops of a colour": 1, else 0
+unfoldable pub pair : List ℕ → ℕ → ℕ
+unfolding count
+pair bbs colour = cond (leb 2 (count bbs 2 colour)) 1 0
+
+-- "33 more for two or more bishops of a colour (not in `eval_material`)"
+unfoldable pub material : List ℕ → ℕ → ℕ
+unfolding worth pair
+material bbs colour = worth bbs colour + pair bbs colour * 33

@@ -1,0 +1,277 @@
+// The same on a position that is known to be consistent: total, and no door.
+ghost use mathlib.Core.Path.{_≡_};
+ghost use Prim.Native.Nat.{_+_, _*_, _≤_, _<_};
+ghost use lib.IntN.{natAbs, _+ℤ_};
+ghost use mir.Syntax.{w32};
+ghost use mir.Val.{SFits};
+ghost use Rattle.attack.specs.Attacks.{occupied as Attacks·occupied};
+ghost use Rattle.pst.specs.Pst.{weightIn};
+ghost use Rattle.score.specs.Material.{valueOf, pair as pairOf};
+ghost use Rattle.score.specs.Mobility.{factorOf};
+ghost use Rattle.score.specs.Pieces.{count};
+ghost use Rattle.parts.specs.Answers.{points};
+ghost use Rattle.score.specs.Verdict.{toMove, heavy as heavyOf};
+ghost use Rattle.score.specs.Promises.{Ends, Worth, EvalsWith};
+ghost use Rattle.score.specs.Walked.{reachWith, walkedOf, sumAt, plusOf, sideWith, sidesWith, pointsWith};
+use attack::inner::standing;
+use bits::Lowest;
+use chess::inner::index;
+use chess::inner::white;
+use crate::MOBILITY;
+use crate::PIECE_VALUES;
+use chess::refusal::Refusal;
+use crate::Scored;
+use crate::Verdict;
+use parts::Points;
+use parts::Side;
+
+const WHITE: u8 = 0;
+
+const BLACK: u8 = 1;
+
+const KINDS: u8 = 6;
+
+const PAWN: u8 = 0;
+
+const BISHOP: u8 = 2;
+
+const ROOK: u8 = 3;
+
+const QUEEN: u8 = 4;
+
+const KING: u8 = 5;
+
+// The worth of two bishops beyond their own.
+const PAIR: u32 = 33;
+
+// Phases.
+const OPENING: u8 = 0;
+
+const ENDING: u8 = 1;
+
+// The pieces of one board: the squares that they attack, and what they weigh in each phase.
+struct Walked {
+    attacked: u32,
+    opening: i32,
+    ending: i32,
+}
+
+// A square weight, in 32 bits.
+fn weight(pst: &[i16], piece: u8, square: u8, phase: u8) -> i32
+    ensures { λ r. ⌜ (r ≡ weightIn (now (pst .entry)) piece square phase) × (natAbs r ≤ 32768) ⌝ }
+{
+    pst::inner::weight(pst, piece, square, phase) as i32
+}
+
+// Pawns and kings have no mobility.
+fn reach(kind: u8, color: u8, square: u8, occupied: u64, tables: &[[u64; 64]; 4]) -> u64
+    ensures { λ r. ⌜ r ≡ reachWith (now (tables .entry)) kind color square occupied ⌝ }
+{
+    if kind == 0 {
+        return 0;
+    }
+    if 4 < kind {
+        return 0;
+    }
+    attack::inner::attacks(kind, color, square, occupied, tables)
+}
+
+// Each board is walked once: its squares, the lowest first.
+fn walk(pieces: u64, kind: u8, color: u8, occupied: u64, pst: &[i16], tables: &[[u64; 64]; 4]) -> Walked
+    requires { ⌜ color < 2 ⌝ }
+    ensures { λ r. ⌜ (r ≡ walkedOf (now (tables .entry)) (now (pst .entry)) pieces kind color occupied) × (r .attacked ≤ 4096) × (natAbs (r .opening) ≤ 2097152) × (natAbs (r .ending) ≤ 2097152) ⌝ }
+{
+    let piece = white(kind) + color;
+    let mut attacked: u32 = 0;
+    let mut opening: i32 = 0;
+    let mut ending: i32 = 0;
+    let mut rest = pieces;
+    loop {
+        let n = bits::next(rest);
+        let Lowest::At(square, r) = n else {
+            return Walked {
+                attacked,
+                opening,
+                ending,
+            };
+        };
+        attacked += bits::count(reach(kind, color, square, occupied, tables));
+        opening += weight(pst, piece, square, OPENING);
+        ending += weight(pst, piece, square, ENDING);
+        rest = r;
+    }
+}
+
+// So many attacked squares, weighed: the constant is read by the code of the white piece.
+fn tenths(attacked: u32, kind: u8) -> u32
+    requires { ⌜ attacked ≤ 4096 ⌝ }
+    ensures { λ r. ⌜ (r ≡ attacked * factorOf kind) × (r ≤ 192512) ⌝ }
+{
+    attacked * MOBILITY[index(white(kind))]
+}
+
+// How many pieces of a kind and a colour there are.
+fn number(bitboards: &[u64], kind: u8, color: u8) -> u32
+    ensures { λ r. ⌜ (r ≡ count (now (bitboards .entry)) kind color) × (r ≤ 64) ⌝ }
+{
+    bits::count(standing(bitboards, kind, color))
+}
+
+// So many pieces of a kind, in worth.
+fn value(n: u32, kind: u8) -> u32
+    requires { ⌜ n ≤ 64 ⌝ }
+    ensures { λ r. ⌜ (r ≡ n * valueOf kind) × (r ≤ 640000) ⌝ }
+{
+    n * PIECE_VALUES[index(white(kind))]
+}
+
+// What a colour's pieces are worth, the pair of bishops not counted.
+pub fn material(bitboards: &[u64], color: u8) -> u32
+    ensures { λ r. ⌜ Worth (now (bitboards .entry)) color r ⌝ }
+{
+    let mut sum: u32 = 0;
+    let mut kind: u8 = 0;
+    while kind < KINDS {
+        let n = number(bitboards, kind, color);
+        sum += value(n, kind);
+        kind += 1;
+    }
+    sum
+}
+
+// 33 for two bishops or more.
+fn pair(bitboards: &[u64], color: u8) -> u32
+    ensures { λ r. ⌜ (r ≡ pairOf (now (bitboards .entry)) color * 33) × (r ≤ 33) ⌝ }
+{
+    if number(bitboards, BISHOP, color) < 2 {
+        return 0;
+    }
+    PAIR
+}
+
+struct Sides {
+    white: Side,
+    black: Side,
+}
+
+// A number more in the sum of a colour and a phase.
+fn plus(position: [[i32; 2]; 2], color: usize, phase: usize, weight: i32) -> [[i32; 2]; 2]
+    requires { ⌜ (color < 2) × (phase < 2) × SFits w32 (sumAt position color phase +ℤ weight) ⌝ }
+    ensures { λ r. ⌜ r ≡ plusOf position color phase weight ⌝ }
+{
+    let mut sums = position;
+    sums[color][phase] += weight;
+    sums
+}
+
+// A colour's side, once its sums are made.
+fn side(bitboards: &[u64], color: u8, opening: i32, ending: i32, mobility: u32) -> Side
+    ensures { λ r. ⌜ r ≡ sideWith (now (bitboards .entry)) color opening ending mobility ⌝ }
+{
+    Side {
+        opening,
+        ending,
+        material: material(bitboards, color) + pair(bitboards, color),
+        mobility,
+    }
+}
+
+// What both colours bring: all twelve boards, kind by kind.
+fn tally(bitboards: &[u64], occupied: u64, pst: &[i16], tables: &[[u64; 64]; 4]) -> Sides
+    requires { ⌜ occupied ≡ Attacks·occupied (now bitboards) ⌝ }
+    ensures { λ r. ⌜ r ≡ sidesWith (now (tables .entry)) (now (pst .entry)) (now (bitboards .entry)) ⌝ }
+{
+    let mut position = [[0i32; 2]; 2];
+    let mut white: u32 = 0;
+    let mut black: u32 = 0;
+    let mut kind: u8 = 0;
+    while kind < KINDS {
+        let w = walk(standing(bitboards, kind, WHITE), kind, WHITE, occupied, pst, tables);
+        position = plus(position, 0, 0, w.opening);
+        position = plus(position, 0, 1, w.ending);
+        white += tenths(w.attacked, kind);
+        let b = walk(standing(bitboards, kind, BLACK), kind, BLACK, occupied, pst, tables);
+        position = plus(position, 1, 0, b.opening);
+        position = plus(position, 1, 1, b.ending);
+        black += tenths(b.attacked, kind);
+        kind += 1;
+    }
+    Sides {
+        white: side(bitboards, WHITE, position[0][0], position[0][1], white),
+        black: side(bitboards, BLACK, position[1][0], position[1][1], black),
+    }
+}
+
+// The side to move as a colour: any number but White's counts as Black's.
+fn to_move(side: u8) -> u8
+    ensures { λ r. ⌜ r ≡ toMove side ⌝ }
+{
+    if side == WHITE {
+        return WHITE;
+    }
+    BLACK
+}
+
+// How many pawns, rooks and queens there are.
+fn heavy(bitboards: &[u64]) -> u32
+    ensures { λ r. ⌜ r ≡ heavyOf (now (bitboards .entry)) ⌝ }
+{
+    let pawns = number(bitboards, PAWN, WHITE) + number(bitboards, PAWN, BLACK);
+    let rooks = number(bitboards, ROOK, WHITE) + number(bitboards, ROOK, BLACK);
+    let queens = number(bitboards, QUEEN, WHITE) + number(bitboards, QUEEN, BLACK);
+    pawns + rooks + queens
+}
+
+// Verdicts: fewer than two kings in all, or fewer than four pieces and only kings, knights and bishops.
+pub fn ending(bitboards: &[u64], side: u8) -> Verdict
+    ensures { λ r. ⌜ Ends (now (bitboards .entry)) side r ⌝ }
+{
+    if number(bitboards, KING, WHITE) + number(bitboards, KING, BLACK) < 2 {
+        if number(bitboards, KING, to_move(side)) == 0 {
+            return Verdict::Lost;
+        }
+        return Verdict::Won;
+    }
+    let x = bits::count(attack::inner::occupied(bitboards));
+    if 3 < x {
+        return Verdict::None;
+    }
+    if heavy(bitboards) != 0 {
+        return Verdict::None;
+    }
+    Verdict::Drawn
+}
+
+// The score of own less other, where no verdict applies.
+fn summed(bitboards: &[u64], side: u8, pst: &[i16], tables: &[[u64; 64]; 4]) -> Points
+    ensures { λ r. ⌜ points r ≡ pointsWith (now (tables .entry)) (now (pst .entry)) (now (bitboards .entry)) side ⌝ }
+{
+    let occupied = attack::inner::occupied(bitboards);
+    let x = bits::count(occupied);
+    let sides = tally(bitboards, occupied, pst, tables);
+    let white = sides.white;
+    let black = sides.black;
+    if side == WHITE {
+        return parts::inner::score(white, black, x);
+    }
+    parts::inner::score(black, white, x)
+}
+
+// The score, or a verdict before it.
+pub fn eval(bitboards: &[u64], side: u8, pst: &[i16], tables: &[[u64; 64]; 4]) -> Scored
+    ensures { λ r. ⌜ EvalsWith (now (tables .entry)) (now (pst .entry)) (now (bitboards .entry)) side r ⌝ }
+{
+    let verdict = ending(bitboards, side);
+    match verdict {
+        Verdict::Lost => Scored::Lost,
+        Verdict::Won => Scored::Won,
+        Verdict::Drawn => Scored::Drawn,
+        Verdict::None => {
+            let points = summed(bitboards, side, pst, tables);
+            let Points::Is(z) = points else {
+                return Scored::Refused(Refusal::Score);
+            };
+            Scored::Score(z)
+        }
+    }
+}

@@ -1,0 +1,83 @@
+// Verdict, material and score, as eval.rs has them: the doors.
+ghost use Rattle.score.specs.Promises.{EvalsEnding, EvalsMaterial, Evals};
+use chess::refusal::Refusal;
+use position::Checked;
+use position::State;
+
+pub mod inner;
+
+// How a game stands that a verdict ends; none where it is to be scored.
+pub enum Verdict {
+    Lost,
+    Won,
+    Drawn,
+    None,
+}
+
+// A verdict: SHAPE, BOARD.
+pub enum Ending {
+    Is(Verdict),
+    Refused(Refusal),
+}
+
+// A colour's material: SHAPE, BOARD, SCORE.
+pub enum Material {
+    Is(i16),
+    Refused(Refusal),
+}
+
+// A verdict or a score, for the side to move: SHAPE, BOARD, SCORE.
+pub enum Scored {
+    Lost,
+    Won,
+    Drawn,
+    Score(i16),
+    Refused(Refusal),
+}
+
+// By code, for both colours.
+pub const PIECE_VALUES: [u32; 14] = [
+    0, 0, 100, 100, 304, 304, 10000, 10000, 292, 292, 487, 487, 1013, 1013,
+];
+
+// In tenths, by the code of the white piece.
+pub const MOBILITY: [u32; 14] = [0, 0, 0, 0, 24, 0, 0, 0, 47, 0, 39, 0, 21, 0];
+
+// Lost, won or drawn, for the side to move, or none of them: SHAPE, BOARD.
+pub fn eval_ending(bitboards: &[u64], board: &[u8], state: State) -> Ending
+    ensures { λ r. ⌜ EvalsEnding (now (bitboards .entry)) (now (board .entry)) state r ⌝ }
+{
+    if let Checked::Refused(refusal) = position::check(bitboards, board, state) {
+        return Ending::Refused(refusal);
+    }
+    Ending::Is(inner::ending(bitboards, state.side))
+}
+
+// What a colour's pieces are worth, without the pair of bishops: SHAPE, BOARD, SCORE.
+pub fn eval_material(bitboards: &[u64], board: &[u8], state: State, color: u8) -> Material
+    ensures { λ r. ⌜ EvalsMaterial (now (bitboards .entry)) (now (board .entry)) state color r ⌝ }
+{
+    if color > 1 {
+        return Material::Refused(Refusal::Shape);
+    }
+    if let Checked::Refused(refusal) = position::check(bitboards, board, state) {
+        return Material::Refused(refusal);
+    }
+    let total = inner::material(bitboards, color);
+    if total > 32767 {
+        return Material::Refused(Refusal::Score);
+    }
+    Material::Is(total as i16)
+}
+
+// The score for the side to move, or a verdict before it: SHAPE, BOARD, SCORE.
+pub fn eval(bitboards: &[u64], board: &[u8], state: State) -> Scored
+    ensures { λ r. ⌜ Evals (now (bitboards .entry)) (now (board .entry)) state r ⌝ }
+{
+    if let Checked::Refused(refusal) = position::check(bitboards, board, state) {
+        return Scored::Refused(refusal);
+    }
+    let pst = pst::inner::table();
+    let tables = steps::inner::tables();
+    inner::eval(bitboards, state.side, &pst, &tables)
+}

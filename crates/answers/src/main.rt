@@ -4,6 +4,7 @@ mod bitboards;
 mod exchanges;
 mod lines;
 mod positions;
+mod scores;
 mod words;
 
 fn main() {
@@ -70,6 +71,10 @@ fn tried(word: &[u8], rest: &[u8], out: &mut [u8]) -> usize {
         return a;
     }
     let a = exchanges::answer(word, rest, out);
+    if a > 0 {
+        return a;
+    }
+    let a = scores::answer(word, rest, out);
     if a > 0 {
         return a;
     }

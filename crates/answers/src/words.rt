@@ -166,7 +166,11 @@ pub(crate) fn put_bool(out: &mut [u8], at: usize, t: bool) -> usize {
 }
 
 pub(crate) fn put_score(out: &mut [u8], at: usize, n: i16) -> usize {
-    text::signed(out, at, n as i64).or(at)
+    text::signed(out, at, wide(n)).or(at)
+}
+
+fn wide(n: i16) -> i64 {
+    n as i64
 }
 
 pub(crate) fn put_refusal(out: &mut [u8], at: usize, r: Refusal) -> usize {

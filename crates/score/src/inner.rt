@@ -13,15 +13,15 @@ ghost use Rattle.parts.specs.Answers.{points};
 ghost use Rattle.score.specs.Verdict.{toMove, heavy as heavyOf};
 ghost use Rattle.score.specs.Promises.{Ends, Worth, EvalsWith};
 ghost use Rattle.score.specs.Walked.{reachWith, walkedOf, sumAt, plusOf, sideWith, sidesWith, pointsWith};
+use crate::MOBILITY;
+use crate::PIECE_VALUES;
+use crate::Scored;
+use crate::Verdict;
 use attack::inner::standing;
 use bits::Lowest;
 use chess::inner::index;
 use chess::inner::white;
-use crate::MOBILITY;
-use crate::PIECE_VALUES;
 use chess::refusal::Refusal;
-use crate::Scored;
-use crate::Verdict;
 use parts::Points;
 use parts::Side;
 
@@ -77,7 +77,14 @@ fn reach(kind: u8, color: u8, square: u8, occupied: u64, tables: &[[u64; 64]; 4]
 }
 
 // Each board is walked once: its squares, the lowest first.
-fn walk(pieces: u64, kind: u8, color: u8, occupied: u64, pst: &[i16], tables: &[[u64; 64]; 4]) -> Walked
+fn walk(
+    pieces: u64,
+    kind: u8,
+    color: u8,
+    occupied: u64,
+    pst: &[i16],
+    tables: &[[u64; 64]; 4],
+) -> Walked
     requires { ⌜ color < 2 ⌝ }
     ensures { λ r. ⌜ (r ≡ walkedOf (now (tables .entry)) (now (pst .entry)) pieces kind color occupied) × (r .attacked ≤ 4096) × (natAbs (r .opening) ≤ 2097152) × (natAbs (r .ending) ≤ 2097152) ⌝ }
 {
@@ -186,11 +193,25 @@ fn tally(bitboards: &[u64], occupied: u64, pst: &[i16], tables: &[[u64; 64]; 4])
     let mut black: u32 = 0;
     let mut kind: u8 = 0;
     while kind < KINDS {
-        let w = walk(standing(bitboards, kind, WHITE), kind, WHITE, occupied, pst, tables);
+        let w = walk(
+            standing(bitboards, kind, WHITE),
+            kind,
+            WHITE,
+            occupied,
+            pst,
+            tables,
+        );
         position = plus(position, 0, 0, w.opening);
         position = plus(position, 0, 1, w.ending);
         white += tenths(w.attacked, kind);
-        let b = walk(standing(bitboards, kind, BLACK), kind, BLACK, occupied, pst, tables);
+        let b = walk(
+            standing(bitboards, kind, BLACK),
+            kind,
+            BLACK,
+            occupied,
+            pst,
+            tables,
+        );
         position = plus(position, 1, 0, b.opening);
         position = plus(position, 1, 1, b.ending);
         black += tenths(b.attacked, kind);

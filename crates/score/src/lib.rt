@@ -37,7 +37,20 @@ pub enum Scored {
 
 // By code, for both colours.
 pub const PIECE_VALUES: [u32; 14] = [
-    0, 0, 100, 100, 304, 304, 10000, 10000, 292, 292, 487, 487, 1013, 1013,
+    0,
+    0,
+    100,
+    100,
+    304,
+    304,
+    10000,
+    10000,
+    292,
+    292,
+    487,
+    487,
+    1013,
+    1013,
 ];
 
 // In tenths, by the code of the white piece.

@@ -77,9 +77,9 @@ returns c =
     let code : piece ≡ codeOf (a .kind) (a .color) = ap (λ (x : ℕ). x + a .color) (w .white .ensures) in
     let k = l .inv in (
       walked _ _ _ _ _ _
-      (walks.reach-is f (weighs (a .pst .now) piece 0) (weighs (a .pst .now) piece 1) (a .pieces) (l .attacked) (l .rest) (toZ w32 (l .opening)) (toZ w32 (l .ending)) k (over c) ∙ walks.attacked-of (λ s. reachWith (a .tables .now) (a .kind) (a .color) s (a .occupied)) (a .pieces))
-      (walks.opening-is f (weighs (a .pst .now) piece 0) (weighs (a .pst .now) piece 1) (a .pieces) (l .attacked) (l .rest) (toZ w32 (l .opening)) (toZ w32 (l .ending)) k (over c) ∙ ap (λ (p : ℕ). added (weighs (a .pst .now) p 0) (pos 0) (squares (a .pieces))) code ∙ walks.weighed-of (weighs (a .pst .now) (codeOf (a .kind) (a .color)) 0) (a .pieces))
-      (walks.ending-is f (weighs (a .pst .now) piece 0) (weighs (a .pst .now) piece 1) (a .pieces) (l .attacked) (l .rest) (toZ w32 (l .opening)) (toZ w32 (l .ending)) k (over c) ∙ ap (λ (p : ℕ). added (weighs (a .pst .now) p 1) (pos 0) (squares (a .pieces))) code ∙ walks.weighed-of (weighs (a .pst .now) (codeOf (a .kind) (a .color)) 1) (a .pieces)),
+          (walks.reach-is f (weighs (a .pst .now) piece 0) (weighs (a .pst .now) piece 1) (a .pieces) (l .attacked) (l .rest) (toZ w32 (l .opening)) (toZ w32 (l .ending)) k (over c) ∙ walks.attacked-of (λ s. reachWith (a .tables .now) (a .kind) (a .color) s (a .occupied)) (a .pieces))
+          (walks.opening-is f (weighs (a .pst .now) piece 0) (weighs (a .pst .now) piece 1) (a .pieces) (l .attacked) (l .rest) (toZ w32 (l .opening)) (toZ w32 (l .ending)) k (over c) ∙ ap (λ (p : ℕ). added (weighs (a .pst .now) p 0) (pos 0) (squares (a .pieces))) code ∙ walks.weighed-of (weighs (a .pst .now) (codeOf (a .kind) (a .color)) 0) (a .pieces))
+          (walks.ending-is f (weighs (a .pst .now) piece 0) (weighs (a .pst .now) piece 1) (a .pieces) (l .attacked) (l .rest) (toZ w32 (l .opening)) (toZ w32 (l .ending)) k (over c) ∙ ap (λ (p : ℕ). added (weighs (a .pst .now) p 1) (pos 0) (squares (a .pieces))) code ∙ walks.weighed-of (weighs (a .pst .now) (codeOf (a .kind) (a .color)) 1) (a .pieces)),
       omega (arith, k .few),
       omega (arith, k .room),
       omega (arith, k .room2),

@@ -1,0 +1,16 @@
+-- `answers::words::wide` is safe and ends: what 16 bits hold, 64 bits hold. Assumes nothing.
+use borrow.Author.Needs.{needs}
+use mir.Facts.{toZ-ofZ}
+use mir.Syntax.{w16, w64}
+use Rattle.laws.proofs.Words.{widens}
+use Rattle.answers.proofs.words.wide.Statement.{statement}
+use Rattle.answers.proofs.words.wide.Tie as tie
+
+cast-result : tie.Need-cast-result
+cast-result c = rw (toZ-ofZ {w = w16} (c .fits .n)) (widens {w = w16} w64 tt (c .fits .n))
+
+returns : tie.Need-returns
+returns c = search needs
+
+pub wide-spec : {M : Type 1} → statement M
+wide-spec = tie.close (tie.spec cast-result returns)

@@ -1,0 +1,4 @@
+pub mod Held
+pub mod Folds
+pub mod Determined
+pub mod Examples

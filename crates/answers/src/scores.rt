@@ -56,17 +56,29 @@ fn material(rest: &[u8], out: &mut [u8]) -> usize {
 // One bitboard has some bits turned over, and one byte is set.
 fn bent(rest: &[u8], out: &mut [u8]) -> usize {
     let p = positions::load(words::after(rest, 4));
-    let mut bitboards = p.bitboards;
-    let mut board = p.board;
-    let i = words::byte(rest, 0) as usize;
-    if i < 14 {
-        bitboards[i] = bitboards[i] ^ words::natural(rest, 1);
-    }
-    let k = words::byte(rest, 2) as usize;
-    if k < 64 {
-        board[k] = words::byte(rest, 3);
-    }
+    let bitboards = turned(
+        p.bitboards,
+        words::byte(rest, 0) as usize,
+        words::natural(rest, 1),
+    );
+    let board = set(p.board, words::byte(rest, 2) as usize, words::byte(rest, 3));
     put_scored(out, score::eval(&bitboards, &board, p.state))
+}
+
+fn turned(bitboards: [u64; 14], i: usize, bits: u64) -> [u64; 14] {
+    let mut bent = bitboards;
+    if i < 14 {
+        bent[i] = bent[i] ^ bits;
+    }
+    bent
+}
+
+fn set(board: [u8; 64], k: usize, byte: u8) -> [u8; 64] {
+    let mut bent = board;
+    if k < 64 {
+        bent[k] = byte;
+    }
+    bent
 }
 
 fn weight(rest: &[u8], out: &mut [u8]) -> usize {

@@ -11,3 +11,5 @@ pub mod Each
 pub mod Determined
 pub mod Examples
 pub mod Sums
+pub mod Members
+pub mod Turned

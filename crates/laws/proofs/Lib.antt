@@ -4,3 +4,5 @@ pub mod Tables
 pub mod Diff
 pub mod Words
 pub mod Sums
+pub mod Terms
+pub mod Whole

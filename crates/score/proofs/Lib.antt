@@ -6,3 +6,4 @@ pub mod Tally
 pub mod Verdicts
 pub mod Lent
 pub mod Examples
+pub mod Determined

@@ -1,0 +1,42 @@
+-- Laws of whole numbers that sums need: four terms in another order, products over sums, and a number that counts or does not.
+-- Assumes nothing.
+use mathlib.Core.Path.{_≡_, refl, sym, ap, ap₂, _∙_}
+use mathlib.Core.Bool.{Bool, true, false}
+use Prim.Native.Nat.{ℕ, suc, _+_, _*_}
+use native.Mathlib.Nat.{add-mul, one-mul}
+use lib.IntN.{ℤ, pos, negsuc, negℤ, negℤ-+ℤ, _+ℤ_, _*ℤ_, +ℤ-assoc, +ℤ-comm, *ℤ-negsuc, zero-*ℤ}
+use Rattle.laws.proofs.Diff.{up, dn, diff-of, diff-add, diff-scale, diff-eq}
+
+pub cross : (a b c d : ℤ) → (a +ℤ b) +ℤ (c +ℤ d) ≡ (a +ℤ c) +ℤ (b +ℤ d)
+cross a b c d =
+    +ℤ-assoc a b (c +ℤ d)
+    ∙ ap (λ (x : ℤ). a +ℤ x) (sym (+ℤ-assoc b c d) ∙ ap (λ (x : ℤ). x +ℤ d) (+ℤ-comm b c) ∙ +ℤ-assoc c b d)
+    ∙ sym (+ℤ-assoc a c (b +ℤ d))
+
+times-pos : (a b : ℤ) (n : ℕ) → (a +ℤ b) *ℤ pos n ≡ a *ℤ pos n +ℤ b *ℤ pos n
+times-pos a b n =
+    diff-eq ((a +ℤ b) *ℤ pos n) (a *ℤ pos n +ℤ b *ℤ pos n)
+    ((up a + up b) * n) ((dn a + dn b) * n) (up a * n + up b * n) (dn a * n + dn b * n)
+    (diff-scale (a +ℤ b) n (up a + up b) (dn a + dn b) (diff-add a b (up a) (dn a) (up b) (dn b) (diff-of a) (diff-of b)))
+    (diff-add (a *ℤ pos n) (b *ℤ pos n) (up a * n) (dn a * n) (up b * n) (dn b * n)
+    (diff-scale a n (up a) (dn a) (diff-of a)) (diff-scale b n (up b) (dn b) (diff-of b)))
+    (ap₂ _+_ (add-mul (up a) (up b) n) (sym (add-mul (dn a) (dn b) n)))
+
+pub times : (a b k : ℤ) → (a +ℤ b) *ℤ k ≡ a *ℤ k +ℤ b *ℤ k
+times a b (pos n) = times-pos a b n
+times a b (negsuc n) =
+    *ℤ-negsuc (a +ℤ b) n ∙ ap negℤ (times-pos a b (suc n)) ∙ negℤ-+ℤ (a *ℤ pos (suc n)) (b *ℤ pos (suc n))
+    ∙ sym (ap₂ _+ℤ_ (*ℤ-negsuc a n) (*ℤ-negsuc b n))
+
+pub once : (z : ℤ) → pos 1 *ℤ z ≡ z
+once (pos n) = ap pos (one-mul n)
+once (negsuc n) = ap (λ (m : ℕ). negℤ (pos m)) (one-mul (suc n))
+
+-- a number, or none
+abbrev pub gated : Bool → ℤ → ℤ
+gated true z = z
+gated false z = pos 0
+
+pub gate-plus : (t : Bool) (a b j k : ℤ) → gated t (a *ℤ j +ℤ b *ℤ k) ≡ gated t a *ℤ j +ℤ gated t b *ℤ k
+gate-plus true a b j k = refl
+gate-plus false a b j k = sym (ap₂ _+ℤ_ (zero-*ℤ j) (zero-*ℤ k))

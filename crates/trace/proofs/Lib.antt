@@ -1,0 +1,12 @@
+pub mod Planes
+pub mod Turns
+pub mod Walks
+pub mod Counted
+pub mod Weighed
+pub mod Doors
+pub mod Ranges
+pub mod Entries
+pub mod Exactly
+pub mod Tally
+pub mod Determined
+pub mod Examples

@@ -1,0 +1,5 @@
+pub mod Trace
+pub mod Weights
+pub mod Exact
+pub mod Marked
+pub mod Promises

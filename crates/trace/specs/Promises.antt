@@ -1,0 +1,71 @@
+-- What each function answers and promises, for all inputs. Definitions only.
+use mathlib.Core.Path.{_≡_}
+use mathlib.Core.Bool.{cond}
+use mathlib.Core.List.{List}
+use Prim.Native.Nat.{ℕ}
+use lib.Dec.{eqb}
+use lib.Ieee.{Float}
+use lib.IntN.{ℤ}
+use lib.ListN.{length}
+use Rattle.chess.specs.Answer.{Answer, given, refused, orRefuse}
+use Rattle.chess.specs.Refusals.{numberOf, refusalOf}
+use Rattle.chess.specs.declared.refusal.Refusal.the-variants as R
+use Rattle.position.specs.Consistent.{checked}
+use Rattle.position.specs.declared.State.{State}
+use Rattle.position.specs.declared.Checked.{Checked}
+use Rattle.position.specs.declared.Checked.the-variants.{Fit, Refused}
+use Rattle.double.specs.declared.Trace.{Trace}
+use Rattle.double.specs.declared.Weights.{Weights}
+use Rattle.trace.specs.Trace.{traceOf, entriesOf, noTrace}
+use Rattle.trace.specs.Weights.{shipped, shippedSquares}
+use Rattle.trace.specs.declared.Traced.{Traced}
+use Rattle.trace.specs.declared.shipped.Written.{Written}
+use Rattle.trace.specs.declared.shipped.Written.the-variants.{Done}
+use Rattle.trace.specs.declared.shipped.Written.the-variants as W
+
+-- "trace ..: 1, 2": SHAPE, also if "not .. 768 trace entries", then BOARD
+abbrev pub tracedOf : List ℕ → List ℕ → ℕ → List ℤ → Answer Trace
+tracedOf bbs bytes side entries =
+    orRefuse (eqb (length entries) 768) (numberOf R.Shape) (checked bbs bytes side (given (traceOf bbs side)))
+
+-- the answer on the paper: an array can't stand in an enum, so the trace stands beside the test's outcome
+abbrev pub paperOf : Checked → Trace → Answer Trace
+paperOf Fit t = given t
+paperOf (Refused r) t = refusalOf r
+
+abbrev pub paper : Traced → Answer Trace
+paper r = paperOf (r .checked) (r .trace)
+
+-- the trace that comes with an answer: where it is refused, no trace
+abbrev pub besideOf : Answer Trace → Trace
+besideOf (given t) = t
+besideOf (refused n l) = noTrace
+
+-- the entries after an answer: "a refusal .. changes no lent byte"
+abbrev pub entriesAfter : Answer Trace → List ℕ → List ℤ → List ℤ
+entriesAfter (given t) bbs entries = entriesOf bbs
+entriesAfter (refused n l) bbs entries = entries
+
+abbrev pub Traces : List ℕ → List ℕ → State → List ℤ → Traced → List ℤ → Type 0
+Traces bitboards board state before r after =
+    (paper r ≡ tracedOf bitboards board (state .side) before)
+    × (r .trace ≡ besideOf (tracedOf bitboards board (state .side) before))
+    × (after ≡ entriesAfter (tracedOf bitboards board (state .side) before) bitboards before)
+
+-- ---- the shipped weights
+abbrev pub Ships : Weights → Type 0
+Ships r = r ≡ shipped
+
+-- SHAPE: "not .. 768 weights"
+abbrev pub writtenOf : List Float → Answer Unit
+writtenOf squares = orRefuse (eqb (length squares) 768) (numberOf R.Shape) (given tt)
+
+abbrev pub written : Written → Answer Unit
+written Done = given tt
+written (W.Refused r) = refusalOf r
+
+abbrev pub squaresAfter : List Float → List Float
+squaresAfter squares = cond (eqb (length squares) 768) shippedSquares squares
+
+abbrev pub ShipsSquares : List Float → Written → List Float → Type 0
+ShipsSquares before r after = (written r ≡ writtenOf before) × (after ≡ squaresAfter before)

@@ -1,0 +1,82 @@
+// The shipped weights, from which `Tuner::new` starts: the score's own numbers.
+ghost use mathlib.Core.Path.{_≡_};
+ghost use Prim.Native.Nat.{_<_};
+ghost use lib.ListN.{length};
+ghost use Rattle.pst.specs.Pst.{pstTable};
+ghost use Rattle.double.specs.Double.{dbl};
+ghost use Rattle.trace.specs.Weights.{squareWeight, shippedSquares};
+ghost use Rattle.trace.specs.Promises.{Ships, ShipsSquares};
+use chess::kind::Kind;
+use chess::refusal::Refusal;
+use chess::weight::SquareWeight;
+use double::Weights;
+
+pub enum Written {
+    Done,
+    Refused(Refusal),
+}
+
+const BISHOP_PAIR: u32 = 33;
+
+const KNIGHT_MOBILITY: u32 = 24;
+
+const BISHOP_MOBILITY: u32 = 47;
+
+const ROOK_MOBILITY: u32 = 39;
+
+const QUEEN_MOBILITY: u32 = 21;
+
+const TEMPO: u32 = 11;
+
+// The eleven that have a name.
+pub fn weights() -> Weights
+    ensures { λ r. ⌜ Ships r ⌝ }
+{
+    Weights {
+        pawn: Kind::PAWN_VALUE as f64,
+        knight: Kind::KNIGHT_VALUE as f64,
+        bishop: Kind::BISHOP_VALUE as f64,
+        rook: Kind::ROOK_VALUE as f64,
+        queen: Kind::QUEEN_VALUE as f64,
+        bishop_pair: BISHOP_PAIR as f64,
+        knight_mobility: KNIGHT_MOBILITY as f64,
+        bishop_mobility: BISHOP_MOBILITY as f64,
+        rook_mobility: ROOK_MOBILITY as f64,
+        queen_mobility: QUEEN_MOBILITY as f64,
+        tempo: TEMPO as f64,
+    }
+}
+
+// The square weight at a place: what the white piece weighs.
+fn square_weight(pst: &[i16], place: usize) -> f64
+    requires { ⌜ (now pst ≡ pstTable) × (place < 768) ⌝ }
+    ensures { λ r. ⌜ r ≡ dbl (squareWeight place) ⌝ }
+{
+    let kind = (place / 128) as u8;
+    let phase = (place % 128 / 64) as u8;
+    let square = (place % 64) as u8;
+    pst::inner::weight(pst, chess::inner::white(kind), square, phase) as f64
+}
+
+fn fill(pst: &[i16], squares: &mut [f64])
+    requires { ⌜ (now pst ≡ pstTable) × (length (now squares) ≡ 768) ⌝ }
+    ensures { λ r. ⌜ now (squares .exit) ≡ shippedSquares ⌝ }
+{
+    let mut place: usize = 0;
+    while place < SquareWeight::COUNT {
+        squares[place] = square_weight(pst, place);
+        place += 1;
+    }
+}
+
+// The 768 square weights: SHAPE where there is not room for just as many.
+pub fn square_weights(squares: &mut [f64]) -> Written
+    ensures { λ r. ⌜ ShipsSquares (now (squares .entry)) r (now (squares .exit)) ⌝ }
+{
+    if squares.len() != SquareWeight::COUNT {
+        return Written::Refused(Refusal::Shape);
+    }
+    let pst = pst::inner::table();
+    fill(&pst, squares);
+    Written::Done
+}

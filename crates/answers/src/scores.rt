@@ -56,12 +56,14 @@ fn material(rest: &[u8], out: &mut [u8]) -> usize {
 // One bitboard has some bits turned over, and one byte is set.
 fn bent(rest: &[u8], out: &mut [u8]) -> usize {
     let p = positions::load(words::after(rest, 4));
+    let boards = p.bitboards;
+    let bytes = p.board;
     let bitboards = turned(
-        p.bitboards,
+        boards,
         words::byte(rest, 0) as usize,
         words::natural(rest, 1),
     );
-    let board = set(p.board, words::byte(rest, 2) as usize, words::byte(rest, 3));
+    let board = set(bytes, words::byte(rest, 2) as usize, words::byte(rest, 3));
     put_scored(out, score::eval(&bitboards, &board, p.state))
 }
 

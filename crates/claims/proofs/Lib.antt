@@ -1,2 +1,3 @@
 pub mod Agreed
 pub mod Reached
+pub mod Starred

@@ -1,0 +1,85 @@
+-- Document 01's starred positions, scores and exchanges, as one table under one theorem about the definitions, by computation. Assumes nothing.
+use mathlib.Core.Path.{_≡_, refl}
+use mathlib.Core.List.{List, [], _∷_, _++_, map}
+use Prim.Native.Nat.{ℕ, suc, _+_}
+use lib.IntN.{ℤ, pos, negsuc}
+use Rattle.laws.specs.Tests.{allBelow}
+use Rattle.laws.specs.Tables.{tabulate}
+use Rattle.chess.specs.Answer.{Answer, given, refused}
+use Rattle.bits.specs.Bitboard.{has, those, some, howMany}
+use Rattle.position.specs.Boards.{bitboardsOf}
+use Rattle.position.specs.Consistent.{crowd, ofColour, consistent, checked}
+use Rattle.exchange.proofs.Examples.{Placed, Row, bytesOf, answered, starred as starredExchanges}
+use Rattle.score.specs.Verdict.{lost, won, drawn}
+use Rattle.score.specs.Score.{Outcome, verdict, score, evalOf}
+
+-- ---- what is asked of a position: the score of a side to move, or White's exchange from a square to another
+pub data Question : Type 0 where
+  scored : ℕ → Question
+  exchanged : ℕ → ℕ → Question
+
+-- an exchange's value as an outcome
+abbrev valued : Answer ℤ → Answer Outcome
+valued (given z) = given (score z)
+valued (refused number beside) = refused number beside
+
+-- what the doors of the score and of the exchange answer, refusals and all
+unfoldable pub answerOf : List Placed → Question → Answer Outcome
+unfolding bytesOf bitboardsOf tabulate those has some howMany allBelow crowd ofColour consistent checked evalOf answered
+answerOf ps (scored side) = let bytes : List ℕ = bytesOf ps in evalOf (bitboardsOf bytes) bytes side
+answerOf ps (exchanged from to) = valued (answered ps from to)
+
+pub record Starred : Type 0 where
+  pub pieces : List Placed
+  pub asked : Question
+  pub outcome : Outcome
+
+abbrev star : List Placed → Question → Outcome → Starred
+star ps q o = record { pieces = ps; asked = q; outcome = o }
+
+-- ---- the pieces: a code on a square
+abbrev on : ℕ → ℕ → Placed
+on code square = record { code = code; square = square }
+
+abbrev kings : List Placed
+kings = on 6 4 ∷ on 7 60 ∷ []
+
+-- a rank of pieces of a colour from the a-file on, and its pawns
+abbrev files : ℕ → ℕ → List ℕ → List Placed
+files colour s [] = []
+files colour s (code ∷ codes) = on (code + colour) s ∷ files colour (suc s) codes
+
+abbrev pieceRank : List ℕ
+pieceRank = 10 ∷ 4 ∷ 8 ∷ 12 ∷ 6 ∷ 8 ∷ 4 ∷ 10 ∷ []
+
+abbrev pawnRank : List ℕ
+pawnRank = 2 ∷ 2 ∷ 2 ∷ 2 ∷ 2 ∷ 2 ∷ 2 ∷ 2 ∷ []
+
+abbrev start : List Placed
+start = files 0 0 pieceRank ++ (files 0 8 pawnRank ++ (files 1 48 pawnRank ++ files 1 56 pieceRank))
+
+-- ---- the table
+abbrev pub starredScores : List Starred
+starredScores =
+    -- kings e1, e8, pawn e2
+    star (on 2 12 ∷ kings) (scored 0) (score (pos 117))
+    ∷ star (on 2 12 ∷ kings) (scored 1) (score (negsuc 94))
+    -- kings e1, e8, white rook a1, White to move
+    ∷ star (on 10 0 ∷ kings) (scored 0) (score (pos 535))
+    -- starting position, either side
+    ∷ star start (scored 0) (score (pos 11))
+    ∷ star start (scored 1) (score (pos 11))
+    -- empty board; lone white king
+    ∷ star [] (scored 0) (verdict lost)
+    ∷ star (on 6 4 ∷ []) (scored 0) (verdict won)
+    ∷ star (on 6 4 ∷ []) (scored 1) (verdict lost)
+    -- two white kings alone
+    ∷ star (on 6 4 ∷ on 6 60 ∷ []) (scored 0) (verdict drawn)
+    ∷ []
+
+abbrev pub starred : List Starred
+starred = starredScores ++ map (λ (r : Row). star (r .pieces) (exchanged (r .from) (r .to)) (score (r .worth))) starredExchanges
+
+pub starred-right : map (λ (s : Starred). answerOf (s .pieces) (s .asked)) starred ≡ map (λ (s : Starred). given (s .outcome)) starred
+unfolding answerOf
+starred-right = refl

@@ -21,7 +21,8 @@ use Rattle.pst.specs.Pst.{pstOf}
 use Rattle.parts.specs.Parts.{partOf, sideFits, sumFits, total}
 use Rattle.parts.specs.declared.Side.{Side}
 use Rattle.score.specs.Pieces.{count, pieces}
-use Rattle.score.specs.Material.{valueOf, worth, pair, material}
+use Rattle.chess.specs.Values.{valueOf}
+use Rattle.score.specs.Material.{worth, pair, material}
 use Rattle.score.specs.Mobility.{mobilityBy}
 use Rattle.score.specs.Weights.{weighedBy}
 use Rattle.score.specs.Verdict.{Verdict, lost, won, drawn, none, toMove, verdictOf}

@@ -8,7 +8,8 @@ use lib.ListN.{getD}
 use Rattle.laws.proofs.Tests.{entry-le}
 use Rattle.chess.specs.Codes.{whiteOf}
 use Rattle.chess.proofs.Codes.{white-le}
-use Rattle.score.specs.Material.{values, valueOf, pieceValues}
+use Rattle.chess.specs.Values.{values, valueOf}
+use Rattle.score.specs.Material.{pieceValues}
 use Rattle.score.specs.Mobility.{factors, factorOf, mobilities}
 
 value-at : (kind : ℕ) → getD pieceValues (whiteOf kind) 0 ≡ valueOf kind

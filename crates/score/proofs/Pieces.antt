@@ -11,7 +11,8 @@ use Rattle.bits.specs.Bitboard.{has, howMany}
 use Rattle.bits.proofs.Counts.{many-le}
 use Rattle.attack.specs.Attacks.{standing, occupied}
 use Rattle.score.specs.Pieces.{count, pieces}
-use Rattle.score.specs.Material.{valueOf, worth, pair, material}
+use Rattle.chess.specs.Values.{valueOf}
+use Rattle.score.specs.Material.{worth, pair, material}
 use Rattle.score.proofs.Constants.{worth-le}
 
 module _ (bbs : List ℕ) where

@@ -1,22 +1,15 @@
 -- Material (document 01, "The score"). Definitions only.
 use mathlib.Core.Bool.{cond}
-use mathlib.Core.List.{List, [], _∷_}
+use mathlib.Core.List.{List}
 use Prim.Native.Nat.{ℕ, _+_, _*_}
 use lib.Dec.{leb}
-use lib.ListN.{getD}
 use Rattle.laws.specs.Sums.{sumN}
 use Rattle.laws.specs.Tables.{tabulate}
 use Rattle.chess.specs.Codes.{isPiece, kindOf}
+use Rattle.chess.specs.Values.{valueOf}
 use Rattle.score.specs.Pieces.{count}
 
--- "100, 304, 292, 487, 1013, 10000 for pawn, knight, bishop, rook, queen, king"
-abbrev pub values : List ℕ
-values = 100 ∷ 304 ∷ 292 ∷ 487 ∷ 1013 ∷ 10000 ∷ []
-
-abbrev pub valueOf : ℕ → ℕ
-valueOf kind = getD values kind 0
-
--- the same by code, for both colours; codes 0 and 1 have none
+-- what each kind is worth, by code, for both colours; codes 0 and 1 have none
 unfoldable pub pieceValues : List ℕ
 unfolding tabulate
 pieceValues = tabulate 14 (λ code. cond (isPiece code) (valueOf (kindOf code)) 0)

@@ -13,7 +13,8 @@ use Rattle.laws.proofs.Terms.{diff-of-two, diff-weighed}
 use Rattle.chess.specs.Places.{entryPlace, weightPlace}
 use Rattle.attack.specs.Attacks.{attacks}
 use Rattle.score.specs.Pieces.{count, pieces}
-use Rattle.score.specs.Material.{valueOf, pair}
+use Rattle.chess.specs.Values.{valueOf}
+use Rattle.score.specs.Material.{pair}
 use Rattle.score.specs.Mobility.{factorOf, attackedBy, attacked, mobilityBy}
 use Rattle.double.specs.Double as D
 use Rattle.double.specs.declared.Trace.{Trace}

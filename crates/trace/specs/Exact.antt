@@ -8,7 +8,7 @@ use lib.IntN.{ℤ, pos, negℤ, _+ℤ_, _-ℤ_, _*ℤ_}
 use lib.ListN.{getD}
 use Rattle.laws.specs.Sums.{sumZ}
 use Rattle.chess.specs.Places.{entryPlace, weightPlace}
-use Rattle.score.specs.Material.{valueOf}
+use Rattle.chess.specs.Values.{valueOf}
 use Rattle.score.specs.Mobility.{factorOf}
 use Rattle.double.specs.Double.{attacked}
 use Rattle.double.specs.declared.Trace.{Trace}

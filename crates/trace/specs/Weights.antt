@@ -7,7 +7,7 @@ use lib.Ieee.{Float}
 use Rattle.laws.specs.Tables.{tabulate}
 use Rattle.chess.specs.Codes.{codeOf}
 use Rattle.pst.specs.Pst.{pstOf}
-use Rattle.score.specs.Material.{valueOf}
+use Rattle.chess.specs.Values.{valueOf}
 use Rattle.score.specs.Mobility.{factorOf}
 use Rattle.double.specs.Double.{dbl}
 use Rattle.double.specs.declared.Weights.{Weights}

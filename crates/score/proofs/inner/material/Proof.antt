@@ -6,7 +6,7 @@ use borrow.Author.Needs.{needs}
 use Rattle.laws.specs.Sums.{sumN}
 use Rattle.laws.proofs.Sums.{sum-none, sum-more}
 use Rattle.score.specs.Pieces.{count}
-use Rattle.score.specs.Material.{valueOf}
+use Rattle.chess.specs.Values.{valueOf}
 use Rattle.score.proofs.Pieces.{worth-of}
 use Rattle.score.proofs.inner.material.Statement.{statement}
 use Rattle.score.proofs.inner.material.Tie as tie

@@ -4,7 +4,8 @@ use Prim.Native.Nat.{ℕ, _*_, _≤_}
 use borrow.Author.Needs.{needs}
 use lib.ListN.{getD}
 use mir.Facts.{fits-le, fits-lit}
-use Rattle.score.specs.Material.{valueOf, pieceValues}
+use Rattle.chess.specs.Values.{valueOf}
+use Rattle.score.specs.Material.{pieceValues}
 use Rattle.score.proofs.Constants.{place-lt, value-is, worth-le}
 use Rattle.score.proofs.inner.value.Statement.{statement}
 use Rattle.score.proofs.inner.value.Tie as tie

@@ -5,8 +5,17 @@ ghost use lib.Bits.{bitOr};
 ghost use Rattle.attack.specs.Attacks.{standing};
 ghost use Rattle.attack.specs.Promises.{Other, Standing, Occupied, AttacksWith, AttackersWith, AttackedWith, CheckWith};
 use bits::inner::at;
+use chess::color::BLACK;
+use chess::color::WHITE;
 use chess::inner::code;
 use chess::inner::index;
+use chess::kind::BISHOP;
+use chess::kind::KING;
+use chess::kind::KNIGHT;
+use chess::kind::PAWN;
+use chess::kind::QUEEN;
+use chess::kind::ROOK;
+use chess::square::Square;
 use rays::inner::bishop;
 use rays::inner::queen;
 use rays::inner::rook;
@@ -15,23 +24,6 @@ use steps::inner::KING_ROW;
 use steps::inner::KNIGHT_ROW;
 use steps::inner::WHITE_PAWN_ROW;
 use steps::inner::step;
-
-const WHITE: u8 = 0;
-
-const BLACK: u8 = 1;
-
-// Kinds in document 01's order.
-pub const PAWN: u8 = 0;
-
-pub const KNIGHT: u8 = 1;
-
-pub const BISHOP: u8 = 2;
-
-pub const ROOK: u8 = 3;
-
-pub const QUEEN: u8 = 4;
-
-pub const KING: u8 = 5;
 
 // The colour that is not the one named; any number but White's has White for the other.
 pub fn other(color: u8) -> u8
@@ -58,7 +50,13 @@ pub fn occupied(bitboards: &[u64]) -> u64
 }
 
 // The squares that a piece of a kind and a colour attacks; none from a square above 63, and none for a number that is no kind.
-pub fn attacks(kind: u8, color: u8, square: u8, occupied: u64, tables: &[[u64; 64]; 4]) -> u64
+pub fn attacks(
+    kind: u8,
+    color: u8,
+    square: u8,
+    occupied: u64,
+    tables: &[[u64; Square::COUNT]; 4],
+) -> u64
     ensures { λ r. ⌜ AttacksWith (now (tables .entry)) kind color square occupied r ⌝ }
 {
     match kind {
@@ -77,7 +75,12 @@ fn both(bitboards: &[u64], kind: u8) -> u64
 }
 
 // The squares of the pieces of both colours that attack a square: none attacks a square above 63.
-pub fn attacks_to(bitboards: &[u64], square: u8, occupied: u64, tables: &[[u64; 64]; 4]) -> u64
+pub fn attacks_to(
+    bitboards: &[u64],
+    square: u8,
+    occupied: u64,
+    tables: &[[u64; Square::COUNT]; 4],
+) -> u64
     ensures { λ r. ⌜ AttackersWith (now (tables .entry)) (now (bitboards .entry)) square occupied r ⌝ }
 {
     let white_pawns = standing(bitboards, PAWN, WHITE) & step(tables, BLACK_PAWN_ROW, square);
@@ -91,7 +94,12 @@ pub fn attacks_to(bitboards: &[u64], square: u8, occupied: u64, tables: &[[u64; 
 }
 
 // Whether a piece of the other colour attacks a square.
-pub fn is_attacked(bitboards: &[u64], square: u8, color: u8, tables: &[[u64; 64]; 4]) -> bool
+pub fn is_attacked(
+    bitboards: &[u64],
+    square: u8,
+    color: u8,
+    tables: &[[u64; Square::COUNT]; 4],
+) -> bool
     ensures { λ r. ⌜ AttackedWith (now (tables .entry)) (now (bitboards .entry)) square color r ⌝ }
 {
     let attackers = attacks_to(bitboards, square, occupied(bitboards), tables);
@@ -99,7 +107,7 @@ pub fn is_attacked(bitboards: &[u64], square: u8, color: u8, tables: &[[u64; 64]
 }
 
 // Whether a colour's king is attacked, the lowest if it has several; true if it has none.
-pub fn is_check(bitboards: &[u64], color: u8, tables: &[[u64; 64]; 4]) -> bool
+pub fn is_check(bitboards: &[u64], color: u8, tables: &[[u64; Square::COUNT]; 4]) -> bool
     ensures { λ r. ⌜ CheckWith (now (tables .entry)) (now (bitboards .entry)) color r ⌝ }
 {
     let king = standing(bitboards, KING, color);

@@ -3,6 +3,13 @@ ghost use mathlib.Core.Path.{_≡_};
 ghost use Rattle.attack.specs.Attacks.{attacks};
 ghost use Rattle.attack.specs.Lent.{pawnRow, rowOf};
 ghost use Rattle.attack.specs.Promises.{PieceAttacks, AttacksTo, IsAttacked, IsCheck};
+use chess::color::WHITE;
+use chess::kind::BISHOP;
+use chess::kind::KING;
+use chess::kind::KNIGHT;
+use chess::kind::PAWN;
+use chess::kind::QUEEN;
+use chess::kind::ROOK;
 use chess::refusal::Refusal;
 use position::Checked;
 use position::State;
@@ -32,7 +39,7 @@ pub enum Told {
 fn pawn_row(color: u8) -> usize
     ensures { λ r. ⌜ r ≡ pawnRow color ⌝ }
 {
-    if color == 0 {
+    if color == WHITE {
         return WHITE_PAWN_ROW;
     }
     BLACK_PAWN_ROW
@@ -43,9 +50,9 @@ fn row(kind: u8, color: u8) -> usize
     ensures { λ r. ⌜ r ≡ rowOf kind color ⌝ }
 {
     match kind {
-        inner::PAWN => pawn_row(color),
-        inner::KNIGHT => KNIGHT_ROW,
-        inner::KING => KING_ROW,
+        PAWN => pawn_row(color),
+        KNIGHT => KNIGHT_ROW,
+        KING => KING_ROW,
         _ => 4,
     }
 }
@@ -55,9 +62,9 @@ fn attacks(kind: u8, color: u8, square: u8, occupied: u64) -> u64
     ensures { λ r. ⌜ r ≡ attacks kind color square occupied ⌝ }
 {
     match kind {
-        inner::BISHOP => bishop(square, occupied),
-        inner::ROOK => rook(square, occupied),
-        inner::QUEEN => queen(square, occupied),
+        BISHOP => bishop(square, occupied),
+        ROOK => rook(square, occupied),
+        QUEEN => queen(square, occupied),
         _ => reached(row(kind, color), square),
     }
 }
@@ -66,13 +73,13 @@ fn attacks(kind: u8, color: u8, square: u8, occupied: u64) -> u64
 pub fn piece_attacks(piece: u8, square: u8, occupied: u64) -> Found
     ensures { λ r. ⌜ PieceAttacks piece square occupied r ⌝ }
 {
-    if piece < 2 {
+    if piece < chess::piece::FIRST {
         return Found::Refused(Refusal::Shape);
     }
-    if piece > 13 {
+    if piece > chess::piece::LAST {
         return Found::Refused(Refusal::Shape);
     }
-    if square > 63 {
+    if square > chess::square::LAST {
         return Found::Refused(Refusal::Square);
     }
     Found::Squares(attacks(chess::inner::kind(piece), piece % 2, square, occupied))
@@ -85,7 +92,7 @@ pub fn attacks_to(bitboards: &[u64], board: &[u8], state: State, square: u8, occ
     if let Checked::Refused(refusal) = position::check(bitboards, board, state) {
         return Found::Refused(refusal);
     }
-    if square > 63 {
+    if square > chess::square::LAST {
         return Found::Refused(Refusal::Square);
     }
     let tables = tables();
@@ -102,7 +109,7 @@ pub fn is_attacked(bitboards: &[u64], board: &[u8], state: State, square: u8, co
     if let Checked::Refused(refusal) = position::check(bitboards, board, state) {
         return Told::Refused(refusal);
     }
-    if square > 63 {
+    if square > chess::square::LAST {
         return Told::Refused(Refusal::Square);
     }
     let tables = tables();

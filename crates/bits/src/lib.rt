@@ -41,7 +41,7 @@ pub fn shift(b: u64, s: i8) -> Changed
 {
     if s >= 0 {
         let n = s as u64;
-        if n > 63 {
+        if n > chess::square::FARTHEST {
             return Changed::Refused(Refusal::Shape);
         }
         Changed::Bitboard(b << n)
@@ -59,7 +59,7 @@ pub fn shift(b: u64, s: i8) -> Changed
 pub fn from_square(square: u8) -> Changed
     ensures { λ r. ⌜ FromSquare square r ⌝ }
 {
-    if square > 63 {
+    if square > chess::square::LAST {
         return Changed::Refused(Refusal::Square);
     }
     Changed::Bitboard(1 << square)
@@ -68,7 +68,7 @@ pub fn from_square(square: u8) -> Changed
 pub fn get(b: u64, square: u8) -> Got
     ensures { λ r. ⌜ Gets b square r ⌝ }
 {
-    if square > 63 {
+    if square > chess::square::LAST {
         return Got::Refused(Refusal::Square);
     }
     Got::Is((b >> square) & 1 != 0)
@@ -77,7 +77,7 @@ pub fn get(b: u64, square: u8) -> Got
 pub fn set(b: u64, square: u8) -> Changed
     ensures { λ r. ⌜ Sets b square r ⌝ }
 {
-    if square > 63 {
+    if square > chess::square::LAST {
         return Changed::Refused(Refusal::Square);
     }
     Changed::Bitboard(b | 1 << square)
@@ -86,7 +86,7 @@ pub fn set(b: u64, square: u8) -> Changed
 pub fn toggle(b: u64, square: u8) -> Changed
     ensures { λ r. ⌜ Toggles b square r ⌝ }
 {
-    if square > 63 {
+    if square > chess::square::LAST {
         return Changed::Refused(Refusal::Square);
     }
     Changed::Bitboard(b ^ 1 << square)
@@ -95,7 +95,7 @@ pub fn toggle(b: u64, square: u8) -> Changed
 pub fn reset(b: u64, square: u8) -> Changed
     ensures { λ r. ⌜ Resets b square r ⌝ }
 {
-    if square > 63 {
+    if square > chess::square::LAST {
         return Changed::Refused(Refusal::Square);
     }
     Changed::Bitboard(b & !(1 << square))

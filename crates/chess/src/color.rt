@@ -2,6 +2,11 @@
 ghost use Rattle.chess.specs.Colors.{NewColor, ColorIndex};
 use crate::refusal::Refusal;
 
+// The plain numbers, for the loops of the crates above.
+pub const WHITE: u8 = 0;
+
+pub const BLACK: u8 = 1;
+
 // `new` and the constants make no number out of range.
 pub struct Color(u8);
 
@@ -14,9 +19,9 @@ pub enum Made {
 impl Color {
     pub const COUNT: usize = 2;
 
-    pub const WHITE: Color = Color(0);
+    pub const WHITE: Color = Color(WHITE);
 
-    pub const BLACK: Color = Color(1);
+    pub const BLACK: Color = Color(BLACK);
 
     pub fn new(index: u8) -> Made
         ensures { λ r. ⌜ NewColor index r ⌝ }

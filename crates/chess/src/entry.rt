@@ -11,6 +11,10 @@ pub struct Entry(usize);
 impl Entry {
     pub const COUNT: usize = 768;
 
+    pub const PER_KIND: usize = 128;
+
+    pub const PER_SQUARE: usize = 2;
+
     pub fn of(kind: Kind, square: Square, color: Color) -> Entry
         ensures { λ r. ⌜ EntryOf kind square color r ⌝ }
     {

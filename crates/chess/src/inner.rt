@@ -4,7 +4,16 @@ ghost use Rattle.chess.specs.Squares.{Flips};
 ghost use Rattle.chess.specs.Codes.{kindOfHalf, Same, White, Kinds, Codes};
 ghost use Rattle.chess.specs.Places.{EntryPlace, WeightPlace};
 ghost use Rattle.chess.specs.Values.{Worth};
+use crate::color::WHITE;
+use crate::entry::Entry;
+use crate::kind::BISHOP;
+use crate::kind::KING;
+use crate::kind::KNIGHT;
 use crate::kind::Kind;
+use crate::kind::PAWN;
+use crate::kind::QUEEN;
+use crate::kind::ROOK;
+use crate::weight::SquareWeight;
 
 // A number as an index.
 pub fn index(number: u8) -> usize
@@ -17,7 +26,7 @@ pub fn index(number: u8) -> usize
 pub fn flip(square: u8, color: u8) -> u8
     ensures { λ r. ⌜ Flips square color r ⌝ }
 {
-    if color == 0 {
+    if color == WHITE {
         return square;
     }
     square ^ 56
@@ -28,12 +37,12 @@ pub fn white(kind: u8) -> u8
     ensures { λ r. ⌜ White kind r ⌝ }
 {
     match kind {
-        0 => 2,
-        1 => 4,
-        2 => 8,
-        3 => 10,
-        4 => 12,
-        5 => 6,
+        PAWN => 2,
+        KNIGHT => 4,
+        BISHOP => 8,
+        ROOK => 10,
+        QUEEN => 12,
+        KING => 6,
         _ => 0,
     }
 }
@@ -43,12 +52,12 @@ fn kind_of_half(half: u8) -> u8
     ensures { λ r. ⌜ r ≡ kindOfHalf half ⌝ }
 {
     match half {
-        1 => 0,
-        2 => 1,
-        4 => 2,
-        5 => 3,
-        6 => 4,
-        _ => 5,
+        1 => PAWN,
+        2 => KNIGHT,
+        4 => BISHOP,
+        5 => ROOK,
+        6 => QUEEN,
+        _ => KING,
     }
 }
 
@@ -71,12 +80,12 @@ pub fn value(kind: u8) -> u32
     ensures { λ r. ⌜ Worth kind r ⌝ }
 {
     match kind {
-        0 => Kind::PAWN_VALUE,
-        1 => Kind::KNIGHT_VALUE,
-        2 => Kind::BISHOP_VALUE,
-        3 => Kind::ROOK_VALUE,
-        4 => Kind::QUEEN_VALUE,
-        5 => Kind::KING_VALUE,
+        PAWN => Kind::PAWN_VALUE,
+        KNIGHT => Kind::KNIGHT_VALUE,
+        BISHOP => Kind::BISHOP_VALUE,
+        ROOK => Kind::ROOK_VALUE,
+        QUEEN => Kind::QUEEN_VALUE,
+        KING => Kind::KING_VALUE,
         _ => 0,
     }
 }
@@ -85,12 +94,12 @@ pub fn value(kind: u8) -> u32
 pub fn entry(kind: u8, square: u8, color: u8) -> usize
     ensures { λ r. ⌜ EntryPlace kind square color r ⌝ }
 {
-    128 * index(kind) + 2 * index(square) + index(color)
+    Entry::PER_KIND * index(kind) + Entry::PER_SQUARE * index(square) + index(color)
 }
 
 // Where the weight of a kind, a phase and a square stands.
 pub fn weight(kind: u8, phase: u8, square: u8) -> usize
     ensures { λ r. ⌜ WeightPlace kind phase square r ⌝ }
 {
-    128 * index(kind) + 64 * index(phase) + index(square)
+    SquareWeight::PER_KIND * index(kind) + SquareWeight::PER_PHASE * index(phase) + index(square)
 }

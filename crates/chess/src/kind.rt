@@ -3,6 +3,22 @@ ghost use Rattle.chess.specs.Kinds.{NewKind, KindIndex, KindOf};
 use crate::inner;
 use crate::refusal::Refusal;
 
+// The plain numbers, for the loops of the crates above.
+pub const PAWN: u8 = 0;
+
+pub const KNIGHT: u8 = 1;
+
+pub const BISHOP: u8 = 2;
+
+pub const ROOK: u8 = 3;
+
+pub const QUEEN: u8 = 4;
+
+pub const KING: u8 = 5;
+
+// How many kinds there are, as such a number.
+pub const KINDS: u8 = 6;
+
 // `new` and the constants make no number out of range.
 pub struct Kind(u8);
 
@@ -15,17 +31,17 @@ pub enum Made {
 impl Kind {
     pub const COUNT: usize = 6;
 
-    pub const PAWN: Kind = Kind(0);
+    pub const PAWN: Kind = Kind(PAWN);
 
-    pub const KNIGHT: Kind = Kind(1);
+    pub const KNIGHT: Kind = Kind(KNIGHT);
 
-    pub const BISHOP: Kind = Kind(2);
+    pub const BISHOP: Kind = Kind(BISHOP);
 
-    pub const ROOK: Kind = Kind(3);
+    pub const ROOK: Kind = Kind(ROOK);
 
-    pub const QUEEN: Kind = Kind(4);
+    pub const QUEEN: Kind = Kind(QUEEN);
 
-    pub const KING: Kind = Kind(5);
+    pub const KING: Kind = Kind(KING);
 
     pub const PAWN_VALUE: u32 = 100;
 

@@ -5,6 +5,13 @@ use crate::inner;
 use crate::kind::Kind;
 use crate::refusal::Refusal;
 
+// The least code and the greatest, as plain numbers, and how many there are.
+pub const FIRST: u8 = 2;
+
+pub const LAST: u8 = 13;
+
+pub const PIECES: u8 = 12;
+
 // `new`, `of` and the constants make no code outside 2 to 13.
 pub struct Piece(u8);
 
@@ -23,7 +30,7 @@ impl Piece {
     // What stands on an empty square.
     pub const EMPTY: u8 = 0;
 
-    pub const WHITE_PAWN: Piece = Piece(2);
+    pub const WHITE_PAWN: Piece = Piece(FIRST);
 
     pub const BLACK_PAWN: Piece = Piece(3);
 
@@ -45,7 +52,7 @@ impl Piece {
 
     pub const WHITE_QUEEN: Piece = Piece(12);
 
-    pub const BLACK_QUEEN: Piece = Piece(13);
+    pub const BLACK_QUEEN: Piece = Piece(LAST);
 
     pub fn new(code: u8) -> Made
         ensures { λ r. ⌜ NewPiece code r ⌝ }

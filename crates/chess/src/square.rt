@@ -4,6 +4,12 @@ use crate::color::Color;
 use crate::inner;
 use crate::refusal::Refusal;
 
+// The greatest square as a plain number.
+pub const LAST: u8 = 63;
+
+// The farthest that a bitboard may be shifted.
+pub const FARTHEST: u64 = 63;
+
 // `new` and the constants make no number out of range.
 pub struct Square(u8);
 
@@ -142,7 +148,7 @@ impl Square {
 
     pub const G8: Square = Square(62);
 
-    pub const H8: Square = Square(63);
+    pub const H8: Square = Square(LAST);
 
     pub fn new(index: u8) -> Made
         ensures { λ r. ⌜ NewSquare index r ⌝ }

@@ -11,6 +11,10 @@ pub struct SquareWeight(usize);
 impl SquareWeight {
     pub const COUNT: usize = 768;
 
+    pub const PER_KIND: usize = 128;
+
+    pub const PER_PHASE: usize = 64;
+
     pub fn of(kind: Kind, phase: Phase, square: Square) -> SquareWeight
         ensures { λ r. ⌜ SquareWeightOf kind phase square r ⌝ }
     {

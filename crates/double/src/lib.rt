@@ -6,7 +6,9 @@ ghost use Prim.Native.Nat.{_+_, _<_};
 ghost use Rattle.double.specs.Ranges.{within, allWithin, isSide, countsWithin, inRanges};
 ghost use Rattle.double.specs.Double.{counted, moved, material, mobility, named, between, added, folded};
 ghost use Rattle.double.specs.Promises.{Doubles};
+use chess::color::Color;
 use chess::entry::Entry;
+use chess::piece::Piece;
 use chess::refusal::Refusal;
 use chess::weight::SquareWeight;
 
@@ -33,7 +35,7 @@ pub struct Trace {
     pub rooks: [i32; 2],
     pub queens: [i32; 2],
     pub bishop_pair: [i32; 2],
-    pub mobility: [i32; 12],
+    pub mobility: [i32; Piece::COUNT],
     pub side: i32,
     pub piece_count: i32,
 }
@@ -42,6 +44,28 @@ pub enum Doubled {
     Is(f64),
     Refused(Refusal),
 }
+
+// TRACE's bounds: no more pieces than squares, and 64 pieces that attack 27 squares each.
+const MOST_PIECES: i32 = 64;
+
+const MOST_ATTACKED: i32 = 27 * MOST_PIECES;
+
+// Where the attacked squares stand that are weighed: at 2·kind + colour.
+const WHITE_KNIGHTS: usize = Color::COUNT;
+
+const BLACK_KNIGHTS: usize = WHITE_KNIGHTS + 1;
+
+const WHITE_BISHOPS: usize = WHITE_KNIGHTS + Color::COUNT;
+
+const BLACK_BISHOPS: usize = WHITE_BISHOPS + 1;
+
+const WHITE_ROOKS: usize = WHITE_BISHOPS + Color::COUNT;
+
+const BLACK_ROOKS: usize = WHITE_ROOKS + 1;
+
+const WHITE_QUEENS: usize = WHITE_ROOKS + Color::COUNT;
+
+const BLACK_QUEENS: usize = WHITE_QUEENS + 1;
 
 fn is_within(number: i32, most: i32) -> bool
     ensures { λ r. ⌜ r ≡ within most number ⌝ }
@@ -95,9 +119,15 @@ fn entry_added(squares: &[f64], x: f64, score: f64, k: usize, entry: i32) -> f64
     ensures { λ r. ⌜ r ≡ added (now (squares .entry)) x score k entry ⌝ }
 {
     if entry > 0 {
-        let opening = k / 128 * 128 + k % 128 / 2;
-        let weighed = entry as f64 * interpolated(squares[opening], squares[opening + 64], x);
-        if k % 2 == 0 {
+        let opening = k / SquareWeight::PER_KIND * SquareWeight::PER_KIND
+            + k % Entry::PER_KIND / Entry::PER_SQUARE;
+        let weighed = entry as f64
+            * interpolated(
+                squares[opening],
+                squares[opening + SquareWeight::PER_PHASE],
+                x,
+            );
+        if k % Color::COUNT == 0 {
             score + weighed
         } else {
             score - weighed
@@ -148,11 +178,11 @@ impl Trace {
         let bishops = self.bishops;
         let rooks = self.rooks;
         let queens = self.queens;
-        all_within(&pawns, 64)
-            & all_within(&knights, 64)
-            & all_within(&bishops, 64)
-            & all_within(&rooks, 64)
-            & all_within(&queens, 64)
+        all_within(&pawns, MOST_PIECES)
+            & all_within(&knights, MOST_PIECES)
+            & all_within(&bishops, MOST_PIECES)
+            & all_within(&rooks, MOST_PIECES)
+            & all_within(&queens, MOST_PIECES)
     }
 
     fn in_ranges(self) -> bool
@@ -162,9 +192,9 @@ impl Trace {
         let mobility = self.mobility;
         self.counts_within()
             & all_within(&bishop_pair, 1)
-            & all_within(&mobility, 1728)
+            & all_within(&mobility, MOST_ATTACKED)
             & is_side(self.side)
-            & is_within(self.piece_count, 64)
+            & is_within(self.piece_count, MOST_PIECES)
     }
 
     fn material(self, weights: Weights) -> f64
@@ -188,10 +218,30 @@ impl Trace {
         ensures { λ r. ⌜ r ≡ mobility self weights score ⌝ }
     {
         let mobility = self.mobility;
-        let n = mobility_added(score, mobility[2], mobility[3], weights.knight_mobility);
-        let b = mobility_added(n, mobility[4], mobility[5], weights.bishop_mobility);
-        let r = mobility_added(b, mobility[6], mobility[7], weights.rook_mobility);
-        mobility_added(r, mobility[8], mobility[9], weights.queen_mobility)
+        let n = mobility_added(
+            score,
+            mobility[WHITE_KNIGHTS],
+            mobility[BLACK_KNIGHTS],
+            weights.knight_mobility,
+        );
+        let b = mobility_added(
+            n,
+            mobility[WHITE_BISHOPS],
+            mobility[BLACK_BISHOPS],
+            weights.bishop_mobility,
+        );
+        let r = mobility_added(
+            b,
+            mobility[WHITE_ROOKS],
+            mobility[BLACK_ROOKS],
+            weights.rook_mobility,
+        );
+        mobility_added(
+            r,
+            mobility[WHITE_QUEENS],
+            mobility[BLACK_QUEENS],
+            weights.queen_mobility,
+        )
     }
 
     fn named(self, weights: Weights) -> f64

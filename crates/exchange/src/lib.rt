@@ -16,9 +16,19 @@ use attack::inner::occupied;
 use attack::inner::other;
 use attack::inner::standing;
 use bits::inner::at;
+use chess::color::BLACK;
+use chess::color::WHITE;
 use chess::inner::index;
 use chess::inner::value;
+use chess::kind::BISHOP;
+use chess::kind::KING;
+use chess::kind::KNIGHT;
+use chess::kind::Kind;
+use chess::kind::PAWN;
+use chess::kind::QUEEN;
+use chess::kind::ROOK;
 use chess::refusal::Refusal;
+use chess::square::Square;
 use position::Checked;
 use position::State;
 
@@ -41,20 +51,14 @@ enum Attacker {
     Nobody,
 }
 
-// Pawn, knight, bishop, rook, queen, king.
-const ORDER: [u8; 6] = [0, 1, 2, 3, 4, 5];
-
-const WHITE: u8 = 0;
-
-const BLACK: u8 = 1;
-
-const KING: u8 = 5;
+// Document 01's order.
+const ORDER: [u8; Kind::COUNT] = [PAWN, KNIGHT, BISHOP, ROOK, QUEEN, KING];
 
 // Whether a square stands in b; none above 63 does.
 fn holds(b: u64, square: u8) -> bool
     ensures { λ r. ⌜ r ≡ has b square ⌝ }
 {
-    if square > 63 {
+    if square > chess::square::LAST {
         return false;
     }
     (b >> square) & 1 != 0
@@ -71,7 +75,7 @@ fn stands(bitboards: &[u64], color: u8, square: u8) -> bool
 fn without(b: u64, square: u8) -> u64
     ensures { λ r. ⌜ r ≡ without b square ⌝ }
 {
-    if square > 63 {
+    if square > chess::square::LAST {
         return b;
     }
     b & !(1 << square)
@@ -114,7 +118,7 @@ fn pick(bitboards: &[u64], kinds: &[u8], color: u8, attacks: u64, occupied: u64)
 fn capturer(
     bitboards: &[u64],
     kinds: &[u8],
-    tables: &[[u64; 64]; 4],
+    tables: &[[u64; Square::COUNT]; 4],
     color: u8,
     to: u8,
     occupied: u64,
@@ -157,7 +161,7 @@ fn exchange(
     bitboards: &[u64],
     board: &[u8],
     kinds: &[u8],
-    tables: &[[u64; 64]; 4],
+    tables: &[[u64; Square::COUNT]; 4],
     side: u8,
     from: u8,
     to: u8,
@@ -188,7 +192,7 @@ fn exchange(
 fn may_capture(
     bitboards: &[u64],
     board: &[u8],
-    tables: &[[u64; 64]; 4],
+    tables: &[[u64; Square::COUNT]; 4],
     side: u8,
     from: u8,
     to: u8,
@@ -255,10 +259,10 @@ pub fn see(bitboards: &[u64], board: &[u8], state: State, from: u8, to: u8) -> E
     if let Checked::Refused(refusal) = position::check(bitboards, board, state) {
         return Exchanged::Refused(refusal);
     }
-    if from > 63 {
+    if from > chess::square::LAST {
         return Exchanged::Refused(Refusal::Square);
     }
-    if to > 63 {
+    if to > chess::square::LAST {
         return Exchanged::Refused(Refusal::Square);
     }
     let tables = steps::inner::tables();

@@ -74,7 +74,7 @@ pub fn ray(direction: u8, square: u8, occupied: u64) -> u64
     if direction > SOUTHWEST {
         return 0;
     }
-    if square > 63 {
+    if square > chess::square::LAST {
         return 0;
     }
     let turn = turn(direction);

@@ -6,6 +6,7 @@ use crate::BLACK_PAWN;
 use crate::KING;
 use crate::KNIGHT;
 use crate::WHITE_PAWN;
+use chess::square::Square;
 
 // The rows of the tables.
 pub const WHITE_PAWN_ROW: usize = 0;
@@ -17,7 +18,7 @@ pub const KNIGHT_ROW: usize = 2;
 pub const KING_ROW: usize = 3;
 
 // One table; past the four, an empty one.
-fn table(row: usize) -> [u64; 64]
+fn table(row: usize) -> [u64; Square::COUNT]
     ensures { λ r. ⌜ r ≡ stepTable (stepsOf row) ⌝ }
 {
     match row {
@@ -25,12 +26,12 @@ fn table(row: usize) -> [u64; 64]
         BLACK_PAWN_ROW => BLACK_PAWN,
         KNIGHT_ROW => KNIGHT,
         KING_ROW => KING,
-        _ => [0; 64],
+        _ => [0; Square::COUNT],
     }
 }
 
 // A constant array is built anew wherever it is read: make these once, and lend them.
-pub fn tables() -> [[u64; 64]; 4]
+pub fn tables() -> [[u64; Square::COUNT]; 4]
     ensures { λ r. ⌜ Tables r ⌝ }
 {
     [
@@ -46,17 +47,17 @@ pub fn reached(row: usize, square: u8) -> u64
     ensures { λ r. ⌜ Reaches row square r ⌝ }
 {
     let table = table(row);
-    if square > 63 {
+    if square > chess::square::LAST {
         return 0;
     }
     table[square as usize]
 }
 
 // The squares that the steps of a row reach from a square; none past the tables.
-pub fn step(tables: &[[u64; 64]; 4], row: usize, square: u8) -> u64
+pub fn step(tables: &[[u64; Square::COUNT]; 4], row: usize, square: u8) -> u64
     ensures { λ r. ⌜ Steps (now (tables .entry)) row square r ⌝ }
 {
-    if square > 63 {
+    if square > chess::square::LAST {
         return 0;
     }
     if row > 3 {

@@ -14,9 +14,19 @@ ghost use Rattle.trace.specs.Promises.{Traces};
 use attack::inner::occupied;
 use attack::inner::standing;
 use bits::Lowest;
+use chess::color::BLACK;
+use chess::color::WHITE;
 use chess::entry::Entry;
 use chess::inner::index;
+use chess::kind::BISHOP;
+use chess::kind::KNIGHT;
+use chess::kind::PAWN;
+use chess::kind::QUEEN;
+use chess::kind::ROOK;
+use chess::piece::PIECES;
+use chess::piece::Piece;
 use chess::refusal::Refusal;
+use chess::square::Square;
 use double::Trace;
 use position::Checked;
 use position::State;
@@ -28,24 +38,6 @@ pub struct Traced {
     pub checked: Checked,
     pub trace: Trace,
 }
-
-// Kinds in document 01's order.
-const PAWN: u8 = 0;
-
-const KNIGHT: u8 = 1;
-
-const BISHOP: u8 = 2;
-
-const ROOK: u8 = 3;
-
-const QUEEN: u8 = 4;
-
-const WHITE: u8 = 0;
-
-const BLACK: u8 = 1;
-
-// Two colours of six kinds.
-const PLANES: usize = 12;
 
 // A count as the trace has it.
 fn whole(n: u32) -> i32
@@ -120,7 +112,7 @@ fn mark(
     kind: u8,
     color: u8,
     occupied: u64,
-    tables: &[[u64; 64]; 4],
+    tables: &[[u64; Square::COUNT]; 4],
     entries: &mut [i32],
 ) -> u32
     requires { ⌜ (kind < 6) × (color < 2) × (length (now entries) ≡ 768) ⌝ }
@@ -141,14 +133,18 @@ fn mark(
 }
 
 // Each bitboard is walked once: its entries marked, its attacked squares counted.
-fn walk(bitboards: &[u64], tables: &[[u64; 64]; 4], entries: &mut [i32]) -> [i32; PLANES]
+fn walk(
+    bitboards: &[u64],
+    tables: &[[u64; Square::COUNT]; 4],
+    entries: &mut [i32],
+) -> [i32; Piece::COUNT]
     requires { ⌜ length (now entries) ≡ 768 ⌝ }
     ensures { λ r. ⌜ (now (entries .exit) ≡ filledTo (now (bitboards .entry)) (now (entries .entry)) 12) × (r ≡ mobilityWith (now (tables .entry)) (now (bitboards .entry))) ⌝ }
 {
     let occupied = occupied(bitboards);
-    let mut mobility: [i32; PLANES] = [0; PLANES];
+    let mut mobility: [i32; Piece::COUNT] = [0; Piece::COUNT];
     let mut n: u8 = 0;
-    while n < 12 {
+    while n < PIECES {
         let kind = n / 2;
         let color = n % 2;
         let pieces = standing(bitboards, kind, color);
@@ -172,7 +168,7 @@ fn refused(refusal: Refusal) -> Traced
             rooks: [0, 0],
             queens: [0, 0],
             bishop_pair: [0, 0],
-            mobility: [0; PLANES],
+            mobility: [0; Piece::COUNT],
             side: 0,
             piece_count: 0,
         },
@@ -180,7 +176,7 @@ fn refused(refusal: Refusal) -> Traced
 }
 
 // The trace, but for its mobility counted here.
-fn gathered(bitboards: &[u64], side: u8, mobility: [i32; PLANES]) -> Trace
+fn gathered(bitboards: &[u64], side: u8, mobility: [i32; Piece::COUNT]) -> Trace
     ensures { λ r. ⌜ r ≡ traceWith (now (bitboards .entry)) side mobility ⌝ }
 {
     Trace {

@@ -52,9 +52,9 @@ fn square_weight(pst: &[i16], place: usize) -> f64
     requires { ⌜ (now pst ≡ pstTable) × (place < 768) ⌝ }
     ensures { λ r. ⌜ r ≡ dbl (squareWeight place) ⌝ }
 {
-    let kind = (place / 128) as u8;
-    let phase = (place % 128 / 64) as u8;
-    let square = (place % 64) as u8;
+    let kind = (place / SquareWeight::PER_KIND) as u8;
+    let phase = (place % SquareWeight::PER_KIND / SquareWeight::PER_PHASE) as u8;
+    let square = (place % SquareWeight::PER_PHASE) as u8;
     pst::inner::weight(pst, chess::inner::white(kind), square, phase) as f64
 }
 

@@ -6,4 +6,3 @@ pub mod Back
 pub mod Attacked
 pub mod Self
 pub mod Determined
-pub mod Examples

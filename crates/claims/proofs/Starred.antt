@@ -9,7 +9,9 @@ use Rattle.chess.specs.Answer.{Answer, given, refused}
 use Rattle.bits.specs.Bitboard.{has, those, some, howMany}
 use Rattle.position.specs.Boards.{bitboardsOf}
 use Rattle.position.specs.Consistent.{crowd, ofColour, consistent, checked}
-use Rattle.exchange.proofs.Examples.{Placed, Row, bytesOf, answered, starred as starredExchanges}
+use Rattle.exchange.specs.Exchange.{exchangeOf}
+use Rattle.exchange.specs.Answers.{mayCapture, uncrowded, seeOf}
+use Rattle.worked.specs.Placed.{Placed, on, bytesOf}
 use Rattle.score.specs.Verdict.{lost, won, drawn}
 use Rattle.score.specs.Score.{Outcome, verdict, score, evalOf}
 
@@ -25,9 +27,9 @@ valued (refused number beside) = refused number beside
 
 -- what the doors of the score and of the exchange answer, refusals and all
 unfoldable pub answerOf : List Placed → Question → Answer Outcome
-unfolding bytesOf bitboardsOf tabulate those has some howMany allBelow crowd ofColour consistent checked evalOf answered
+unfolding bytesOf bitboardsOf tabulate those has some howMany allBelow crowd ofColour consistent checked evalOf mayCapture uncrowded exchangeOf
 answerOf ps (scored side) = let bytes : List ℕ = bytesOf ps in evalOf (bitboardsOf bytes) bytes side
-answerOf ps (exchanged from to) = valued (answered ps from to)
+answerOf ps (exchanged from to) = let bytes : List ℕ = bytesOf ps in valued (seeOf (bitboardsOf bytes) bytes 0 from to)
 
 pub record Starred : Type 0 where
   pub pieces : List Placed
@@ -37,10 +39,7 @@ pub record Starred : Type 0 where
 abbrev star : List Placed → Question → Outcome → Starred
 star ps q o = record { pieces = ps; asked = q; outcome = o }
 
--- ---- the pieces: a code on a square
-abbrev on : ℕ → ℕ → Placed
-on code square = record { code = code; square = square }
-
+-- ---- the pieces
 abbrev kings : List Placed
 kings = on 6 4 ∷ on 7 60 ∷ []
 
@@ -59,8 +58,8 @@ abbrev start : List Placed
 start = files 0 0 pieceRank ++ (files 0 8 pawnRank ++ (files 1 48 pawnRank ++ files 1 56 pieceRank))
 
 -- ---- the table
-abbrev pub starredScores : List Starred
-starredScores =
+abbrev pub starred : List Starred
+starred =
     -- kings e1, e8, pawn e2
     star (on 2 12 ∷ kings) (scored 0) (score (pos 117))
     ∷ star (on 2 12 ∷ kings) (scored 1) (score (negsuc 94))
@@ -75,10 +74,16 @@ starredScores =
     ∷ star (on 6 4 ∷ []) (scored 1) (verdict lost)
     -- two white kings alone
     ∷ star (on 6 4 ∷ on 6 60 ∷ []) (scored 0) (verdict drawn)
+    -- rook e1 takes pawn e5, undefended; defended by pawn d6
+    ∷ star (on 10 4 ∷ on 3 36 ∷ []) (exchanged 4 36) (score (pos 100))
+    ∷ star (on 10 4 ∷ on 3 36 ∷ on 3 43 ∷ []) (exchanged 4 36) (score (negsuc 386))
+    -- rooks e1, e2 against rook e8, e2 takes pawn e5
+    ∷ star (on 10 4 ∷ on 10 12 ∷ on 11 60 ∷ on 3 36 ∷ []) (exchanged 12 36) (score (pos 100))
+    -- queen d1 takes pawn d5, pawn e4 behind her; knight f6, bishop b7 defend; kings g1, g8
+    ∷ star (on 12 3 ∷ on 2 28 ∷ on 3 35 ∷ on 5 45 ∷ on 9 49 ∷ on 6 6 ∷ on 7 62 ∷ []) (exchanged 3 35) (score (negsuc 708))
+    -- king e4 takes pawn e5 defended by pawn d6, black king h8
+    ∷ star (on 6 28 ∷ on 3 36 ∷ on 3 43 ∷ on 7 63 ∷ []) (exchanged 28 36) (score (negsuc 9899))
     ∷ []
-
-abbrev pub starred : List Starred
-starred = starredScores ++ map (λ (r : Row). star (r .pieces) (exchanged (r .from) (r .to)) (score (r .worth))) starredExchanges
 
 pub starred-right : map (λ (s : Starred). answerOf (s .pieces) (s .asked)) starred ≡ map (λ (s : Starred). given (s .outcome)) starred
 unfolding answerOf

@@ -1,4 +1,3 @@
 pub mod Held
 pub mod Folds
 pub mod Determined
-pub mod Examples

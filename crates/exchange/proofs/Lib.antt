@@ -8,4 +8,3 @@ pub mod Gains
 pub mod Kings
 pub mod Source
 pub mod Determined
-pub mod Examples

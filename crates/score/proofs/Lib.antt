@@ -5,5 +5,4 @@ pub mod Walks
 pub mod Tally
 pub mod Verdicts
 pub mod Lent
-pub mod Examples
 pub mod Determined

@@ -9,4 +9,3 @@ pub mod Entries
 pub mod Exactly
 pub mod Tally
 pub mod Determined
-pub mod Examples

@@ -1,10 +1,7 @@
--- Document 01's exchanges that carry a star, one table under one theorem, and further worked examples of the definitions. All by computation. Assumes
--- nothing.
+-- Exchanges, their captures, refusals and the least attacker, by computation. Assumes nothing.
 use mathlib.Core.Path.{_≡_, refl}
-use mathlib.Core.Bool.{cond}
-use mathlib.Core.List.{List, [], _∷_, map}
+use mathlib.Core.List.{List, [], _∷_}
 use Prim.Native.Nat.{ℕ}
-use lib.Dec.{eqb}
 use lib.IntN.{ℤ, pos, negsuc}
 use lib.ListN.{length}
 use Rattle.laws.specs.Tests.{allBelow}
@@ -14,63 +11,20 @@ use Rattle.bits.specs.Bitboard.{has, those, some, howMany, board}
 use Rattle.position.specs.Boards.{bitboardsOf}
 use Rattle.position.specs.Consistent.{crowd, ofColour, consistent, checked}
 use Rattle.attack.specs.Attacks.{attackers, occupied}
+use Rattle.worked.specs.Placed.{Placed, on, bytesOf}
 use Rattle.exchange.specs.Least.{leastOf, order}
 use Rattle.exchange.specs.Exchange.{Capture, capturesOf, exchangeOf}
 use Rattle.exchange.specs.Source.{sourceSee}
 use Rattle.exchange.specs.Answers.{mayCapture, uncrowded, lvpOf, seeOf}
-
--- ---- positions as lists of pieces
-pub record Placed : Type 0 where
-  pub code : ℕ
-  pub square : ℕ
-
--- a piece's code, on a square
-abbrev on : ℕ → ℕ → Placed
-on code square = record { code = code; square = square }
-
-byteAt : List Placed → ℕ → ℕ
-byteAt [] s = 0
-byteAt (p ∷ ps) s = let later : ℕ = byteAt ps s in cond (eqb (p .square) s) (p .code) later
-
-unfoldable pub bytesOf : List Placed → List ℕ
-unfolding tabulate byteAt
-bytesOf ps = tabulate 64 (byteAt ps)
 
 -- the door's answer with White to move, refusals and all
-unfoldable pub answered : List Placed → ℕ → ℕ → Answer ℤ
+unfoldable answered : List Placed → ℕ → ℕ → Answer ℤ
 unfolding bytesOf bitboardsOf tabulate those has some howMany allBelow crowd ofColour consistent checked mayCapture uncrowded exchangeOf
 answered ps from to = let bytes : List ℕ = bytesOf ps in let bbs : List ℕ = bitboardsOf bytes in seeOf bbs bytes 0 from to
 
--- ---- the table: the pieces, the start and the target, and document 01's number
-pub record Row : Type 0 where
-  pub pieces : List Placed
-  pub from : ℕ
-  pub to : ℕ
-  pub worth : ℤ
-
-abbrev row : List Placed → ℕ → ℕ → ℤ → Row
-row ps from to z = record { pieces = ps; from = from; to = to; worth = z }
-
+-- queen d1 takes pawn d5, pawn e4 behind her; knight f6, bishop b7 defend; kings g1, g8
 abbrev queenCase : List Placed
 queenCase = on 12 3 ∷ on 2 28 ∷ on 3 35 ∷ on 5 45 ∷ on 9 49 ∷ on 6 6 ∷ on 7 62 ∷ []
-
-abbrev pub starred : List Row
-starred =
-    -- rook e1 takes pawn e5, undefended
-    row (on 10 4 ∷ on 3 36 ∷ []) 4 36 (pos 100)
-    -- defended by pawn d6
-    ∷ row (on 10 4 ∷ on 3 36 ∷ on 3 43 ∷ []) 4 36 (negsuc 386)
-    -- rooks e1, e2 against rook e8, e2 takes pawn e5
-    ∷ row (on 10 4 ∷ on 10 12 ∷ on 11 60 ∷ on 3 36 ∷ []) 12 36 (pos 100)
-    -- queen d1 takes pawn d5, pawn e4 behind her; knight f6, bishop b7 defend; kings g1, g8
-    ∷ row queenCase 3 35 (negsuc 708)
-    -- king e4 takes pawn e5 defended by pawn d6, black king h8
-    ∷ row (on 6 28 ∷ on 3 36 ∷ on 3 43 ∷ on 7 63 ∷ []) 28 36 (negsuc 9899)
-    ∷ []
-
-pub starred-right : map (λ r. answered (r .pieces) (r .from) (r .to)) starred ≡ map (λ r. given (r .worth)) starred
-unfolding answered
-starred-right = refl
 
 -- ---- the queen's exchange: each capture's square, kind and value taken
 abbrev capture : ℕ → ℕ → ℕ → Capture

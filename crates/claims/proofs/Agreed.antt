@@ -1,7 +1,7 @@
 -- Demand 3. Each side's part of the score is less than one point from its square weights, each mobility less than one point from its
 -- tenths, and all else is whole: 29 + 29 + 27 thirtieths. Kings, as many on both sides, leave the score's material. Assumes nothing.
 use mathlib.Core.Path.{_≡_, refl, sym, ap, ap₂, subst, _∙_}
-use mathlib.Core.Bool.{Bool, true, false, cond, _&&_}
+use mathlib.Core.Bool.{Bool, true, false, _&&_}
 use mathlib.Core.List.{List}
 use Prim.Native.Nat.{ℕ, zero, suc, _+_, _*_, _/_, _<_, _≤_}
 use native.Mathlib.Omega.{arith}
@@ -10,28 +10,27 @@ use lib.Signed.{quotZ}
 use Rattle.laws.specs.Sums.{sumN}
 use Rattle.laws.proofs.Diff.{Diff, up, dn, diff-pos, diff-neg, diff-quot, diff-add, diff-minus, diff-scale, diff-swap, diff-abs}
 use Rattle.laws.proofs.Terms.{diff-of-two}
-use Rattle.chess.specs.Answer.{Answer, given, refused, orRefuse}
+use Rattle.chess.specs.Answer.{Answer, given, orRefuse}
 use Rattle.chess.specs.Refusals.{numberOf}
 use Rattle.chess.specs.declared.refusal.Refusal.the-variants as R
-use Rattle.chess.proofs.Answers.{given-not}
+use Rattle.chess.proofs.Answers.{given-not, passed}
 use Rattle.position.specs.Consistent.{shaped, consistent, checked}
 use Rattle.position.proofs.Doors.{side-below-2}
 use Rattle.attack.specs.Attacks.{attacks, other}
 use Rattle.pst.specs.Pst.{pstOf}
 use Rattle.parts.specs.Parts.{partOf, sideFits, sumFits, total}
-use Rattle.parts.specs.declared.Side.{Side}
 use Rattle.score.specs.Pieces.{count, pieces}
-use Rattle.chess.specs.Values.{valueOf}
 use Rattle.score.specs.Material.{worth, pair, material}
 use Rattle.score.specs.Mobility.{mobilityBy}
 use Rattle.score.specs.Weights.{weighedBy}
 use Rattle.score.specs.Verdict.{Verdict, lost, won, drawn, none, toMove, verdictOf}
-use Rattle.score.specs.Score.{Outcome, verdict, score, sideBy, settled, scoreBy, scoreOf, evalOf}
+use Rattle.score.specs.Score.{Outcome, verdict, score, settled, scoreBy, scoreOf, evalOf}
 use Rattle.trace.specs.Trace.{traceOf, entriesOf}
 use Rattle.trace.specs.Exact.{shippedWhole, exactSum, turned}
 use Rattle.trace.proofs.Entries.{thirtieths}
 use Rattle.trace.proofs.Exactly.{kingless, diff-exact}
 use Rattle.claims.specs.Agreement.{Agreement}
+use Rattle.claims.specs.Narrow.{sideOf}
 
 -- ---- a score that is given is the total
 same-score : (a b : ℤ) → _≡_ {A = Answer Outcome} (given (score a)) (given (score b)) → a ≡ b
@@ -40,11 +39,11 @@ same-score a b e = cc
 no-score : (v : Verdict) (s : ℤ) → given (verdict v) ≡ given (score s) → ⊥
 no-score v s e = let z : _≡_ {A = ℕ} 0 1 = cc in omega arith
 
-was-scored : (v : Verdict) (t : Bool) (n : ℕ) (z s : ℤ) → settled v (orRefuse t n (given z)) ≡ given (score s) → z ≡ s
+pub was-scored : (v : Verdict) (t : Bool) (n : ℕ) (z s : ℤ) → settled v (orRefuse t n (given z)) ≡ given (score s) → (t ≡ true) × (z ≡ s)
 was-scored lost t n z s e = absurd (no-score lost s e)
 was-scored won t n z s e = absurd (no-score won s e)
 was-scored drawn t n z s e = absurd (no-score drawn s e)
-was-scored none true n z s e = same-score z s e
+was-scored none true n z s e = (refl, same-score z s e)
 was-scored none false n z s e = given-not (sym e)
 
 -- ---- a side's part is its square weights in thirtieths, divided by thirty
@@ -120,9 +119,6 @@ near Po Pt co ct po pt k mo mt z d =
     high (negsuc a) (negsuc b) = omega arith
 
 -- ---- the score's sums in that form
-abbrev sideOf : List ℕ → ℕ → Side
-sideOf bbs colour = sideBy attacks pstOf bbs colour
-
 abbrev mobility : List ℕ → ℕ → ℕ
 mobility bbs colour = mobilityBy attacks bbs colour
 
@@ -143,7 +139,7 @@ unfolding scoreOf scoreBy
 total-given bbs side s e =
     was-scored (verdictOf bbs side)
     (sideFits (sideOf bbs (toMove side)) (pieces bbs) && sideFits (sideOf bbs (other side)) (pieces bbs) && sumFits (sideOf bbs (toMove side)) (sideOf bbs (other side)) (pieces bbs))
-    (numberOf R.Score) (total (sideOf bbs (toMove side)) (sideOf bbs (other side)) (pieces bbs)) s e
+    (numberOf R.Score) (total (sideOf bbs (toMove side)) (sideOf bbs (other side)) (pieces bbs)) s e .1
 
 -- the score, with k kings on either side
 score-is : (bbs : List ℕ) (own other k : ℕ) (s : ℤ) → total (sideOf bbs own) (sideOf bbs other) (pieces bbs) ≡ s → count bbs 5 own ≡ k → count bbs 5 other ≡ k
@@ -175,14 +171,13 @@ near-score bbs (suc zero) s h kings e =
 near-score bbs (suc (suc n)) s h kings e = absurd (omega arith)
 
 -- ---- and for a position
-passed : (a b : Bool) (rest : Answer Outcome) (s : ℤ) → orRefuse a (numberOf R.Shape) (orRefuse b (numberOf R.Board) rest) ≡ given (score s)
-    → (a ≡ true) × (rest ≡ given (score s))
-passed true true rest s e = (refl, e)
-passed true false rest s e = given-not (sym e)
-passed false b rest s e = given-not (sym e)
+pub was-checked : (bbs bytes : List ℕ) (side : ℕ) (s : ℤ) → evalOf bbs bytes side ≡ given (score s) → (shaped bbs bytes side ≡ true) × (scoreOf bbs side ≡ given (score s))
+unfolding evalOf checked
+was-checked bbs bytes side s e =
+    let shape = passed (shaped bbs bytes side) (numberOf R.Shape) (score s) (orRefuse (consistent bbs bytes) (numberOf R.Board) (scoreOf bbs side)) e in
+    (shape .0, passed (consistent bbs bytes) (numberOf R.Board) (score s) (scoreOf bbs side) (shape .1) .1)
 
 pub agreement : Agreement
-unfolding evalOf checked
 agreement bbs bytes side s kings e =
-    let p = passed (shaped bbs bytes side) (consistent bbs bytes) (scoreOf bbs side) s e in
+    let p = was-checked bbs bytes side s e in
     near-score bbs side s (side-below-2 bbs bytes side (p .0)) kings (p .1)

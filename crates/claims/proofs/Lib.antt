@@ -1,3 +1,5 @@
 pub mod Agreed
 pub mod Reached
 pub mod Starred
+pub mod Running
+pub mod Narrow

@@ -35,7 +35,7 @@ module _ (pawn knight king colour s occ : ℕ) where
   abbrev here : ℕ → ℕ
   here = λ k. attacksBy pawn knight king k s occ
 
-  slides : (kind k b : ℕ) → kind ≡ k → b ≡ here k → b ≡ here kind
+  pub slides : (kind k b : ℕ) → kind ≡ k → b ≡ here k → b ≡ here kind
   slides kind k b e h = h ∙ sym (ap here e)
 
   -- f is what a row gives

@@ -1,10 +1,11 @@
 // The table for the loops of the crates above: made once, lent, and read. Total, and no door.
+ghost use mathlib.Core.Path.{_≡_};
 ghost use Rattle.pst.specs.Promises.{Makes, Weighs, Places};
 use crate::PST;
 use chess::inner::index;
 
 // The whole table. A constant is built anew wherever it is read: who loops makes it once and lends it.
-pub fn table() -> [i16; 1792]
+pub fn table() -> [i8; 1792]
     ensures { λ r. ⌜ Makes r ⌝ }
 {
     PST
@@ -17,13 +18,19 @@ pub fn place(code: u8, square: u8, phase: u8) -> usize
     128 * index(code) + 2 * index(square) + index(phase)
 }
 
-// The weight that a lent table has there; 0 past its end.
-pub fn weight(pst: &[i16], code: u8, square: u8, phase: u8) -> i16
+fn wide(z: i8) -> i16
+    ensures { λ r. ⌜ r ≡ z ⌝ }
+{
+    z as i16
+}
+
+// The weight that a lent table has there, in the original's 16 bits; 0 past its end.
+pub fn weight(pst: &[i8], code: u8, square: u8, phase: u8) -> i16
     ensures { λ r. ⌜ Weighs (now (pst .entry)) code square phase r ⌝ }
 {
     let i = place(code, square, phase);
     if i < pst.len() {
-        return pst[i];
+        return wide(pst[i]);
     }
     0
 }

@@ -4,7 +4,7 @@ pub mod inner;
 // Code by code, square by square, the opening's weight and then the ending's: 128·code + 2·square + phase. A row is a rank of the
 // board, from the first to the eighth, so White's pieces stand the other way up than on the printed grids.
 #[rattlefmt::skip]
-pub const PST: [i16; 1792] = [
+pub const PST: [i8; 1792] = [
     // 0: no piece's
        0,    0,    0,    0,    0,    0,    0,    0,    0,    0,    0,    0,    0,    0,    0,    0,
        0,    0,    0,    0,    0,    0,    0,    0,    0,    0,    0,    0,    0,    0,    0,    0,

@@ -1,18 +1,18 @@
 -- Where the tables that are lent are 01's, the score by them is the score. Assumes nothing.
 use mathlib.Core.Path.{_≡_, refl, sym, ap, ap₂, _∙_}
 use mathlib.Core.Bool.{Bool, true, false, cond}
-use mathlib.Core.List.{List}
+use mathlib.Core.List.{List, []}
 use Prim.Native.Nat.{ℕ, _+_, _*_, _<_, _≤_}
 use native.Mathlib.Omega.{arith}
 use lib.Dec.{eqb}
 use lib.IntN.{ℤ, pos}
+use lib.ListN.{getD}
 use Rattle.laws.proofs.Sums.{sum-same, whole-same}
 use Rattle.chess.specs.Answer.{Answer}
 use Rattle.chess.specs.Codes.{codeOf}
 use Rattle.chess.proofs.Codes.{white-le}
-use Rattle.bits.specs.Bitboard.{has, howMany}
-use Rattle.bits.proofs.Sums.{counted-squares, added-squares}
-use Rattle.steps.specs.Steps.{stepTables}
+use Rattle.bits.proofs.Sums.{added-squares}
+use Rattle.steps.specs.Steps.{stepTable, stepTables, stepsOf}
 use Rattle.attack.specs.Attacks.{standing, occupied, other, attacks}
 use Rattle.attack.specs.Lent.{attacksWith}
 use Rattle.attack.proofs.Lent.{lent-attacks}
@@ -25,11 +25,8 @@ use Rattle.score.specs.Mobility.{factorOf, attackedFrom, attackedBy, mob
 use Rattle.score.specs.Weights.{weighedFrom, weighedBy}
 use Rattle.score.specs.Verdict.{Verdict, toMove, verdictOf}
 use Rattle.score.specs.Score.{Outcome, sideBy, settled, scoreBy, scoreOf}
-
-attacked-from : (f g : ℕ → ℕ) (pieces : ℕ) → ((s : ℕ) → f s ≡ g s) → attackedFrom f pieces ≡ attackedFrom g pieces
-unfolding attackedFrom
-attacked-from f g pieces e =
-    counted-squares (λ s. howMany 64 (has (f s))) (λ s. howMany 64 (has (g s))) pieces 0 (λ s h. ap (λ (b : ℕ). howMany 64 (has b)) (e s))
+use Rattle.score.specs.Walked.{reaching}
+use Rattle.score.proofs.Reached.{attacked-from, mobility-same}
 
 weighed-from : (f g : ℕ → ℤ) (pieces : ℕ) → ((s : ℕ) → s < 64 → f s ≡ g s) → weighedFrom f pieces ≡ weighedFrom g pieces
 unfolding weighedFrom
@@ -72,8 +69,19 @@ module _ (bbs : List ℕ) where
   lent-score side =
       ap₂ (λ (own them : Side). settled (verdictOf bbs side) (pointsOf own them (pieces bbs))) (lent-side (toMove side) (to-move-lt side)) (lent-side (other side) (other-lt side))
 
+  -- by the knight's table alone
+  knight-side : (tables : List (List ℕ)) (pst : List ℤ) (colour : ℕ)
+      → sideBy (reaching (getD tables 2 [])) (weightIn pst) bbs colour ≡ sideBy (attacksWith tables) (weightIn pst) bbs colour
+  knight-side tables pst colour = cc (mobility-same tables bbs colour)
+
+  pub knight-score : (tables : List (List ℕ)) (pst : List ℤ) (side : ℕ)
+      → scoreBy (reaching (getD tables 2 [])) (weightIn pst) bbs side ≡ scoreBy (attacksWith tables) (weightIn pst) bbs side
+  unfolding scoreBy
+  knight-score tables pst side =
+      ap₂ (λ (own them : Side). settled (verdictOf bbs side) (pointsOf own them (pieces bbs))) (knight-side tables pst (toMove side)) (knight-side tables pst (other side))
+
 -- whatever tables a call made
-pub told-score : (tables : List (List ℕ)) (pst : List ℤ) (bbs : List ℕ) (side : ℕ) (r : Answer Outcome) → tables ≡ stepTables → pst ≡ pstTable
-    → r ≡ scoreBy (attacksWith tables) (weightIn pst) bbs side → r ≡ scoreOf bbs side
-told-score tables pst bbs side r e f p =
-    p ∙ ap₂ (λ (t : List (List ℕ)) (w : List ℤ). scoreBy (attacksWith t) (weightIn w) bbs side) e f ∙ lent-score bbs side
+pub told-score : (knights : List ℕ) (pst : List ℤ) (bbs : List ℕ) (side : ℕ) (r : Answer Outcome) → knights ≡ stepTable (stepsOf 2) → pst ≡ pstTable
+    → r ≡ scoreBy (reaching knights) (weightIn pst) bbs side → r ≡ scoreOf bbs side
+told-score knights pst bbs side r e f p =
+    p ∙ ap₂ (λ (t : List ℕ) (w : List ℤ). scoreBy (reaching t) (weightIn w) bbs side) e f ∙ knight-score bbs stepTables pstTable side ∙ lent-score bbs side

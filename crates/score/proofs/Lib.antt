@@ -1,6 +1,6 @@
 pub mod Constants
 pub mod Pieces
-pub mod Factors
+pub mod Reached
 pub mod Walks
 pub mod Tally
 pub mod Verdicts

@@ -13,7 +13,6 @@ use Rattle.chess.specs.Answer.{Answer, given}
 use Rattle.chess.specs.Refusals.{refusalOf}
 use Rattle.chess.specs.declared.refusal.Refusal.the-variants as R
 use Rattle.attack.specs.Attacks.{other}
-use Rattle.attack.specs.Lent.{attacksWith}
 use Rattle.pst.specs.Pst.{weightIn}
 use Rattle.parts.specs.Parts.{pointsOf}
 use Rattle.parts.proofs.Short.{short-fits}
@@ -21,7 +20,7 @@ use Rattle.parts.proofs.Sides.{given-short}
 use Rattle.score.specs.Pieces.{count, pieces}
 use Rattle.score.specs.Verdict.{Verdict, lost, won, drawn, none, toMove, kingless, heavy, bare, verdictOf}
 use Rattle.score.specs.Score.{Outcome, verdict, score, sideBy, settled, scoreBy}
-use Rattle.score.specs.Walked.{pointsWith}
+use Rattle.score.specs.Walked.{reaching, pointsWith}
 
 -- ---- the side to move
 pub white-moves : (side : ℕ) → side ≡ 0 → 0 ≡ toMove side
@@ -83,24 +82,24 @@ module _ (bbs : List ℕ) where
     is-none k b = sym (ap₂ (λ (a c : Bool). chosen a king c) k b)
 
 -- ---- the score after the verdict
-module _ (tables : List (List ℕ)) (pst : List ℤ) (bbs : List ℕ) (side : ℕ) where
-  ended : (v : Verdict) → v ≡ verdictOf bbs side → settled v (pointsWith tables pst bbs side) ≡ scoreBy (attacksWith tables) (weightIn pst) bbs side
+module _ (knights : List ℕ) (pst : List ℤ) (bbs : List ℕ) (side : ℕ) where
+  ended : (v : Verdict) → v ≡ verdictOf bbs side → settled v (pointsWith knights pst bbs side) ≡ scoreBy (reaching knights) (weightIn pst) bbs side
   unfolding scoreBy
-  ended v e = ap (λ (w : Verdict). settled w (pointsWith tables pst bbs side)) e
+  ended v e = ap (λ (w : Verdict). settled w (pointsWith knights pst bbs side)) e
 
-  pub score-lost : lost ≡ verdictOf bbs side → given (verdict lost) ≡ scoreBy (attacksWith tables) (weightIn pst) bbs side
+  pub score-lost : lost ≡ verdictOf bbs side → given (verdict lost) ≡ scoreBy (reaching knights) (weightIn pst) bbs side
   score-lost e = ended lost e
 
-  pub score-won : won ≡ verdictOf bbs side → given (verdict won) ≡ scoreBy (attacksWith tables) (weightIn pst) bbs side
+  pub score-won : won ≡ verdictOf bbs side → given (verdict won) ≡ scoreBy (reaching knights) (weightIn pst) bbs side
   score-won e = ended won e
 
-  pub score-drawn : drawn ≡ verdictOf bbs side → given (verdict drawn) ≡ scoreBy (attacksWith tables) (weightIn pst) bbs side
+  pub score-drawn : drawn ≡ verdictOf bbs side → given (verdict drawn) ≡ scoreBy (reaching knights) (weightIn pst) bbs side
   score-drawn e = ended drawn e
 
-  pub score-over : none ≡ verdictOf bbs side → refusalOf R.Score ≡ pointsWith tables pst bbs side → refusalOf R.Score ≡ scoreBy (attacksWith tables) (weightIn pst) bbs side
+  pub score-over : none ≡ verdictOf bbs side → refusalOf R.Score ≡ pointsWith knights pst bbs side → refusalOf R.Score ≡ scoreBy (reaching knights) (weightIn pst) bbs side
   score-over e p = ap (settled none) p ∙ ended none e
 
-  pub score-is : (z : ℤ) → none ≡ verdictOf bbs side → given z ≡ pointsWith tables pst bbs side → given (score (held w16 z)) ≡ scoreBy (attacksWith tables) (weightIn pst) bbs side
+  pub score-is : (z : ℤ) → none ≡ verdictOf bbs side → given z ≡ pointsWith knights pst bbs side → given (score (held w16 z)) ≡ scoreBy (reaching knights) (weightIn pst) bbs side
   score-is z e p =
-      ap (λ (y : ℤ). given (score y)) (toZ-ofZ {w = w16} {z = z} (short-fits z (given-short (sideBy (attacksWith tables) (weightIn pst) bbs (toMove side)) (sideBy (attacksWith tables) (weightIn pst) bbs (other side)) (pieces bbs) z p)))
+      ap (λ (y : ℤ). given (score y)) (toZ-ofZ {w = w16} {z = z} (short-fits z (given-short (sideBy (reaching knights) (weightIn pst) bbs (toMove side)) (sideBy (reaching knights) (weightIn pst) bbs (other side)) (pieces bbs) z p)))
       ∙ ap (settled none) p ∙ ended none e

@@ -2,33 +2,42 @@
 use mathlib.Core.Bool.{cond}
 use mathlib.Core.List.{List, [], _∷_}
 use Prim.Native.Nat.{ℕ}
-use lib.Dec.{eqb}
+use lib.Dec.{ltb}
 use lib.IntN.{ℤ, pos, _+ℤ_}
 use lib.ListN.{getD, set}
 use Rattle.chess.specs.Answer.{Answer}
 use Rattle.chess.specs.Codes.{codeOf}
-use Rattle.attack.specs.Attacks.{other}
-use Rattle.attack.specs.Lent.{attacksWith}
+use Rattle.bits.specs.Bitboard.{board}
+use Rattle.rays.specs.Rays.{seen}
+use Rattle.attack.specs.Attacks.{other, attacksBy}
 use Rattle.pst.specs.Pst.{weightIn}
 use Rattle.parts.specs.Parts.{pointsOf}
 use Rattle.parts.specs.declared.Side.{Side}
 use Rattle.score.specs.Pieces.{pieces}
 use Rattle.score.specs.Material.{material}
-use Rattle.score.specs.Mobility.{factorOf, attackedFrom}
+use Rattle.score.specs.Mobility.{attackedFrom}
 use Rattle.score.specs.Weights.{weighedFrom}
 use Rattle.score.specs.Verdict.{toMove}
 use Rattle.score.specs.Score.{sideBy}
 use Rattle.score.specs.declared.inner.Sides.{Sides}
 use Rattle.score.specs.declared.inner.Walked.{Walked}
 
--- the squares attacked, of a kind that mobility counts; none of pawn and king, which have no factor
-abbrev pub reachWith : List (List ℕ) → ℕ → ℕ → ℕ → ℕ → ℕ
-reachWith tables kind colour s occ = cond (eqb (factorOf kind) 0) 0 (attacksWith tables kind colour s occ)
+-- an entry of the knight's table that is lent; 0 past the board
+abbrev pub stepFrom : List ℕ → ℕ → ℕ
+stepFrom knights s = cond (ltb s 64) (getD knights s 0) 0
+
+-- the squares attacked, of a kind that mobility counts: of pawn and king, which have no factor, none
+unfoldable pub reachWith : List ℕ → ℕ → ℕ → ℕ → ℕ
+unfolding board seen
+reachWith knights kind s occ = attacksBy 0 (stepFrom knights s) 0 kind s occ
+
+abbrev pub reaching : List ℕ → ℕ → ℕ → ℕ → ℕ → ℕ
+reaching knights kind colour s occ = reachWith knights kind s occ
 
 -- the pieces of one board: the squares that they attack, and what they weigh in each phase
-abbrev pub walkedOf : List (List ℕ) → List ℤ → ℕ → ℕ → ℕ → ℕ → Walked
-walkedOf tables pst pieces kind colour occ = record {
-  attacked = attackedFrom (λ s. reachWith tables kind colour s occ) pieces;
+abbrev pub walkedOf : List ℕ → List ℤ → ℕ → ℕ → ℕ → ℕ → Walked
+walkedOf knights pst pieces kind colour occ = record {
+  attacked = attackedFrom (λ s. reachWith knights kind s occ) pieces;
   opening = weighedFrom (λ s. weightIn pst (codeOf kind colour) s 0) pieces;
   ending = weighedFrom (λ s. weightIn pst (codeOf kind colour) s 1) pieces;
 }
@@ -44,10 +53,10 @@ plusOf sums colour phase z = set sums colour (set (getD sums colour []) phase (s
 abbrev pub sideWith : List ℕ → ℕ → ℤ → ℤ → ℕ → Side
 sideWith bbs colour opening ending mobility = record { opening = opening; ending = ending; material = material bbs colour; mobility = mobility }
 
-abbrev pub sidesWith : List (List ℕ) → List ℤ → List ℕ → Sides
-sidesWith tables pst bbs = record { white = sideBy (attacksWith tables) (weightIn pst) bbs 0; black = sideBy (attacksWith tables) (weightIn pst) bbs 1 }
+abbrev pub sidesWith : List ℕ → List ℤ → List ℕ → Sides
+sidesWith knights pst bbs = record { white = sideBy (reaching knights) (weightIn pst) bbs 0; black = sideBy (reaching knights) (weightIn pst) bbs 1 }
 
 -- the score where no verdict applies
-abbrev pub pointsWith : List (List ℕ) → List ℤ → List ℕ → ℕ → Answer ℤ
-pointsWith tables pst bbs side =
-    pointsOf (sideBy (attacksWith tables) (weightIn pst) bbs (toMove side)) (sideBy (attacksWith tables) (weightIn pst) bbs (other side)) (pieces bbs)
+abbrev pub pointsWith : List ℕ → List ℤ → List ℕ → ℕ → Answer ℤ
+pointsWith knights pst bbs side =
+    pointsOf (sideBy (reaching knights) (weightIn pst) bbs (toMove side)) (sideBy (reaching knights) (weightIn pst) bbs (other side)) (pieces bbs)

@@ -12,8 +12,10 @@ ghost use Rattle.score.specs.Mobility.{factorOf};
 ghost use Rattle.score.specs.Pieces.{count};
 ghost use Rattle.parts.specs.Answers.{points};
 ghost use Rattle.score.specs.Verdict.{toMove, heavy as heavyOf};
+ghost use Rattle.score.specs.Answers.{scored};
+ghost use Rattle.score.specs.Score.{scoreBy};
 ghost use Rattle.score.specs.Promises.{Ends, Worth, EvalsWith};
-ghost use Rattle.score.specs.Walked.{reachWith, walkedOf, sumAt, plusOf, sideWith, sidesWith, pointsWith};
+ghost use Rattle.score.specs.Walked.{stepFrom, reachWith, reaching, walkedOf, sumAt, plusOf, sideWith, sidesWith, pointsWith};
 use crate::MOBILITY;
 use crate::PIECE_VALUES;
 use crate::Scored;
@@ -25,6 +27,10 @@ use chess::inner::white;
 use chess::refusal::Refusal;
 use parts::Points;
 use parts::Side;
+use rays::inner::bishop;
+use rays::inner::queen;
+use rays::inner::rook;
+use steps::inner::KNIGHT_ROW;
 
 const WHITE: u8 = 0;
 
@@ -33,6 +39,8 @@ const BLACK: u8 = 1;
 const KINDS: u8 = 6;
 
 const PAWN: u8 = 0;
+
+const KNIGHT: u8 = 1;
 
 const BISHOP: u8 = 2;
 
@@ -58,23 +66,33 @@ struct Walked {
 }
 
 // A square weight, in 32 bits.
-fn weight(pst: &[i16], piece: u8, square: u8, phase: u8) -> i32
+fn weight(pst: &[i8], piece: u8, square: u8, phase: u8) -> i32
     ensures { λ r. ⌜ (r ≡ weightIn (now (pst .entry)) piece square phase) × (natAbs r ≤ 32768) ⌝ }
 {
     pst::inner::weight(pst, piece, square, phase) as i32
 }
 
-// Pawns and kings have no mobility.
-fn reach(kind: u8, color: u8, square: u8, occupied: u64, tables: &[[u64; 64]; 4]) -> u64
-    ensures { λ r. ⌜ r ≡ reachWith (now (tables .entry)) kind color square occupied ⌝ }
+// An entry of the knight's table.
+fn step(knights: &[u64; 64], square: u8) -> u64
+    ensures { λ r. ⌜ r ≡ stepFrom (now (knights .entry)) square ⌝ }
 {
-    if kind == 0 {
+    if square > 63 {
         return 0;
     }
-    if 4 < kind {
-        return 0;
+    knights[index(square)]
+}
+
+// The squares that a piece attacks; none of pawn and king, which have no mobility.
+fn reach(kind: u8, square: u8, occupied: u64, knights: &[u64; 64]) -> u64
+    ensures { λ r. ⌜ r ≡ reachWith (now (knights .entry)) kind square occupied ⌝ }
+{
+    match kind {
+        KNIGHT => step(knights, square),
+        BISHOP => bishop(square, occupied),
+        ROOK => rook(square, occupied),
+        QUEEN => queen(square, occupied),
+        _ => 0,
     }
-    attack::inner::attacks(kind, color, square, occupied, tables)
 }
 
 // Each board is walked once: its squares, the lowest first.
@@ -83,11 +101,11 @@ fn walk(
     kind: u8,
     color: u8,
     occupied: u64,
-    pst: &[i16],
-    tables: &[[u64; 64]; 4],
+    pst: &[i8],
+    knights: &[u64; 64],
 ) -> Walked
     requires { ⌜ color < 2 ⌝ }
-    ensures { λ r. ⌜ (r ≡ walkedOf (now (tables .entry)) (now (pst .entry)) pieces kind color occupied) × (r .attacked ≤ 4096) × (natAbs (r .opening) ≤ 2097152) × (natAbs (r .ending) ≤ 2097152) ⌝ }
+    ensures { λ r. ⌜ (r ≡ walkedOf (now (knights .entry)) (now (pst .entry)) pieces kind color occupied) × (r .attacked ≤ 4096) × (natAbs (r .opening) ≤ 2097152) × (natAbs (r .ending) ≤ 2097152) ⌝ }
 {
     let piece = white(kind) + color;
     let mut attacked: u32 = 0;
@@ -103,7 +121,7 @@ fn walk(
                 ending,
             };
         };
-        attacked += bits::count(reach(kind, color, square, occupied, tables));
+        attacked += bits::count(reach(kind, square, occupied, knights));
         opening += weight(pst, piece, square, OPENING);
         ending += weight(pst, piece, square, ENDING);
         rest = r;
@@ -185,9 +203,9 @@ fn side(bitboards: &[u64], color: u8, opening: i32, ending: i32, mobility: u32) 
 }
 
 // What both colours bring: all twelve boards, kind by kind.
-fn tally(bitboards: &[u64], occupied: u64, pst: &[i16], tables: &[[u64; 64]; 4]) -> Sides
+fn tally(bitboards: &[u64], occupied: u64, pst: &[i8], knights: &[u64; 64]) -> Sides
     requires { ⌜ occupied ≡ Attacks·occupied (now bitboards) ⌝ }
-    ensures { λ r. ⌜ r ≡ sidesWith (now (tables .entry)) (now (pst .entry)) (now (bitboards .entry)) ⌝ }
+    ensures { λ r. ⌜ r ≡ sidesWith (now (knights .entry)) (now (pst .entry)) (now (bitboards .entry)) ⌝ }
 {
     let mut position = [[0i32; 2]; 2];
     let mut white: u32 = 0;
@@ -200,7 +218,7 @@ fn tally(bitboards: &[u64], occupied: u64, pst: &[i16], tables: &[[u64; 64]; 4])
             WHITE,
             occupied,
             pst,
-            tables,
+            knights,
         );
         position = plus(position, 0, 0, w.opening);
         position = plus(position, 0, 1, w.ending);
@@ -211,7 +229,7 @@ fn tally(bitboards: &[u64], occupied: u64, pst: &[i16], tables: &[[u64; 64]; 4])
             BLACK,
             occupied,
             pst,
-            tables,
+            knights,
         );
         position = plus(position, 1, 0, b.opening);
         position = plus(position, 1, 1, b.ending);
@@ -265,12 +283,12 @@ pub fn ending(bitboards: &[u64], side: u8) -> Verdict
 }
 
 // The score of own less other, where no verdict applies.
-fn summed(bitboards: &[u64], side: u8, pst: &[i16], tables: &[[u64; 64]; 4]) -> Points
-    ensures { λ r. ⌜ points r ≡ pointsWith (now (tables .entry)) (now (pst .entry)) (now (bitboards .entry)) side ⌝ }
+fn summed(bitboards: &[u64], side: u8, pst: &[i8], knights: &[u64; 64]) -> Points
+    ensures { λ r. ⌜ points r ≡ pointsWith (now (knights .entry)) (now (pst .entry)) (now (bitboards .entry)) side ⌝ }
 {
     let occupied = attack::inner::occupied(bitboards);
     let x = bits::count(occupied);
-    let sides = tally(bitboards, occupied, pst, tables);
+    let sides = tally(bitboards, occupied, pst, knights);
     let white = sides.white;
     let black = sides.black;
     if side == WHITE {
@@ -279,9 +297,9 @@ fn summed(bitboards: &[u64], side: u8, pst: &[i16], tables: &[[u64; 64]; 4]) -> 
     parts::inner::score(black, white, x)
 }
 
-// The score, or a verdict before it.
-pub fn eval(bitboards: &[u64], side: u8, pst: &[i16], tables: &[[u64; 64]; 4]) -> Scored
-    ensures { λ r. ⌜ EvalsWith (now (tables .entry)) (now (pst .entry)) (now (bitboards .entry)) side r ⌝ }
+// The score, or a verdict before it. Of the step tables the score needs the knight's alone.
+pub(crate) fn score_of(bitboards: &[u64], side: u8, pst: &[i8], knights: &[u64; 64]) -> Scored
+    ensures { λ r. ⌜ scored r ≡ scoreBy (reaching (now (knights .entry))) (weightIn (now (pst .entry))) (now (bitboards .entry)) side ⌝ }
 {
     let verdict = ending(bitboards, side);
     match verdict {
@@ -289,11 +307,18 @@ pub fn eval(bitboards: &[u64], side: u8, pst: &[i16], tables: &[[u64; 64]; 4]) -
         Verdict::Won => Scored::Won,
         Verdict::Drawn => Scored::Drawn,
         Verdict::None => {
-            let points = summed(bitboards, side, pst, tables);
+            let points = summed(bitboards, side, pst, knights);
             let Points::Is(z) = points else {
                 return Scored::Refused(Refusal::Score);
             };
             Scored::Score(z)
         }
     }
+}
+
+// The same with all four tables lent.
+pub fn eval(bitboards: &[u64], side: u8, pst: &[i8], tables: &[[u64; 64]; 4]) -> Scored
+    ensures { λ r. ⌜ EvalsWith (now (tables .entry)) (now (pst .entry)) (now (bitboards .entry)) side r ⌝ }
+{
+    score_of(bitboards, side, pst, &tables[KNIGHT_ROW])
 }

@@ -3,6 +3,7 @@ ghost use Rattle.score.specs.Promises.{EvalsEnding, EvalsMaterial, Evals
 use chess::refusal::Refusal;
 use position::Checked;
 use position::State;
+use steps::inner::KNIGHT_ROW;
 
 pub mod inner;
 
@@ -91,6 +92,6 @@ pub fn eval(bitboards: &[u64], board: &[u8], state: State) -> Scored
         return Scored::Refused(refusal);
     }
     let pst = pst::inner::table();
-    let tables = steps::inner::tables();
-    inner::eval(bitboards, state.side, &pst, &tables)
+    let knights = steps::inner::table(KNIGHT_ROW);
+    inner::score_of(bitboards, state.side, &pst, &knights)
 }

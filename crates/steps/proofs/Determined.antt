@@ -3,7 +3,10 @@ use mathlib.Core.Path.{_≡_}
 use mathlib.Core.List.{List}
 use Prim.Native.Nat.{ℕ}
 use Rattle.chess.proofs.Paper.{one}
-use Rattle.steps.specs.Promises.{Tables, Reaches, Steps}
+use Rattle.steps.specs.Promises.{Table, Tables, Reaches, Steps}
+
+pub table : (row : ℕ) (r s : List ℕ) → Table row r → Table row s → r ≡ s
+table row r s = one
 
 pub tables : (r s : List (List ℕ)) → Tables r → Tables s → r ≡ s
 tables r s = one

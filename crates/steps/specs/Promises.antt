@@ -2,9 +2,12 @@
 use mathlib.Core.Path.{_≡_}
 use mathlib.Core.List.{List}
 use Prim.Native.Nat.{ℕ}
-use Rattle.steps.specs.Steps.{reached, stepsOf, stepTables, stepIn}
+use Rattle.steps.specs.Steps.{reached, stepsOf, stepTable, stepTables, stepIn}
 
 -- each table is the rule's, over its piece's steps
+abbrev pub Table : ℕ → List ℕ → Type 0
+Table row r = r ≡ stepTable (stepsOf row)
+
 abbrev pub Tables : List (List ℕ) → Type 0
 Tables r = r ≡ stepTables
 

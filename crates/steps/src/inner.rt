@@ -1,7 +1,5 @@
 // The tables as the crates above take them: made once for a call, then lent. Total, and no door.
-ghost use mathlib.Core.Path.{_≡_};
-ghost use Rattle.steps.specs.Steps.{stepTable, stepsOf};
-ghost use Rattle.steps.specs.Promises.{Tables, Reaches, Steps};
+ghost use Rattle.steps.specs.Promises.{Table, Tables, Reaches, Steps};
 use crate::BLACK_PAWN;
 use crate::KING;
 use crate::KNIGHT;
@@ -18,8 +16,8 @@ pub const KNIGHT_ROW: usize = 2;
 pub const KING_ROW: usize = 3;
 
 // One table; past the four, an empty one.
-fn table(row: usize) -> [u64; Square::COUNT]
-    ensures { λ r. ⌜ r ≡ stepTable (stepsOf row) ⌝ }
+pub fn table(row: usize) -> [u64; Square::COUNT]
+    ensures { λ r. ⌜ Table row r ⌝ }
 {
     match row {
         WHITE_PAWN_ROW => WHITE_PAWN,

@@ -48,7 +48,7 @@ pub fn weights() -> Weights
 }
 
 // The square weight at a place: what the white piece weighs.
-fn square_weight(pst: &[i16], place: usize) -> f64
+fn square_weight(pst: &[i8], place: usize) -> f64
     requires { ⌜ (now pst ≡ pstTable) × (place < 768) ⌝ }
     ensures { λ r. ⌜ r ≡ dbl (squareWeight place) ⌝ }
 {
@@ -58,7 +58,7 @@ fn square_weight(pst: &[i16], place: usize) -> f64
     pst::inner::weight(pst, chess::inner::white(kind), square, phase) as f64
 }
 
-fn fill(pst: &[i16], squares: &mut [f64])
+fn fill(pst: &[i8], squares: &mut [f64])
     requires { ⌜ (now pst ≡ pstTable) × (length (now squares) ≡ 768) ⌝ }
     ensures { λ r. ⌜ now (squares .exit) ≡ shippedSquares ⌝ }
 {

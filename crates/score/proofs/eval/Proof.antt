@@ -27,14 +27,14 @@ enum-told c = search needs
 table-requires : tie.Need-table-requires
 table-requires c κs = search needs
 
-tables-requires : tie.Need-tables-requires
-tables-requires c κs = search needs
+table-requires-2 : tie.Need-table-requires-2
+table-requires-2 c κs = search needs
 
-slice-aggregate-eval : tie.Need-slice-aggregate-eval
-slice-aggregate-eval c = search needs
+slice-aggregate-score-of : tie.Need-slice-aggregate-score-of
+slice-aggregate-score-of c = search needs
 
-eval-requires : tie.Need-eval-requires
-eval-requires c κs = search needs
+score-of-requires : tie.Need-score-of-requires
+score-of-requires c κs = search needs
 
 returns-2 : tie.Need-returns-2
 unfolding evalOf
@@ -43,7 +43,7 @@ returns-2 c =
     let e = t .before .before in
     let k = e .before .before in
     let a = k .before .before .before .args in
-    told-score _ _ (a .bitboards .now) (a .state .side) (scored (c .eval .result)) (t .tables .ensures) (t .before .table .ensures) (c .eval .ensures)
+    told-score _ _ (a .bitboards .now) (a .state .side) (scored (c .score-of .result)) (t .table2 .ensures) (t .before .table .ensures) (c .score-of .ensures)
     ∙ fit-rest (a .bitboards .now) (a .board .now) (a .state) (k .check .result) (k .check .ensures) (scoreOf (a .bitboards .now) (a .state .side)) (e .enum-told .given .1)
 
 pub eval-spec : {M : Type 1} → statement M
@@ -55,7 +55,7 @@ eval-spec =
     returns
     enum-told
     table-requires
-    tables-requires
-    slice-aggregate-eval
-    eval-requires
+    table-requires-2
+    slice-aggregate-score-of
+    score-of-requires
     returns-2)

@@ -1,28 +1,29 @@
 -- `pst::inner::weight` meets its contract. Assumes nothing.
 use mathlib.Core.Path.{_≡_, _∙_, sym, ap}
 use Prim.Native.Nat.{ℕ}
-use native.Mathlib.Omega.{arith}
 use lib.IntN.{pos}
 use lib.ListN.{getD, List·getD-eq-default}
 use borrow.Author.Needs.{needs, sfits-of}
 use mir.Facts.{toZ-ofZ}
-use mir.Syntax.{w16}
+use mir.Syntax.{w8, w16}
 use Rattle.pst.proofs.inner.weight.Statement.{statement}
 use Rattle.pst.proofs.inner.weight.Tie as tie
 
 place-requires : tie.Need-place-requires
 place-requires c κs = search needs
 
-mul-result : tie.Need-mul-result
-mul-result c = search needs
+shared-slice-copy-out-wide : tie.Need-shared-slice-copy-out-wide
+shared-slice-copy-out-wide c = search needs
 
-shared-slice-copy-out-result : tie.Need-shared-slice-copy-out-result
-shared-slice-copy-out-result c = search needs
+wide-requires : tie.Need-wide-requires
+wide-requires c κs = search needs
 
 returns : tie.Need-returns
 returns c =
-    toZ-ofZ {w = w16} (sfits-of (c .result .given))
-    ∙ ap (λ (i : ℕ). getD (c .before .before .before .args .pst .now) i (pos 0)) (c .before .before .place .ensures)
+    toZ-ofZ {w = w16} (sfits-of (c .wide .ok))
+    ∙ c .wide .ensures
+    ∙ toZ-ofZ {w = w8} (sfits-of (c .before .wide-arg .given))
+    ∙ ap (λ (i : ℕ). getD (c .before .before .before .before .args .pst .now) i (pos 0)) (c .before .before .before .place .ensures)
 
 returns-2 : tie.Need-returns-2
 returns-2 c =
@@ -32,4 +33,4 @@ returns-2 c =
 
 pub weight-spec : {M : Type 1} → statement M
 weight-spec =
-    tie.close (tie.spec place-requires mul-result shared-slice-copy-out-result returns returns-2)
+    tie.close (tie.spec place-requires shared-slice-copy-out-wide wide-requires returns returns-2)

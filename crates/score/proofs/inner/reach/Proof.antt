@@ -1,28 +1,57 @@
 -- `score::inner::reach` meets its contract. Assumes nothing.
-use mathlib.Core.Path.{_≡_, _∙_, ap}
-use native.Mathlib.Omega.{arith}
 use borrow.Author.Needs.{needs}
-use Rattle.attack.specs.Lent.{attacksWith}
-use Rattle.score.specs.Mobility.{factorOf}
-use Rattle.score.proofs.Factors.{no-factor, a-factor, no-reach, some-reach}
+use Rattle.score.proofs.Reached.{knights-reach, bishops-reach, rooks-reach, queens-reach, none-reached}
 use Rattle.score.proofs.inner.reach.Statement.{statement}
 use Rattle.score.proofs.inner.reach.Tie as tie
 
+step-requires : tie.Need-step-requires
+step-requires c κs = search needs
+
+bishop-requires : tie.Need-bishop-requires
+bishop-requires c κs = search needs
+
+rook-requires : tie.Need-rook-requires
+rook-requires c κs = search needs
+
+queen-requires : tie.Need-queen-requires
+queen-requires c κs = search needs
+
 returns : tie.Need-returns
-returns c = let a = c .before .args in no-reach (a .kind) (attacksWith (a .tables .now) (a .kind) (a .color) (a .square) (a .occupied)) (ap factorOf (c .if1 .taken))
+returns c =
+    let a = c .before .before .args in
+    knights-reach (a .knights .now) (a .kind) (a .square) (a .occupied) (c .step .result) (c .before .match .keys1) (c .step .ensures)
 
 returns-2 : tie.Need-returns-2
-returns-2 c = let a = c .before .before .args in no-reach (a .kind) (attacksWith (a .tables .now) (a .kind) (a .color) (a .square) (a .occupied)) (no-factor (a .kind) (c .if2 .taken))
-
-attacks-requires : tie.Need-attacks-requires
-attacks-requires c κs = search needs
+returns-2 c =
+    let a = c .before .before .args in
+    bishops-reach (a .knights .now) (a .kind) (a .square) (a .occupied) (c .bishop .result) (c .before .match .keys2) (c .bishop .ensures)
 
 returns-3 : tie.Need-returns-3
 returns-3 c =
-    let b = c .before in
-    let a = b .before .before .args in
-    c .attacks .ensures
-    ∙ some-reach (a .kind) (attacksWith (a .tables .now) (a .kind) (a .color) (a .square) (a .occupied)) (a-factor (a .kind) (b .before .if1 .left) (b .if2 .left))
+    let a = c .before .before .args in
+    rooks-reach (a .knights .now) (a .kind) (a .square) (a .occupied) (c .rook .result) (c .before .match .keys3) (c .rook .ensures)
+
+returns-4 : tie.Need-returns-4
+returns-4 c =
+    let a = c .before .before .args in
+    queens-reach (a .knights .now) (a .kind) (a .square) (a .occupied) (c .queen .result) (c .before .match .keys4) (c .queen .ensures)
+
+returns-5 : tie.Need-returns-5
+returns-5 c =
+    let a = c .before .args in
+    let r = c .match .rest in
+    none-reached (a .knights .now) (a .kind) (a .square) (a .occupied) (r .0 .0 .0 .1) (r .0 .0 .1) (r .0 .1) (r .1)
 
 pub reach-spec : {M : Type 1} → statement M
-reach-spec = tie.close (tie.spec returns returns-2 attacks-requires returns-3)
+reach-spec =
+    tie.close
+    (tie.spec
+    step-requires
+    bishop-requires
+    rook-requires
+    queen-requires
+    returns
+    returns-2
+    returns-3
+    returns-4
+    returns-5)

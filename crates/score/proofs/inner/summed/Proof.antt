@@ -6,12 +6,12 @@ use borrow.Author.Needs.{needs}
 use borrow.Author.Tests.{eq-eqb, ne-eqb}
 use Rattle.bits.specs.Bitboard.{has, howMany}
 use Rattle.attack.specs.Attacks.{other}
-use Rattle.attack.specs.Lent.{attacksWith}
 use Rattle.pst.specs.Pst.{weightIn}
 use Rattle.parts.specs.Parts.{pointsOf}
 use Rattle.parts.specs.declared.Side.{Side}
 use Rattle.score.specs.Pieces.{pieces}
 use Rattle.score.specs.Score.{sideBy}
+use Rattle.score.specs.Walked.{reaching}
 use Rattle.score.specs.declared.inner.Sides.{Sides}
 use Rattle.score.proofs.Pieces.{pieces-of}
 use Rattle.score.proofs.Verdicts.{white-moves, black-moves}
@@ -44,7 +44,7 @@ returns : tie.Need-returns
 returns c =
     let y = c .before .before .before .before in
     let a = y .before .before .before .before .args in
-    let brings : ℕ → Side = sideBy (attacksWith (a .tables .now)) (weightIn (a .pst .now)) (a .bitboards .now) in
+    let brings : ℕ → Side = sideBy (reaching (a .knights .now)) (weightIn (a .pst .now)) (a .bitboards .now) in
     c .score .ensures
     ∙ ap₂ (λ (s : Sides) (x : ℕ). pointsOf (s .white) (s .black) x) (y .tally .ensures) (x-is (y .before))
     ∙ ap₂ (λ (own them : ℕ). pointsOf (brings own) (brings them) (pieces (a .bitboards .now))) (white-moves (a .side) (c .before .if1 .taken)) (white-first (a .side) (c .before .if1 .taken))
@@ -56,7 +56,7 @@ returns-2 : tie.Need-returns-2
 returns-2 c =
     let y = c .before .before .before .before in
     let a = y .before .before .before .before .args in
-    let brings : ℕ → Side = sideBy (attacksWith (a .tables .now)) (weightIn (a .pst .now)) (a .bitboards .now) in
+    let brings : ℕ → Side = sideBy (reaching (a .knights .now)) (weightIn (a .pst .now)) (a .bitboards .now) in
     c .score2 .ensures
     ∙ ap₂ (λ (s : Sides) (x : ℕ). pointsOf (s .black) (s .white) x) (y .tally .ensures) (x-is (y .before))
     ∙ ap₂ (λ (own them : ℕ). pointsOf (brings own) (brings them) (pieces (a .bitboards .now))) (black-moves (a .side) (c .before .if1 .left)) (black-first (a .side) (c .before .if1 .left))

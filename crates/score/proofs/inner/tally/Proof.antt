@@ -28,13 +28,13 @@ both : (w x b y : Side) → w ≡ x → b ≡ y → _≡_ {A = Sides} (record { 
 both w x b y h i = cc
 
 abbrev Inv-loop : tie.InvT-loop
-Inv-loop bitboards occupied pst tables position₀ white₀ black₀ kind₀ position white black kind = Tallied tables pst bitboards kind position white black
+Inv-loop bitboards occupied pst knights position₀ white₀ black₀ kind₀ position white black kind = Tallied knights pst bitboards kind position white black
 
 abbrev μ-loop : tie.MeasureT-loop
-μ-loop bitboards occupied pst tables position₀ white₀ black₀ kind₀ position white black kind = 6 - kind
+μ-loop bitboards occupied pst knights position₀ white₀ black₀ kind₀ position white black kind = 6 - kind
 
 loop-holds : tie.Need-loop-holds Inv-loop μ-loop
-loop-holds c = let a = c .before .args in laws.begun (a .tables .now) (a .pst .now) (a .bitboards .now)
+loop-holds c = let a = c .before .args in laws.begun (a .knights .now) (a .pst .now) (a .bitboards .now)
 
 standing-requires : tie.Need-standing-requires Inv-loop μ-loop
 standing-requires c κs = search needs
@@ -109,14 +109,14 @@ tenths-requires : tie.Need-tenths-requires Inv-loop μ-loop
 tenths-requires c κs = c .before .before .before .before .walk .ensures .1
 
 white-moves : (m : tie.After-tenths Inv-loop μ-loop)
-    → m .tenths .result ≡ moves (white-at (m .before .before .before .before .before) .before .before .args .tables .now) (white-at (m .before .before .before .before .before) .before .before .args .bitboards .now) 0 (white-at (m .before .before .before .before .before) .loop .kind)
+    → m .tenths .result ≡ moves (white-at (m .before .before .before .before .before) .before .before .args .knights .now) (white-at (m .before .before .before .before .before) .before .before .args .bitboards .now) 0 (white-at (m .before .before .before .before .before) .loop .kind)
 white-moves m =
     let w = m .before .before .before .before .before in
     let l = white-at w in
     let a = l .before .before .args in
     m .tenths .ensures .0
-    ∙ laws.moved (a .tables .now) (a .bitboards .now) 0 (l .loop .kind) (a .occupied) (w .walk .result .attacked) (l .before .before .pre)
-    (ap (λ (x : Walked). x .attacked) (w .walk .ensures .0) ∙ ap (attackedFrom (λ s. reachWith (a .tables .now) (l .loop .kind) 0 s (a .occupied))) (w .before .standing .ensures))
+    ∙ laws.moved (a .knights .now) (a .bitboards .now) 0 (l .loop .kind) (a .occupied) (w .walk .result .attacked) (l .before .before .pre)
+    (ap (λ (x : Walked). x .attacked) (w .walk .ensures .0) ∙ ap (attackedFrom (λ s. reachWith (a .knights .now) (l .loop .kind) s (a .occupied))) (w .before .standing .ensures))
 
 add-white : tie.Need-add-white Inv-loop μ-loop
 add-white c =
@@ -186,14 +186,14 @@ tenths-requires-2 : tie.Need-tenths-requires-2 Inv-loop μ-loop
 tenths-requires-2 c κs = c .before .before .before .before .walk2 .ensures .1
 
 black-moves : (m : tie.After-tenths2 Inv-loop μ-loop)
-    → m .tenths2 .result ≡ moves (black-at (m .before .before .before .before .before) .before .before .args .tables .now) (black-at (m .before .before .before .before .before) .before .before .args .bitboards .now) 1 (black-at (m .before .before .before .before .before) .loop .kind)
+    → m .tenths2 .result ≡ moves (black-at (m .before .before .before .before .before) .before .before .args .knights .now) (black-at (m .before .before .before .before .before) .before .before .args .bitboards .now) 1 (black-at (m .before .before .before .before .before) .loop .kind)
 black-moves m =
     let b = m .before .before .before .before .before in
     let l = black-at b in
     let a = l .before .before .args in
     m .tenths2 .ensures .0
-    ∙ laws.moved (a .tables .now) (a .bitboards .now) 1 (l .loop .kind) (a .occupied) (b .walk2 .result .attacked) (l .before .before .pre)
-    (ap (λ (x : Walked). x .attacked) (b .walk2 .ensures .0) ∙ ap (attackedFrom (λ s. reachWith (a .tables .now) (l .loop .kind) 1 s (a .occupied))) (b .before .standing2 .ensures))
+    ∙ laws.moved (a .knights .now) (a .bitboards .now) 1 (l .loop .kind) (a .occupied) (b .walk2 .result .attacked) (l .before .before .pre)
+    (ap (λ (x : Walked). x .attacked) (b .walk2 .ensures .0) ∙ ap (attackedFrom (λ s. reachWith (a .knights .now) (l .loop .kind) s (a .occupied))) (b .before .standing2 .ensures))
 
 add-black : tie.Need-add-black Inv-loop μ-loop
 add-black c =
@@ -213,7 +213,7 @@ loop-again c =
     let w = m .before .before .before .before .before in
     let l = black-at b in
     let a = l .before .before .args in
-    laws.more (a .tables .now) (a .pst .now) (a .bitboards .now) (l .loop .kind) (l .loop .white) (l .loop .black) (m .tenths .result) (c .tenths2 .result) (l .loop .position) (c .before .plus4 .result)
+    laws.more (a .knights .now) (a .pst .now) (a .bitboards .now) (l .loop .kind) (l .loop .white) (l .loop .black) (m .tenths .result) (c .tenths2 .result) (l .loop .position) (c .before .plus4 .result)
     (l .loop .inv) (taken b) (black-two (c .before))
     (subst (λ (z : ℤ). natAbs z ≤ 2097152) (white-opening w) (w .walk .ensures .2)) (subst (λ (z : ℤ). natAbs z ≤ 2097152) (white-ending w) (w .walk .ensures .3))
     (subst (λ (z : ℤ). natAbs z ≤ 2097152) (black-opening b) (b .walk2 .ensures .2)) (subst (λ (z : ℤ). natAbs z ≤ 2097152) (black-ending b) (b .walk2 .ensures .3))
@@ -255,8 +255,8 @@ returns c =
     let l = s .before .before .before .before in
     let a = l .before .before .args in
     let e : l .loop .kind ≡ 6 = omega (arith, l .loop .inv .few, s .before .before .before .loop-test .left) in
-    both _ _ _ _ (s .side .ensures ∙ laws.white-side (a .tables .now) (a .pst .now) (a .bitboards .now) (l .loop .kind) (l .loop .white) (l .loop .black) (l .loop .position) (l .loop .inv) e)
-    (c .side2 .ensures ∙ laws.black-side (a .tables .now) (a .pst .now) (a .bitboards .now) (l .loop .kind) (l .loop .white) (l .loop .black) (l .loop .position) (l .loop .inv) e)
+    both _ _ _ _ (s .side .ensures ∙ laws.white-side (a .knights .now) (a .pst .now) (a .bitboards .now) (l .loop .kind) (l .loop .white) (l .loop .black) (l .loop .position) (l .loop .inv) e)
+    (c .side2 .ensures ∙ laws.black-side (a .knights .now) (a .pst .now) (a .bitboards .now) (l .loop .kind) (l .loop .white) (l .loop .black) (l .loop .position) (l .loop .inv) e)
 
 pub tally-spec : {M : Type 1} → statement M
 tally-spec =

@@ -26,8 +26,8 @@ use Rattle.score.proofs.inner.walk.Statement.{statement}
 use Rattle.score.proofs.inner.walk.Tie as tie
 
 -- how many squares a piece on s attacks, and what it weighs
-abbrev reached : List (List ℕ) → ℕ → ℕ → ℕ → ℕ → ℕ
-reached tables kind color occ s = howMany 64 (has (reachWith tables kind color s occ))
+abbrev reached : List ℕ → ℕ → ℕ → ℕ → ℕ
+reached knights kind occ s = howMany 64 (has (reachWith knights kind s occ))
 
 abbrev weighs : List ℤ → ℕ → ℕ → ℕ → ℤ
 weighs pst piece phase s = weightIn pst piece s phase
@@ -36,11 +36,11 @@ walked : (a b : ℕ) (o p e q : ℤ) → a ≡ b → o ≡ p → e ≡ q → _�
 walked a b o p e q h i j = cc
 
 abbrev Inv-loop : tie.InvT-loop
-Inv-loop pieces kind color occupied pst tables piece attacked₀ opening₀ ending₀ rest₀ attacked opening ending rest =
-    walks.Kept (reached tables kind color occupied) (weighs pst piece 0) (weighs pst piece 1) pieces attacked (toZ w32 opening) (toZ w32 ending) rest
+Inv-loop pieces kind color occupied pst knights piece attacked₀ opening₀ ending₀ rest₀ attacked opening ending rest =
+    walks.Kept (reached knights kind occupied) (weighs pst piece 0) (weighs pst piece 1) pieces attacked (toZ w32 opening) (toZ w32 ending) rest
 
 abbrev μ-loop : tie.MeasureT-loop
-μ-loop pieces kind color occupied pst tables piece attacked₀ opening₀ ending₀ rest₀ attacked opening ending rest = length (squares rest)
+μ-loop pieces kind color occupied pst knights piece attacked₀ opening₀ ending₀ rest₀ attacked opening ending rest = length (squares rest)
 
 white-requires : tie.Need-white-requires Inv-loop μ-loop
 white-requires c κs = search needs
@@ -52,7 +52,7 @@ loop-holds : tie.Need-loop-holds Inv-loop μ-loop
 loop-holds c =
     let a = c .before .args in
     let piece = c .white .result + a .color in
-    walks.begun (reached (a .tables .now) (a .kind) (a .color) (a .occupied)) (weighs (a .pst .now) piece 0) (weighs (a .pst .now) piece 1) (a .pieces) (c .before .fits .pieces .fits)
+    walks.begun (reached (a .knights .now) (a .kind) (a .occupied)) (weighs (a .pst .now) piece 0) (weighs (a .pst .now) piece 1) (a .pieces) (c .before .fits .pieces .fits)
 
 next-requires : tie.Need-next-requires Inv-loop μ-loop
 next-requires c κs = search needs
@@ -73,11 +73,11 @@ returns c =
     let w = c .before .before .before .before in
     let a = w .before .args in
     let piece = w .white .result + a .color in
-    let f = reached (a .tables .now) (a .kind) (a .color) (a .occupied) in
+    let f = reached (a .knights .now) (a .kind) (a .occupied) in
     let code : piece ≡ codeOf (a .kind) (a .color) = ap (λ (x : ℕ). x + a .color) (w .white .ensures) in
     let k = l .inv in (
       walked _ _ _ _ _ _
-          (walks.reach-is f (weighs (a .pst .now) piece 0) (weighs (a .pst .now) piece 1) (a .pieces) (l .attacked) (l .rest) (toZ w32 (l .opening)) (toZ w32 (l .ending)) k (over c) ∙ walks.attacked-of (λ s. reachWith (a .tables .now) (a .kind) (a .color) s (a .occupied)) (a .pieces))
+          (walks.reach-is f (weighs (a .pst .now) piece 0) (weighs (a .pst .now) piece 1) (a .pieces) (l .attacked) (l .rest) (toZ w32 (l .opening)) (toZ w32 (l .ending)) k (over c) ∙ walks.attacked-of (λ s. reachWith (a .knights .now) (a .kind) s (a .occupied)) (a .pieces))
           (walks.opening-is f (weighs (a .pst .now) piece 0) (weighs (a .pst .now) piece 1) (a .pieces) (l .attacked) (l .rest) (toZ w32 (l .opening)) (toZ w32 (l .ending)) k (over c) ∙ ap (λ (p : ℕ). added (weighs (a .pst .now) p 0) (pos 0) (squares (a .pieces))) code ∙ walks.weighed-of (weighs (a .pst .now) (codeOf (a .kind) (a .color)) 0) (a .pieces))
           (walks.ending-is f (weighs (a .pst .now) piece 0) (weighs (a .pst .now) piece 1) (a .pieces) (l .attacked) (l .rest) (toZ w32 (l .opening)) (toZ w32 (l .ending)) k (over c) ∙ ap (λ (p : ℕ). added (weighs (a .pst .now) p 1) (pos 0) (squares (a .pieces))) code ∙ walks.weighed-of (weighs (a .pst .now) (codeOf (a .kind) (a .color)) 1) (a .pieces)),
       omega (arith, k .few),
@@ -141,7 +141,7 @@ loop-again c =
     let n = c .before .before .count in
     let u = c .before .weight in
     let v = c .weight2 in
-    walks.more (reached (a .tables .now) (a .kind) (a .color) (a .occupied)) (weighs (a .pst .now) piece 0) (weighs (a .pst .now) piece 1) (a .pieces)
+    walks.more (reached (a .knights .now) (a .kind) (a .occupied)) (weighs (a .pst .now) piece 0) (weighs (a .pst .now) piece 1) (a .pieces)
     (l .attacked) (l .rest) s r (n .result) (toZ w32 (l .opening)) (toZ w32 (l .ending)) _ _ (l .inv) (came k .0) (omega arith)
     (n .ensures ∙ ap (λ (b : ℕ). howMany 64 (has b)) (c .before .before .before .reach .ensures)) (count-le (c .before .before))
     (walks.sum-is (toZ w32 (l .opening)) (u .result) (weighs (a .pst .now) piece 0 s) (u .ensures .0) (sfits-of (u .ok)) (u .ensures .1) _ _ (l .inv .room) (fewer k))

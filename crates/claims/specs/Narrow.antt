@@ -19,7 +19,7 @@ use Rattle.pst.specs.Pst.{pstOf}
 use Rattle.parts.specs.Parts.{in16, openingOf, endingOf, productsOf, sidePart, first, second, total}
 use Rattle.parts.specs.declared.Side.{Side}
 use Rattle.score.specs.Pieces.{count, pieces}
-use Rattle.score.specs.Material.{worth, pair}
+use Rattle.score.specs.Material.{worth, pair, pairValue}
 use Rattle.score.specs.Mobility.{factorOf}
 use Rattle.score.specs.Verdict.{toMove, verdictOf}
 use Rattle.score.specs.Score.{score, sideBy, settled, scoreOf, evalOf, materialOf}
@@ -51,7 +51,7 @@ worthOf bbs colour kind = count bbs kind colour * valueOf kind
 -- `material[c] += ..`: the pair's bonus comes right after the bishops
 abbrev pub materialTerms : List ℕ → ℕ → List ℕ
 materialTerms bbs colour =
-    worthOf bbs colour 0 ∷ worthOf bbs colour 1 ∷ worthOf bbs colour 2 ∷ pair bbs colour * 33 ∷ worthOf bbs colour 3 ∷ worthOf bbs colour 4 ∷ worthOf bbs colour 5 ∷ []
+    worthOf bbs colour 0 ∷ worthOf bbs colour 1 ∷ worthOf bbs colour 2 ∷ pair bbs colour * pairValue ∷ worthOf bbs colour 3 ∷ worthOf bbs colour 4 ∷ worthOf bbs colour 5 ∷ []
 
 -- `targets.count()`, and `mobility[c] += MOBILITY[p] * targets.count()`
 abbrev pub targets : List ℕ → ℕ → ℕ → ℕ → ℕ

@@ -26,10 +26,10 @@ part I.Over = refusalOf R.Score
 abbrev pub dividedOf : ℤ → ℤ → Answer ℤ
 dividedOf a b = orRefuse (P.in16 a && P.in16 b && P.in16 (a +ℤ b)) (numberOf R.Score) (given (quotZ (a +ℤ b) (negℤ (pos 30))))
 
--- three differences, and 11
+-- three differences, and the tempo
 abbrev pub joinedOf : ℤ → ℤ → ℤ → Answer ℤ
 joinedOf p m q =
-    orRefuse (P.in16 (p +ℤ m) && P.in16 (p +ℤ m +ℤ q) && P.in16 (p +ℤ m +ℤ q +ℤ pos 11)) (numberOf R.Score) (given (p +ℤ m +ℤ q +ℤ pos 11))
+    orRefuse (P.in16 (p +ℤ m) && P.in16 (p +ℤ m +ℤ q) && P.in16 (p +ℤ m +ℤ q +ℤ pos P.tempoValue)) (numberOf R.Score) (given (p +ℤ m +ℤ q +ℤ pos P.tempoValue))
 
 -- a side's part, or SCORE for what is the side's alone
 abbrev pub broughtOf : Side → ℕ → Answer ℤ

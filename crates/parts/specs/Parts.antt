@@ -10,6 +10,10 @@ use Rattle.chess.specs.Refusals.{numberOf}
 use Rattle.chess.specs.declared.refusal.Refusal.the-variants as R
 use Rattle.parts.specs.declared.Side.{Side}
 
+-- "plus 11"
+abbrev pub tempoValue : ℕ
+tempoValue = 11
+
 -- −32768 ≤ z ≤ 32767
 abbrev pub in16 : ℤ → Bool
 in16 z = ltb (mag z) 32768
@@ -47,7 +51,7 @@ abbrev pub second : Side → Side → ℕ → ℤ
 second own other x = first own other x +ℤ (pos (own .mobility / 10) -ℤ pos (other .mobility / 10))
 
 abbrev pub total : Side → Side → ℕ → ℤ
-total own other x = second own other x +ℤ pos 11
+total own other x = second own other x +ℤ pos tempoValue
 
 -- "; the final sum after any of its three additions"
 abbrev pub sumFits : Side → Side → ℕ → Bool

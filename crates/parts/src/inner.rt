@@ -6,6 +6,7 @@ ghost use Rattle.parts.specs.Parts.{in16};
 ghost use Rattle.parts.specs.Answers.{part, dividedOf, broughtOf, joinedOf, points, Scores};
 use crate::Points;
 use crate::Side;
+use crate::TEMPO;
 
 // A side's part, or that a step to it leaves 16 bits.
 enum Part {
@@ -84,7 +85,7 @@ fn brought(side: Side, x: u32) -> Part
     divided(opening, ending)
 }
 
-// The differences of square weights, material and mobility added from left to right, then 11.
+// The differences of square weights, material and mobility added from left to right, then the tempo.
 fn joined(weights: i64, material: i64, mobility: i64) -> Points
     requires { ⌜ (natAbs weights ≤ 4294967295) × (natAbs material ≤ 4294967295) × (natAbs mobility ≤ 4294967295) ⌝ }
     ensures { λ r. ⌜ points r ≡ joinedOf weights material mobility ⌝ }
@@ -97,7 +98,7 @@ fn joined(weights: i64, material: i64, mobility: i64) -> Points
     if !short(second) {
         return Points::Over;
     }
-    let total = second + 11;
+    let total = second + TEMPO as i64;
     if !short(total) {
         return Points::Over;
     }

@@ -1,11 +1,14 @@
 // The table for the loops of the crates above: made once, lent, and read. Total, and no door.
 ghost use mathlib.Core.Path.{_≡_};
 ghost use Rattle.pst.specs.Promises.{Makes, Weighs, Places};
+use crate::COUNT;
+use crate::PER_CODE;
 use crate::PST;
 use chess::inner::index;
+use chess::phase::Phase;
 
 // The whole table. A constant is built anew wherever it is read: who loops makes it once and lends it.
-pub fn table() -> [i8; 1792]
+pub fn table() -> [i8; COUNT]
     ensures { λ r. ⌜ Makes r ⌝ }
 {
     PST
@@ -15,7 +18,7 @@ pub fn table() -> [i8; 1792]
 pub fn place(code: u8, square: u8, phase: u8) -> usize
     ensures { λ r. ⌜ Places code square phase r ⌝ }
 {
-    128 * index(code) + 2 * index(square) + index(phase)
+    PER_CODE * index(code) + Phase::COUNT * index(square) + index(phase)
 }
 
 fn wide(z: i8) -> i16

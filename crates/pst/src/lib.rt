@@ -1,10 +1,19 @@
 // The square weights, as piece_square_table.rs makes them: one constant, from the twelve printed grids.
+use chess::phase::Phase;
+use chess::piece::Piece;
+use chess::square::Square;
+
 pub mod inner;
+
+// A code has two weights for each square.
+pub const PER_CODE: usize = Square::COUNT * Phase::COUNT;
+
+pub const COUNT: usize = Piece::BOARDS * PER_CODE;
 
 // Code by code, square by square, the opening's weight and then the ending's: 128·code + 2·square + phase. A row is a rank of the
 // board, from the first to the eighth, so White's pieces stand the other way up than on the printed grids.
 #[rattlefmt::skip]
-pub const PST: [i8; 1792] = [
+pub const PST: [i8; COUNT] = [
     // 0: no piece's
        0,    0,    0,    0,    0,    0,    0,    0,    0,    0,    0,    0,    0,    0,    0,    0,
        0,    0,    0,    0,    0,    0,    0,    0,    0,    0,    0,    0,    0,    0,    0,    0,

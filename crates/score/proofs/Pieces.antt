@@ -12,7 +12,7 @@ use Rattle.bits.proofs.Counts.{many-le}
 use Rattle.attack.specs.Attacks.{standing, occupied}
 use Rattle.score.specs.Pieces.{count, pieces}
 use Rattle.chess.specs.Values.{valueOf}
-use Rattle.score.specs.Material.{worth, pair, material}
+use Rattle.score.specs.Material.{worth, pair, pairValue, material}
 use Rattle.score.proofs.Constants.{worth-le}
 
 module _ (bbs : List ℕ) where
@@ -40,15 +40,15 @@ module _ (bbs : List ℕ) where
   unfolding worth
   worth-small colour = sum-le 6 640000 (λ kind. count bbs kind colour * valueOf kind) (λ kind h. worth-le (count bbs kind colour) kind (count-le kind colour))
 
-  pub material-of : (colour : ℕ) → worth bbs colour + pair bbs colour * 33 ≡ material bbs colour
+  pub material-of : (colour : ℕ) → worth bbs colour + pair bbs colour * pairValue ≡ material bbs colour
   unfolding material
   material-of colour = refl
 
   -- the pair's bonus, as it is tested
-  pub no-pair : (colour n : ℕ) → n ≡ count bbs 2 colour → n < 2 → 0 ≡ pair bbs colour * 33
+  pub no-pair : (colour n : ℕ) → n ≡ count bbs 2 colour → n < 2 → 0 ≡ pair bbs colour * pairValue
   unfolding pair
-  no-pair colour n e h = sym (ap (λ (t : Bool). cond t 1 0 * 33) (ap (leb 2) (sym e) ∙ lt-leb 2 n h))
+  no-pair colour n e h = sym (ap (λ (t : Bool). cond t 1 0 * pairValue) (ap (leb 2) (sym e) ∙ lt-leb 2 n h))
 
-  pub a-pair : (colour n : ℕ) → n ≡ count bbs 2 colour → 2 ≤ n → 33 ≡ pair bbs colour * 33
+  pub a-pair : (colour n : ℕ) → n ≡ count bbs 2 colour → 2 ≤ n → pairValue ≡ pair bbs colour * pairValue
   unfolding pair
-  a-pair colour n e h = sym (ap (λ (t : Bool). cond t 1 0 * 33) (ap (leb 2) (sym e) ∙ le-leb 2 n h))
+  a-pair colour n e h = sym (ap (λ (t : Bool). cond t 1 0 * pairValue) (ap (leb 2) (sym e) ∙ le-leb 2 n h))

@@ -25,6 +25,9 @@ unfolding count
 pair bbs colour = cond (leb 2 (count bbs 2 colour)) 1 0
 
 -- "33 more for two or more bishops of a colour (not in `eval_material`)"
+abbrev pub pairValue : ℕ
+pairValue = 33
+
 unfoldable pub material : List ℕ → ℕ → ℕ
 unfolding worth pair
-material bbs colour = worth bbs colour + pair bbs colour * 33
+material bbs colour = worth bbs colour + pair bbs colour * pairValue

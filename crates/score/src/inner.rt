@@ -7,7 +7,7 @@ ghost use mir.Val.{SFits};
 ghost use Rattle.attack.specs.Attacks.{occupied as Attacks·occupied};
 ghost use Rattle.pst.specs.Pst.{weightIn};
 ghost use Rattle.chess.specs.Values.{valueOf};
-ghost use Rattle.score.specs.Material.{pair as pairOf};
+ghost use Rattle.score.specs.Material.{pair as pairOf, pairValue};
 ghost use Rattle.score.specs.Mobility.{factorOf};
 ghost use Rattle.score.specs.Pieces.{count};
 ghost use Rattle.parts.specs.Answers.{points};
@@ -16,42 +16,33 @@ ghost use Rattle.score.specs.Answers.{scored};
 ghost use Rattle.score.specs.Score.{scoreBy};
 ghost use Rattle.score.specs.Promises.{Ends, Worth, EvalsWith};
 ghost use Rattle.score.specs.Walked.{stepFrom, reachWith, reaching, walkedOf, sumAt, plusOf, sideWith, sidesWith, pointsWith};
+use crate::BISHOP_PAIR;
 use crate::MOBILITY;
 use crate::PIECE_VALUES;
 use crate::Scored;
 use crate::Verdict;
 use attack::inner::standing;
 use bits::Lowest;
+use chess::color::BLACK;
+use chess::color::WHITE;
 use chess::inner::index;
 use chess::inner::white;
+use chess::kind::BISHOP;
+use chess::kind::KINDS;
+use chess::kind::KING;
+use chess::kind::KNIGHT;
+use chess::kind::PAWN;
+use chess::kind::QUEEN;
+use chess::kind::ROOK;
 use chess::refusal::Refusal;
+use chess::square::LAST;
+use chess::square::Square;
 use parts::Points;
 use parts::Side;
 use rays::inner::bishop;
 use rays::inner::queen;
 use rays::inner::rook;
 use steps::inner::KNIGHT_ROW;
-
-const WHITE: u8 = 0;
-
-const BLACK: u8 = 1;
-
-const KINDS: u8 = 6;
-
-const PAWN: u8 = 0;
-
-const KNIGHT: u8 = 1;
-
-const BISHOP: u8 = 2;
-
-const ROOK: u8 = 3;
-
-const QUEEN: u8 = 4;
-
-const KING: u8 = 5;
-
-// The worth of two bishops beyond their own.
-const PAIR: u32 = 33;
 
 // Phases.
 const OPENING: u8 = 0;
@@ -73,17 +64,17 @@ fn weight(pst: &[i8], piece: u8, square: u8, phase: u8) -> i32
 }
 
 // An entry of the knight's table.
-fn step(knights: &[u64; 64], square: u8) -> u64
+fn step(knights: &[u64; Square::COUNT], square: u8) -> u64
     ensures { λ r. ⌜ r ≡ stepFrom (now (knights .entry)) square ⌝ }
 {
-    if square > 63 {
+    if square > LAST {
         return 0;
     }
     knights[index(square)]
 }
 
 // The squares that a piece attacks; none of pawn and king, which have no mobility.
-fn reach(kind: u8, square: u8, occupied: u64, knights: &[u64; 64]) -> u64
+fn reach(kind: u8, square: u8, occupied: u64, knights: &[u64; Square::COUNT]) -> u64
     ensures { λ r. ⌜ r ≡ reachWith (now (knights .entry)) kind square occupied ⌝ }
 {
     match kind {
@@ -102,7 +93,7 @@ fn walk(
     color: u8,
     occupied: u64,
     pst: &[i8],
-    knights: &[u64; 64],
+    knights: &[u64; Square::COUNT],
 ) -> Walked
     requires { ⌜ color < 2 ⌝ }
     ensures { λ r. ⌜ (r ≡ walkedOf (now (knights .entry)) (now (pst .entry)) pieces kind color occupied) × (r .attacked ≤ 4096) × (natAbs (r .opening) ≤ 2097152) × (natAbs (r .ending) ≤ 2097152) ⌝ }
@@ -165,14 +156,14 @@ pub fn material(bitboards: &[u64], color: u8) -> u32
     sum
 }
 
-// 33 for two bishops or more.
+// The bonus for two bishops or more.
 fn pair(bitboards: &[u64], color: u8) -> u32
-    ensures { λ r. ⌜ (r ≡ pairOf (now (bitboards .entry)) color * 33) × (r ≤ 33) ⌝ }
+    ensures { λ r. ⌜ (r ≡ pairOf (now (bitboards .entry)) color * pairValue) × (r ≤ pairValue) ⌝ }
 {
     if number(bitboards, BISHOP, color) < 2 {
         return 0;
     }
-    PAIR
+    BISHOP_PAIR
 }
 
 struct Sides {
@@ -203,7 +194,7 @@ fn side(bitboards: &[u64], color: u8, opening: i32, ending: i32, mobility: u32) 
 }
 
 // What both colours bring: all twelve boards, kind by kind.
-fn tally(bitboards: &[u64], occupied: u64, pst: &[i8], knights: &[u64; 64]) -> Sides
+fn tally(bitboards: &[u64], occupied: u64, pst: &[i8], knights: &[u64; Square::COUNT]) -> Sides
     requires { ⌜ occupied ≡ Attacks·occupied (now bitboards) ⌝ }
     ensures { λ r. ⌜ r ≡ sidesWith (now (knights .entry)) (now (pst .entry)) (now (bitboards .entry)) ⌝ }
 {
@@ -283,7 +274,7 @@ pub fn ending(bitboards: &[u64], side: u8) -> Verdict
 }
 
 // The score of own less other, where no verdict applies.
-fn summed(bitboards: &[u64], side: u8, pst: &[i8], knights: &[u64; 64]) -> Points
+fn summed(bitboards: &[u64], side: u8, pst: &[i8], knights: &[u64; Square::COUNT]) -> Points
     ensures { λ r. ⌜ points r ≡ pointsWith (now (knights .entry)) (now (pst .entry)) (now (bitboards .entry)) side ⌝ }
 {
     let occupied = attack::inner::occupied(bitboards);
@@ -298,7 +289,12 @@ fn summed(bitboards: &[u64], side: u8, pst: &[i8], knights: &[u64; 64]) -> Point
 }
 
 // The score, or a verdict before it. Of the step tables the score needs the knight's alone.
-pub(crate) fn score_of(bitboards: &[u64], side: u8, pst: &[i8], knights: &[u64; 64]) -> Scored
+pub(crate) fn score_of(
+    bitboards: &[u64],
+    side: u8,
+    pst: &[i8],
+    knights: &[u64; Square::COUNT],
+) -> Scored
     ensures { λ r. ⌜ scored r ≡ scoreBy (reaching (now (knights .entry))) (weightIn (now (pst .entry))) (now (bitboards .entry)) side ⌝ }
 {
     let verdict = ending(bitboards, side);
@@ -317,7 +313,7 @@ pub(crate) fn score_of(bitboards: &[u64], side: u8, pst: &[i8], knights: &[u64; 
 }
 
 // The same with all four tables lent.
-pub fn eval(bitboards: &[u64], side: u8, pst: &[i8], tables: &[[u64; 64]; 4]) -> Scored
+pub fn eval(bitboards: &[u64], side: u8, pst: &[i8], tables: &[[u64; Square::COUNT]; 4]) -> Scored
     ensures { λ r. ⌜ EvalsWith (now (tables .entry)) (now (pst .entry)) (now (bitboards .entry)) side r ⌝ }
 {
     score_of(bitboards, side, pst, &tables[KNIGHT_ROW])

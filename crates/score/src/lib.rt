@@ -1,5 +1,8 @@
 // Verdict, material and score, as eval.rs has them: the doors.
 ghost use Rattle.score.specs.Promises.{EvalsEnding, EvalsMaterial, Evals};
+use chess::color::BLACK;
+use chess::kind::Kind;
+use chess::piece::Piece;
 use chess::refusal::Refusal;
 use position::Checked;
 use position::State;
@@ -37,25 +40,45 @@ pub enum Scored {
 }
 
 // By code, for both colours.
-pub const PIECE_VALUES: [u32; 14] = [
+pub const PIECE_VALUES: [u32; Piece::BOARDS] = [
     0,
     0,
-    100,
-    100,
-    304,
-    304,
-    10000,
-    10000,
-    292,
-    292,
-    487,
-    487,
-    1013,
-    1013,
+    Kind::PAWN_VALUE,
+    Kind::PAWN_VALUE,
+    Kind::KNIGHT_VALUE,
+    Kind::KNIGHT_VALUE,
+    Kind::KING_VALUE,
+    Kind::KING_VALUE,
+    Kind::BISHOP_VALUE,
+    Kind::BISHOP_VALUE,
+    Kind::ROOK_VALUE,
+    Kind::ROOK_VALUE,
+    Kind::QUEEN_VALUE,
+    Kind::QUEEN_VALUE,
 ];
 
-// In tenths, by the code of the white piece.
-pub const MOBILITY: [u32; 14] = [0, 0, 0, 0, 24, 0, 0, 0, 47, 0, 39, 0, 21, 0];
+// What two bishops are worth beyond their own.
+pub const BISHOP_PAIR: u32 = 33;
+
+// What an attacked square is worth, in tenths.
+pub const KNIGHT_MOBILITY: u32 = 24;
+
+pub const BISHOP_MOBILITY: u32 = 47;
+
+pub const ROOK_MOBILITY: u32 = 39;
+
+pub const QUEEN_MOBILITY: u32 = 21;
+
+// The same by the code of the white piece.
+#[rattlefmt::skip]
+pub const MOBILITY: [u32; Piece::BOARDS] = [
+    0, 0, 0, 0,
+    KNIGHT_MOBILITY, 0,
+    0, 0,
+    BISHOP_MOBILITY, 0,
+    ROOK_MOBILITY, 0,
+    QUEEN_MOBILITY, 0,
+];
 
 // Lost, won or drawn, for the side to move, or none of them: SHAPE, BOARD.
 pub fn eval_ending(bitboards: &[u64], board: &[u8], state: State) -> Ending
@@ -71,7 +94,7 @@ pub fn eval_ending(bitboards: &[u64], board: &[u8], state: State) -> Ending
 pub fn eval_material(bitboards: &[u64], board: &[u8], state: State, color: u8) -> Material
     ensures { λ r. ⌜ EvalsMaterial (now (bitboards .entry)) (now (board .entry)) state color r ⌝ }
 {
-    if color > 1 {
+    if color > BLACK {
         return Material::Refused(Refusal::Shape);
     }
     if let Checked::Refused(refusal) = position::check(bitboards, board, state) {

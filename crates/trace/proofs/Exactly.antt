@@ -14,12 +14,12 @@ use Rattle.chess.specs.Places.{entryPlace, weightPlace}
 use Rattle.attack.specs.Attacks.{attacks}
 use Rattle.score.specs.Pieces.{count, pieces}
 use Rattle.chess.specs.Values.{valueOf}
-use Rattle.score.specs.Material.{pair}
+use Rattle.parts.specs.Parts.{tempoValue}
+use Rattle.score.specs.Material.{pair, pairValue}
 use Rattle.score.specs.Mobility.{factorOf, attackedBy, attacked, mobilityBy}
 use Rattle.double.specs.Double as D
 use Rattle.double.specs.declared.Trace.{Trace}
 use Rattle.trace.specs.Trace.{signOf, traceOf, entryAt, entriesOf}
-use Rattle.trace.specs.Weights.{pairValue, tempoValue}
 use Rattle.trace.specs.Exact.{WholeWeights, shippedWhole, difference, countsOf, term, squareSum, exactBy, exactSum}
 use Rattle.trace.proofs.Planes.{entries-at}
 use Rattle.trace.proofs.Entries.{thirtieths, square-sum}

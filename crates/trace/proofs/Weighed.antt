@@ -16,19 +16,8 @@ use Rattle.chess.specs.Codes.{whiteOf, codeOf}
 use Rattle.chess.proofs.Codes.{white-le}
 use Rattle.pst.specs.Pst.{pstOf, pstTable, weightIn}
 use Rattle.pst.proofs.Table.{table-at, small}
-use Rattle.parts.specs.Parts.{second, total}
-use Rattle.parts.specs.declared.Side.{Side}
-use Rattle.score.specs.Material.{worth, pair, material}
 use Rattle.double.specs.Double.{dbl}
-use Rattle.trace.specs.Weights.{pairValue, tempoValue, squareWeight, shippedSquares}
-
--- the score's 33 and 11 are these
-pub pair-weighs : (bbs : List ℕ) (colour : ℕ) → material bbs colour ≡ worth bbs colour + pair bbs colour * pairValue
-unfolding material
-pair-weighs bbs colour = refl
-
-pub tempo-weighs : (own other : Side) (x : ℕ) → total own other x ≡ second own other x +ℤ pos tempoValue
-tempo-weighs own other x = refl
+use Rattle.trace.specs.Weights.{squareWeight, shippedSquares}
 
 -- a weight of the table, as it is read
 pub weighs : (pst : List ℤ) (place white : ℕ) (z : ℤ) → place < 768 → pst ≡ pstTable → white ≡ whiteOf (place / 128)

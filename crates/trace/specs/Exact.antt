@@ -9,10 +9,12 @@ use lib.ListN.{getD}
 use Rattle.laws.specs.Sums.{sumZ}
 use Rattle.chess.specs.Places.{entryPlace, weightPlace}
 use Rattle.chess.specs.Values.{valueOf}
+use Rattle.parts.specs.Parts.{tempoValue}
+use Rattle.score.specs.Material.{pairValue}
 use Rattle.score.specs.Mobility.{factorOf}
 use Rattle.double.specs.Double.{attacked}
 use Rattle.double.specs.declared.Trace.{Trace}
-use Rattle.trace.specs.Weights.{pairValue, tempoValue, squareWeight}
+use Rattle.trace.specs.Weights.{squareWeight}
 
 -- by kind what a count and an attacked square weigh, and by place what an entry weighs
 pub record WholeWeights : Type 0 where

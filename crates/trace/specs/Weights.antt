@@ -8,17 +8,11 @@ use Rattle.laws.specs.Tables.{tabulate}
 use Rattle.chess.specs.Codes.{codeOf}
 use Rattle.pst.specs.Pst.{pstOf}
 use Rattle.chess.specs.Values.{valueOf}
+use Rattle.parts.specs.Parts.{tempoValue}
+use Rattle.score.specs.Material.{pairValue}
 use Rattle.score.specs.Mobility.{factorOf}
 use Rattle.double.specs.Double.{dbl}
 use Rattle.double.specs.declared.Weights.{Weights}
-
--- "33": the score's, by `pair-weighs` in proofs/Weighed
-abbrev pub pairValue : ℕ
-pairValue = 33
-
--- "11": the score's, by `tempo-weighs` there
-abbrev pub tempoValue : ℕ
-tempoValue = 11
 
 -- "a square weight at 128·kind + 64·phase + square": what stands at i
 unfoldable pub squareWeight : ℕ → ℤ

@@ -10,23 +10,17 @@ use chess::kind::Kind;
 use chess::refusal::Refusal;
 use chess::weight::SquareWeight;
 use double::Weights;
+use parts::TEMPO;
+use score::BISHOP_MOBILITY;
+use score::BISHOP_PAIR;
+use score::KNIGHT_MOBILITY;
+use score::QUEEN_MOBILITY;
+use score::ROOK_MOBILITY;
 
 pub enum Written {
     Done,
     Refused(Refusal),
 }
-
-const BISHOP_PAIR: u32 = 33;
-
-const KNIGHT_MOBILITY: u32 = 24;
-
-const BISHOP_MOBILITY: u32 = 47;
-
-const ROOK_MOBILITY: u32 = 39;
-
-const QUEEN_MOBILITY: u32 = 21;
-
-const TEMPO: u32 = 11;
 
 // The eleven that have a name.
 pub fn weights() -> Weights

@@ -79,6 +79,9 @@ returns-2 c =
     let e : in16 (second s) ≡ false = ap in16 (sym (second-is s)) ∙ sym (c .before .short2 .ensures) ∙ not-true _ (c .if2 .taken) in
     simp (yes-first (c .before .before), e)
 
+cast-total : tie.Need-cast-total
+cast-total c = search needs
+
 add-total : tie.Need-add-total
 add-total c = let s = c .before .before .before .before in laws.total-fits (s .args .weights) (s .args .material) (s .args .mobility) (small s)
 
@@ -91,13 +94,13 @@ returns-3 c =
     let e : in16 (total s) ≡ false = ap in16 (sym (total-is s)) ∙ sym (c .before .short3 .ensures) ∙ not-true _ (c .if3 .taken) in
     simp (yes-first (c .before .before .before .before), yes-second (c .before .before), e)
 
-cast-t9 : tie.Need-cast-t9
-cast-t9 c = let s = c .before .before .before .before .before .before in subst (SFits w16) (sym (total-is s)) (short-fits (total s) (yes-total c))
+cast-t10 : tie.Need-cast-t10
+cast-t10 c = let s = c .before .before .before .before .before .before in subst (SFits w16) (sym (total-is s)) (short-fits (total s) (yes-total c))
 
 returns-4 : tie.Need-returns-4
 returns-4 c =
     let s = c .before .before .before .before .before .before in
-    ap given (toZ-ofZ {w = w16} (cast-t9 c) ∙ total-is s) ∙ simp (yes-first (c .before .before .before .before), yes-second (c .before .before), yes-total c)
+    ap given (toZ-ofZ {w = w16} (cast-t10 c) ∙ total-is s) ∙ simp (yes-first (c .before .before .before .before), yes-second (c .before .before), yes-total c)
 
 pub joined-spec : {M : Type 1} → statement M
 joined-spec =
@@ -109,8 +112,9 @@ joined-spec =
     add-second
     short-requires-2
     returns-2
+    cast-total
     add-total
     short-requires-3
     returns-3
-    cast-t9
+    cast-t10
     returns-4)

@@ -1,12 +1,12 @@
 -- What a side's answer says of the side, and the three ends of the sum. Assumes nothing.
-use mathlib.Core.Path.{_≡_, refl, sym, ap, ap₂, _∙_, subst}
+use mathlib.Core.Path.{_≡_, sym, ap, ap₂, _∙_, subst}
 use mathlib.Core.Bool.{Bool, true, false, _&&_}
 use mathlib.Core.List.{[]}
 use Prim.Native.Nat.{ℕ, _≤_}
 use lib.Dec.{T, leb}
 use lib.IntN.{ℤ, negsuc, natAbs}
 use Rattle.laws.proofs.Truth.{and-r, T-true, true-T}
-use Rattle.chess.specs.Answer.{Answer, given, orRefuse}
+use Rattle.chess.specs.Answer.{given, orRefuse}
 use Rattle.chess.specs.Refusals.{refusalOf}
 use Rattle.chess.specs.declared.refusal.Refusal.the-variants as R
 use Rattle.chess.proofs.Answers.{was-given, was-refused}

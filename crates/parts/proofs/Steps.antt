@@ -1,13 +1,13 @@
 -- No step of 64 bits wraps, so each is the step over ℤ. Assumes nothing.
-use mathlib.Core.Path.{_≡_, ap, ap₂, _∙_, sym, subst}
+use mathlib.Core.Path.{_≡_, ap₂, _∙_}
 use Prim.Native.Nat.{ℕ, _+_, _*_, _≤_, _<_, _^_}
-use native.Mathlib.Nat.{mul-le-mul, le-refl, le-trans}
+use native.Mathlib.Nat.{mul-le-mul, le-trans}
 use native.Mathlib.Omega.{arith}
 use lib.IntN.{ℤ, pos, natAbs, _+ℤ_, _-ℤ_, _*ℤ_}
 use mir.Facts.{toZ-ofZ, toZ-pos}
-use mir.Syntax.{w32, w64}
-use mir.Val.{SFits, toZ, ofZ}
-use Rattle.laws.proofs.Diff.{Diff, diff-pos, diff-minus, diff-abs, abs-mul, abs-add, abs-minus}
+use mir.Syntax.{w64}
+use mir.Val.{SFits, toZ}
+use Rattle.laws.proofs.Diff.{diff-pos, diff-minus, diff-abs, abs-mul, abs-add, abs-minus}
 use Rattle.laws.proofs.Words.{held, fits-abs}
 
 -- far inside 64 bits

@@ -1,8 +1,8 @@
 -- Where the tables that are lent are 01's, the score by them is the score. Assumes nothing.
-use mathlib.Core.Path.{_≡_, refl, sym, ap, ap₂, _∙_}
+use mathlib.Core.Path.{_≡_, ap, ap₂, _∙_}
 use mathlib.Core.Bool.{Bool, true, false, cond}
 use mathlib.Core.List.{List, []}
-use Prim.Native.Nat.{ℕ, _+_, _*_, _<_, _≤_}
+use Prim.Native.Nat.{ℕ, _*_, _<_}
 use native.Mathlib.Omega.{arith}
 use lib.Dec.{eqb}
 use lib.IntN.{ℤ, pos}
@@ -21,9 +21,9 @@ use Rattle.pst.proofs.Table.{table-at}
 use Rattle.parts.specs.Parts.{pointsOf}
 use Rattle.parts.specs.declared.Side.{Side}
 use Rattle.score.specs.Pieces.{pieces}
-use Rattle.score.specs.Mobility.{factorOf, attackedFrom, attackedBy, mobilityBy}
+use Rattle.score.specs.Mobility.{factorOf, attackedBy, mobilityBy}
 use Rattle.score.specs.Weights.{weighedFrom, weighedBy}
-use Rattle.score.specs.Verdict.{Verdict, toMove, verdictOf}
+use Rattle.score.specs.Verdict.{toMove, verdictOf}
 use Rattle.score.specs.Score.{Outcome, sideBy, settled, scoreBy, scoreOf}
 use Rattle.score.specs.Walked.{reaching}
 use Rattle.score.proofs.Reached.{attacked-from, mobility-same}

@@ -1,20 +1,19 @@
 -- What a piece that mobility counts attacks, kind by kind; and mobility by the knight's table alone is mobility by all four. Assumes nothing.
-use mathlib.Core.Path.{_≡_, refl, sym, ap, ap₂, _∙_}
-use mathlib.Core.Bool.{Bool, true, false, cond, _&&_, and-true}
-use mathlib.Core.List.{List, [], _∷_, _++_}
+use mathlib.Core.Path.{_≡_, refl, sym, ap, _∙_}
+use mathlib.Core.Bool.{Bool, cond, and-true}
+use mathlib.Core.List.{List, [], _++_}
 use Prim.Native.Nat.{ℕ, zero, suc, _*_, _<_, _≤_}
 use native.Mathlib.Nat.{mul-zero}
 use native.Mathlib.Omega.{arith}
 use borrow.Author.Tests.{lt-ltb, le-ltb}
 use lib.Dec.{ltb}
-use lib.IntN.{ℤ}
 use lib.ListN.{getD}
 use Rattle.laws.proofs.Sums.{sum-same}
 use Rattle.bits.specs.Bitboard.{has, howMany, board}
 use Rattle.bits.proofs.Sums.{counted-squares}
 use Rattle.rays.specs.Rays.{seen, straight, slanted}
 use Rattle.steps.specs.Steps.{stepIn}
-use Rattle.attack.specs.Attacks.{standing, occupied, other, attacksBy}
+use Rattle.attack.specs.Attacks.{standing, attacksBy}
 use Rattle.attack.specs.Lent.{attacksWith}
 use Rattle.attack.proofs.ByKind.{slides}
 use Rattle.score.specs.Mobility.{factorOf, attackedFrom, attackedBy, mobilityBy}

@@ -1,5 +1,5 @@
 -- Each end of the verdict and of the score is one of these lines. Assumes nothing.
-use mathlib.Core.Path.{_≡_, refl, sym, ap, ap₂, _∙_}
+use mathlib.Core.Path.{_≡_, sym, ap, ap₂, _∙_}
 use mathlib.Core.Bool.{Bool, true, false, cond, _&&_}
 use mathlib.Core.List.{List}
 use Prim.Native.Nat.{ℕ, _+_, _<_, _≤_}
@@ -9,17 +9,16 @@ use lib.IntN.{ℤ}
 use mir.Syntax.{w16}
 use mir.Facts.{toZ-ofZ}
 use Rattle.laws.proofs.Words.{held}
-use Rattle.chess.specs.Answer.{Answer, given}
+use Rattle.chess.specs.Answer.{given}
 use Rattle.chess.specs.Refusals.{refusalOf}
 use Rattle.chess.specs.declared.refusal.Refusal.the-variants as R
 use Rattle.attack.specs.Attacks.{other}
 use Rattle.pst.specs.Pst.{weightIn}
-use Rattle.parts.specs.Parts.{pointsOf}
 use Rattle.parts.proofs.Short.{short-fits}
 use Rattle.parts.proofs.Sides.{given-short}
 use Rattle.score.specs.Pieces.{count, pieces}
 use Rattle.score.specs.Verdict.{Verdict, lost, won, drawn, none, toMove, kingless, heavy, bare, verdictOf}
-use Rattle.score.specs.Score.{Outcome, verdict, score, sideBy, settled, scoreBy}
+use Rattle.score.specs.Score.{verdict, score, sideBy, settled, scoreBy}
 use Rattle.score.specs.Walked.{reaching, pointsWith}
 
 -- ---- the side to move

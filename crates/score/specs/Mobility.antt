@@ -1,5 +1,5 @@
 -- Mobility (document 01, "The score"), for any rule of what a piece attacks: the paper's, or the one whose tables are lent. Definitions only.
-use mathlib.Core.Bool.{Bool, cond, _&&_}
+use mathlib.Core.Bool.{cond, _&&_}
 use mathlib.Core.List.{List, [], _∷_}
 use Prim.Native.Nat.{ℕ, _*_}
 use lib.Dec.{eqb}

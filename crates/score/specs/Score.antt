@@ -1,5 +1,4 @@
 -- The score of a position (document 01, "The score"). Definitions only.
-use mathlib.Core.Bool.{cond}
 use mathlib.Core.List.{List}
 use Prim.Native.Nat.{ℕ}
 use lib.Dec.{leb}

@@ -1,9 +1,7 @@
 // The same on a position that is known to be consistent: total, and no door.
 ghost use mathlib.Core.Path.{_≡_};
-ghost use Prim.Native.Nat.{_+_, _*_, _≤_, _<_};
-ghost use lib.IntN.{natAbs, _+ℤ_};
-ghost use mir.Syntax.{w32};
-ghost use mir.Val.{SFits};
+ghost use Prim.Native.Nat.{_*_, _≤_, _<_};
+ghost use lib.IntN.{natAbs};
 ghost use Rattle.attack.specs.Attacks.{occupied as Attacks·occupied};
 ghost use Rattle.pst.specs.Pst.{weightIn};
 ghost use Rattle.chess.specs.Values.{valueOf};
@@ -15,7 +13,7 @@ ghost use Rattle.score.specs.Verdict.{toMove, heavy as heavyOf};
 ghost use Rattle.score.specs.Answers.{scored};
 ghost use Rattle.score.specs.Score.{scoreBy};
 ghost use Rattle.score.specs.Promises.{Ends, Worth, EvalsWith};
-ghost use Rattle.score.specs.Walked.{stepFrom, reachWith, reaching, walkedOf, sumAt, plusOf, sideWith, sidesWith, pointsWith};
+ghost use Rattle.score.specs.Walked.{stepFrom, reachWith, reaching, walkedOf, sideWith, sidesWith, pointsWith};
 use crate::BISHOP_PAIR;
 use crate::MOBILITY;
 use crate::PIECE_VALUES;
@@ -34,6 +32,7 @@ use chess::kind::KNIGHT;
 use chess::kind::PAWN;
 use chess::kind::QUEEN;
 use chess::kind::ROOK;
+use chess::piece::PIECES;
 use chess::refusal::Refusal;
 use chess::square::LAST;
 use chess::square::Square;
@@ -171,16 +170,6 @@ struct Sides {
     black: Side,
 }
 
-// A number more in the sum of a colour and a phase.
-fn plus(position: [[i32; 2]; 2], color: usize, phase: usize, weight: i32) -> [[i32; 2]; 2]
-    requires { ⌜ (color < 2) × (phase < 2) × SFits w32 (sumAt position color phase +ℤ weight) ⌝ }
-    ensures { λ r. ⌜ r ≡ plusOf position color phase weight ⌝ }
-{
-    let mut sums = position;
-    sums[color][phase] += weight;
-    sums
-}
-
 // A colour's side, once its sums are made.
 fn side(bitboards: &[u64], color: u8, opening: i32, ending: i32, mobility: u32) -> Side
     ensures { λ r. ⌜ r ≡ sideWith (now (bitboards .entry)) color opening ending mobility ⌝ }
@@ -193,43 +182,40 @@ fn side(bitboards: &[u64], color: u8, opening: i32, ending: i32, mobility: u32) 
     }
 }
 
-// What both colours bring: all twelve boards, kind by kind.
+// What both colours bring: all twelve boards, kind by kind, White's before Black's.
 fn tally(bitboards: &[u64], occupied: u64, pst: &[i8], knights: &[u64; Square::COUNT]) -> Sides
     requires { ⌜ occupied ≡ Attacks·occupied (now bitboards) ⌝ }
     ensures { λ r. ⌜ r ≡ sidesWith (now (knights .entry)) (now (pst .entry)) (now (bitboards .entry)) ⌝ }
 {
     let mut position = [[0i32; 2]; 2];
-    let mut white: u32 = 0;
-    let mut black: u32 = 0;
-    let mut kind: u8 = 0;
-    while kind < KINDS {
-        let w = walk(
-            standing(bitboards, kind, WHITE),
-            kind,
-            WHITE,
-            occupied,
-            pst,
-            knights,
-        );
-        position = plus(position, 0, 0, w.opening);
-        position = plus(position, 0, 1, w.ending);
-        white += tenths(w.attacked, kind);
-        let b = walk(
-            standing(bitboards, kind, BLACK),
-            kind,
-            BLACK,
-            occupied,
-            pst,
-            knights,
-        );
-        position = plus(position, 1, 0, b.opening);
-        position = plus(position, 1, 1, b.ending);
-        black += tenths(b.attacked, kind);
-        kind += 1;
+    let mut mobility = [0u32; 2];
+    let mut board: u8 = 0;
+    while board < PIECES {
+        let kind = board / 2;
+        let color = board % 2;
+        let pieces = standing(bitboards, kind, color);
+        let w = walk(pieces, kind, color, occupied, pst, knights);
+        let c = index(color);
+        position[c][0] += w.opening;
+        position[c][1] += w.ending;
+        mobility[c] += tenths(w.attacked, kind);
+        board += 1;
     }
     Sides {
-        white: side(bitboards, WHITE, position[0][0], position[0][1], white),
-        black: side(bitboards, BLACK, position[1][0], position[1][1], black),
+        white: side(
+            bitboards,
+            WHITE,
+            position[0][0],
+            position[0][1],
+            mobility[0],
+        ),
+        black: side(
+            bitboards,
+            BLACK,
+            position[1][0],
+            position[1][1],
+            mobility[1],
+        ),
     }
 }
 

@@ -1,5 +1,5 @@
 -- `score::eval_ending` meets its contract. Assumes nothing.
-use mathlib.Core.Path.{_≡_, ap, _∙_}
+use mathlib.Core.Path.{ap, _∙_}
 use borrow.Author.Needs.{needs}
 use Rattle.chess.specs.Answer.{given}
 use Rattle.position.proofs.Doors.{pass-on, fit-rest}

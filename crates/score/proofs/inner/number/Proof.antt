@@ -1,5 +1,5 @@
 -- `score::inner::number` meets its contract. Assumes nothing.
-use mathlib.Core.Path.{_≡_, ap, _∙_, sym, subst}
+use mathlib.Core.Path.{ap, _∙_, sym, subst}
 use Prim.Native.Nat.{ℕ, _≤_}
 use borrow.Author.Needs.{needs}
 use Rattle.bits.specs.Bitboard.{has, howMany}

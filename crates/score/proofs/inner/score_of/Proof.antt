@@ -1,5 +1,5 @@
 -- `score::inner::score_of` meets its contract: each return is one of the laws of `Verdicts`. Assumes nothing.
-use mathlib.Core.Path.{_≡_, ap, sym, _∙_}
+use mathlib.Core.Path.{ap, sym, _∙_}
 use borrow.Author.Needs.{needs}
 use Rattle.parts.specs.Answers.{points}
 use Rattle.score.specs.Answers.{verdictPaper}

@@ -1,13 +1,12 @@
 -- `score::inner::side` meets its contract. Assumes nothing.
 use mathlib.Core.Path.{_≡_, ap₂, _∙_}
-use Prim.Native.Nat.{ℕ, _+_, _≤_}
+use Prim.Native.Nat.{ℕ, _+_}
 use native.Mathlib.Omega.{arith}
 use borrow.Author.Needs.{needs}
 use lib.IntN.{ℤ}
 use mir.Facts.{toZ-ofZ}
 use mir.Syntax.{w32}
 use Rattle.parts.specs.declared.Side.{Side}
-use Rattle.score.specs.Material.{worth}
 use Rattle.score.proofs.Pieces.{worth-small, material-of}
 use Rattle.score.proofs.inner.side.Statement.{statement}
 use Rattle.score.proofs.inner.side.Tie as tie

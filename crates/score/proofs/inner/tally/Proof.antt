@@ -1,26 +1,25 @@
--- `score::inner::tally` meets its contract. The loop's invariant is `Tallied`: the sums of the kinds passed. Each turn walks two boards, and what a
--- walk gives goes into the sums by `plus`. Assumes nothing.
-use mathlib.Core.Path.{_≡_, refl, sym, ap, ap₂, _∙_, subst}
-use mathlib.Core.List.{List, [], _∷_}
-use Prim.Native.Nat.{ℕ, _+_, _*_, _-_, _<_, _≤_}
+-- `score::inner::tally` meets its contract. The loop's invariant is `Tallied`: the sums of the boards passed. Each turn walks one board, and what the
+-- walk gives goes into its colour's sums by `plus`. Assumes nothing.
+use mathlib.Core.Path.{_≡_, refl, sym, ap, _∙_}
+use mathlib.Core.List.{List, []}
+use Prim.Native.Nat.{ℕ, _*_, _-_, _/_, _%_, _<_, _≤_}
 use native.Mathlib.Omega.{arith}
-use borrow.Author.Needs.{needs, sfits-of}
-use lib.IntN.{ℤ, pos, natAbs, _+ℤ_}
-use mir.Facts.{toZ-ofZ}
+use borrow.Author.Needs.{needs}
+use lib.IntN.{ℤ, natAbs, _+ℤ_}
+use lib.ListN.{getD, set}
 use mir.Syntax.{w32}
-use mir.Val.{SFits}
-use Rattle.laws.specs.Sums.{sumN, sumZ}
-use Rattle.laws.proofs.Words.{held, held-is, fits-abs}
+use Rattle.laws.proofs.Words.{held}
 use Rattle.chess.specs.Codes.{codeOf}
-use Rattle.pst.specs.Pst.{weightIn}
+use Rattle.attack.specs.Attacks.{standing}
 use Rattle.parts.specs.declared.Side.{Side}
+use Rattle.pst.specs.Pst.{weightIn}
 use Rattle.score.specs.Mobility.{attackedFrom}
 use Rattle.score.specs.Weights.{weighedFrom}
-use Rattle.score.specs.Walked.{reachWith, walkedOf, sumAt, plusOf, sideWith}
+use Rattle.score.specs.Walked.{reachWith, sumAt, plusOf}
 use Rattle.score.specs.declared.inner.Sides.{Sides}
 use Rattle.score.specs.declared.inner.Walked.{Walked}
 use Rattle.score.proofs.Tally as laws
-use Rattle.score.proofs.Tally.{weighs, moves, four, Tallied}
+use Rattle.score.proofs.Tally.{Tallied}
 use Rattle.score.proofs.inner.tally.Statement.{statement}
 use Rattle.score.proofs.inner.tally.Tie as tie
 
@@ -28,10 +27,10 @@ both : (w x b y : Side) → w ≡ x → b ≡ y → _≡_ {A = Sides} (record { 
 both w x b y h i = cc
 
 abbrev Inv-loop : tie.InvT-loop
-Inv-loop bitboards occupied pst knights position₀ white₀ black₀ kind₀ position white black kind = Tallied knights pst bitboards kind position white black
+Inv-loop bitboards occupied pst knights position₀ mobility₀ board₀ position mobility board = Tallied knights pst bitboards board position mobility
 
 abbrev μ-loop : tie.MeasureT-loop
-μ-loop bitboards occupied pst knights position₀ white₀ black₀ kind₀ position white black kind = 6 - kind
+μ-loop bitboards occupied pst knights position₀ mobility₀ board₀ position mobility board = 12 - board
 
 loop-holds : tie.Need-loop-holds Inv-loop μ-loop
 loop-holds c = let a = c .before .args in laws.begun (a .knights .now) (a .pst .now) (a .bitboards .now)
@@ -40,184 +39,176 @@ standing-requires : tie.Need-standing-requires Inv-loop μ-loop
 standing-requires c κs = search needs
 
 walk-requires : tie.Need-walk-requires Inv-loop μ-loop
-walk-requires c κs = search needs
+walk-requires c κs = omega arith
 
--- ---- the sums so far and what the kind's boards weigh, at a turn of the loop
-abbrev At : Type 0
-At = tie.At-loop Inv-loop μ-loop
+index-requires : tie.Need-index-requires Inv-loop μ-loop
+index-requires c κs = search needs
 
-abbrev sum : At → ℕ → ℕ → ℤ
-sum l colour phase = let a = l .before .before .args in sumZ (l .loop .kind) (weighs (a .pst .now) (a .bitboards .now) colour phase)
+-- ---- a turn of the loop: its board, and what the walk of it gives
+abbrev Turn : Type 0
+Turn = tie.After-index Inv-loop μ-loop
 
-abbrev weight : At → ℕ → ℕ → ℤ
-weight l colour phase = let a = l .before .before .args in weighs (a .pst .now) (a .bitboards .now) colour phase (l .loop .kind)
+abbrev at : Turn → tie.At-loop Inv-loop μ-loop
+at i = i .before .before .before .before
 
--- ---- White's board
-abbrev white-at : tie.After-walk Inv-loop μ-loop → At
-white-at w = w .before .before .before
+abbrev board : Turn → ℕ
+board i = at i .loop .board
 
-white-opening : (w : tie.After-walk Inv-loop μ-loop) → w .walk .result .opening ≡ weight (white-at w) 0 0
-white-opening w =
-    let l = white-at w in
-    ap (λ (x : Walked). x .opening) (w .walk .ensures .0)
-    ∙ ap (weighedFrom (λ s. weightIn (l .before .before .args .pst .now) (codeOf (l .loop .kind) 0) s 0)) (w .before .standing .ensures)
+abbrev colour : Turn → ℕ
+colour i = i .index .result
 
-white-ending : (w : tie.After-walk Inv-loop μ-loop) → w .walk .result .ending ≡ weight (white-at w) 0 1
-white-ending w =
-    let l = white-at w in
-    ap (λ (x : Walked). x .ending) (w .walk .ensures .0)
-    ∙ ap (weighedFrom (λ s. weightIn (l .before .before .args .pst .now) (codeOf (l .loop .kind) 0) s 1)) (w .before .standing .ensures)
+abbrev kind : Turn → ℕ
+kind i = board i / 2
 
-fits : (z : ℤ) → natAbs z ≤ 2097152 → SFits w32 z
-fits z h = fits-abs {w = w32} {z = z} 2097152 tt h
+abbrev bitboards : Turn → List ℕ
+bitboards i = at i .before .before .args .bitboards .now
 
-plus-requires : tie.Need-plus-requires Inv-loop μ-loop
-plus-requires c κs =
-    let w = c .before in
-    let l = white-at w in
-    let z = w .walk .result .opening in
-    (omega arith, omega arith, laws.weight-fits (sum l 0 0) z (weight l 0 0) (l .loop .kind) (white-opening w) (fits z (w .walk .ensures .2)) (w .walk .ensures .2) (l .loop .inv .near00) (w .before .before .loop-test .taken) _ (ap (λ (p : List (List ℤ)). sumAt p 0 0) (l .loop .inv .sums)))
+abbrev pst : Turn → List ℤ
+pst i = at i .before .before .args .pst .now
 
--- after the first addition, and after the second
-white-one : (p : tie.After-plus Inv-loop μ-loop)
-    → p .plus .result ≡ four (sum (white-at (p .before .before)) 0 0 +ℤ weight (white-at (p .before .before)) 0 0) (sum (white-at (p .before .before)) 0 1) (sum (white-at (p .before .before)) 1 0) (sum (white-at (p .before .before)) 1 1)
-white-one p =
-    let w = p .before .before in
-    let l = white-at w in
-    let z = w .walk .result .opening in
-    p .plus .ensures
-    ∙ ap₂ (λ (s : List (List ℤ)) (x : ℤ). plusOf s 0 0 x) (l .loop .inv .sums) (held-is {w = w32} (fits z (w .walk .ensures .2)) (white-opening w))
+abbrev knights : Turn → List ℕ
+knights i = at i .before .before .args .knights .now
 
-plus-requires-2 : tie.Need-plus-requires-2 Inv-loop μ-loop
-plus-requires-2 c κs =
-    let p = c .before in
-    let w = p .before .before in
-    let l = white-at w in
-    let z = w .walk .result .ending in
-    (omega arith, omega arith, laws.weight-fits (sum l 0 1) z (weight l 0 1) (l .loop .kind) (white-ending w) (fits z (w .walk .ensures .3)) (w .walk .ensures .3) (l .loop .inv .near01) (w .before .before .loop-test .taken) _ (ap (λ (s : List (List ℤ)). sumAt s 0 1) (white-one p)))
+abbrev weighs : Turn → ℕ → ℤ
+weighs i phase = laws.weighs (pst i) (bitboards i) (colour i) phase (kind i)
 
-white-two : (p : tie.After-plus2 Inv-loop μ-loop)
-    → p .plus2 .result
-    ≡ four (sum (white-at (p .before .before .before .before)) 0 0 +ℤ weight (white-at (p .before .before .before .before)) 0 0) (sum (white-at (p .before .before .before .before)) 0 1 +ℤ weight (white-at (p .before .before .before .before)) 0 1) (sum (white-at (p .before .before .before .before)) 1 0) (sum (white-at (p .before .before .before .before)) 1 1)
-white-two p =
-    let w = p .before .before .before .before in
-    let z = w .walk .result .ending in
-    p .plus2 .ensures
-    ∙ ap₂ (λ (s : List (List ℤ)) (x : ℤ). plusOf s 0 1 x) (white-one (p .before .before)) (held-is {w = w32} (fits z (w .walk .ensures .3)) (white-ending w))
+abbrev gives : Turn → Walked
+gives i = i .before .walk .result
+
+less : (i : Turn) → board i < 12
+less i = i .before .before .before .loop-test .taken
+
+opening-is : (i : Turn) → gives i .opening ≡ weighs i 0
+opening-is i =
+    ap (λ (x : Walked). x .opening) (i .before .walk .ensures .0)
+    ∙ ap (weighedFrom (λ s. weightIn (pst i) (codeOf (kind i) (board i % 2)) s 0)) (i .before .before .standing .ensures)
+    ∙ ap (λ (c : ℕ). laws.weighs (pst i) (bitboards i) c 0 (kind i)) (sym (i .index .ensures))
+
+ending-is : (i : Turn) → gives i .ending ≡ weighs i 1
+ending-is i =
+    ap (λ (x : Walked). x .ending) (i .before .walk .ensures .0)
+    ∙ ap (weighedFrom (λ s. weightIn (pst i) (codeOf (kind i) (board i % 2)) s 1)) (i .before .before .standing .ensures)
+    ∙ ap (λ (c : ℕ). laws.weighs (pst i) (bitboards i) c 1 (kind i)) (sym (i .index .ensures))
+
+below : (i : Turn) → colour i < 2
+below i = omega (arith, i .index .ensures)
+
+few : (i : Turn) → kind i < 6
+few i = omega (arith, less i)
+
+-- the sums and the mobility of the board's colour
+near : (i : Turn) (phase : ℕ) → phase < 2 → natAbs (laws.weighed (pst i) (bitboards i) (board i) (colour i) phase) ≤ 2097152 * kind i
+near i = laws.near-now (knights i) (pst i) (bitboards i) (board i) (colour i) (kind i) (i .index .ensures) refl (less i) (at i .loop .position) (at i .loop .mobility) (at i .loop .inv)
+
+first-at : (i : Turn) → sumAt (at i .loop .position) (colour i) 0 ≡ laws.weighed (pst i) (bitboards i) (board i) (colour i) 0
+first-at i = laws.first-at (knights i) (pst i) (bitboards i) (board i) (colour i) (kind i) (i .index .ensures) refl (less i) (at i .loop .position) (at i .loop .mobility) (at i .loop .inv)
+
+-- the sums after the first addition and after the second, as the machine has them
+abbrev one : Turn → List (List ℤ)
+one i =
+    let sums : List (List ℤ) = at i .loop .position in
+    set sums (colour i) (set (getD sums (colour i) []) 0 (held w32 (held w32 (sumAt sums (colour i) 0) +ℤ held w32 (gives i .opening))))
+
+abbrev two : Turn → List (List ℤ)
+two i = set (one i) (colour i) (set (getD (one i) (colour i) []) 1 (held w32 (held w32 (sumAt (one i) (colour i) 1) +ℤ held w32 (gives i .ending))))
+
+one-is : (i : Turn) → one i ≡ plusOf (at i .loop .position) (colour i) 0 (gives i .opening)
+one-is i =
+    let sums : List (List ℤ) = at i .loop .position in
+    ap (λ (v : ℤ). set sums (colour i) (set (getD sums (colour i) []) 0 v))
+    (laws.sum-is (sumAt sums (colour i) 0) _ (gives i .opening) (kind i) (first-at i) (i .before .walk .ensures .2) (near i 0 (omega arith)) (few i))
+
+second-at : (i : Turn) → sumAt (one i) (colour i) 1 ≡ laws.weighed (pst i) (bitboards i) (board i) (colour i) 1
+second-at i =
+    ap (λ (s : List (List ℤ)). sumAt s (colour i) 1) (one-is i)
+    ∙ laws.second-at (knights i) (pst i) (bitboards i) (board i) (colour i) (kind i) (i .index .ensures) refl (less i) (at i .loop .position) (at i .loop .mobility) (at i .loop .inv) (gives i .opening)
+
+two-is : (i : Turn) → two i ≡ plusOf (plusOf (at i .loop .position) (colour i) 0 (gives i .opening)) (colour i) 1 (gives i .ending)
+two-is i =
+    ap (λ (v : ℤ). set (one i) (colour i) (set (getD (one i) (colour i) []) 1 v))
+    (laws.sum-is (sumAt (one i) (colour i) 1) _ (gives i .ending) (kind i) (second-at i) (i .before .walk .ensures .3) (near i 1 (omega arith)) (few i))
+    ∙ ap (λ (s : List (List ℤ)). plusOf s (colour i) 1 (gives i .ending)) (one-is i)
+
+mul-position : tie.Need-mul-position Inv-loop μ-loop
+mul-position c = record { fits = omega (arith, below c) }
+
+index-1-position : tie.Need-index-1-position Inv-loop μ-loop
+index-1-position c = below c
+
+index-2-position : tie.Need-index-2-position Inv-loop μ-loop
+index-2-position c = search needs
+
+add-position : tie.Need-add-position Inv-loop μ-loop
+add-position c =
+    let i = c .before .before .before in
+    laws.sum-fits (sumAt (at i .loop .position) (colour i) 0) _ (gives i .opening) (kind i) (first-at i) (i .before .walk .ensures .2) (near i 0 (omega arith)) (few i)
+
+index-1-position-2 : tie.Need-index-1-position-2 Inv-loop μ-loop
+index-1-position-2 c = below (c .before .before .before)
+
+index-2-position-2 : tie.Need-index-2-position-2 Inv-loop μ-loop
+index-2-position-2 c = search needs
+
+mul-position-2 : tie.Need-mul-position-2 Inv-loop μ-loop
+mul-position-2 c = record { fits = omega (arith, below (c .before .before .before)) }
+
+index-1-position-3 : tie.Need-index-1-position-3 Inv-loop μ-loop
+index-1-position-3 c = below (c .before .before .before)
+
+index-2-position-3 : tie.Need-index-2-position-3 Inv-loop μ-loop
+index-2-position-3 c = search needs
+
+add-position-2 : tie.Need-add-position-2 Inv-loop μ-loop
+add-position-2 c =
+    let i = c .before .before .before .before .before .before in
+    laws.sum-fits (sumAt (one i) (colour i) 1) _ (gives i .ending) (kind i) (second-at i) (i .before .walk .ensures .3) (near i 1 (omega arith)) (few i)
+
+index-1-position-4 : tie.Need-index-1-position-4 Inv-loop μ-loop
+index-1-position-4 c = below (c .before .before .before .before .before .before)
+
+index-2-position-4 : tie.Need-index-2-position-4 Inv-loop μ-loop
+index-2-position-4 c = search needs
+
+moved : (c : tie.After-tenths Inv-loop μ-loop)
+    → c .tenths .result ≡ laws.moves (knights (c .before .before .before .before .before .before .before)) (bitboards (c .before .before .before .before .before .before .before)) (colour (c .before .before .before .before .before .before .before)) (kind (c .before .before .before .before .before .before .before))
+moved c =
+    let i = c .before .before .before .before .before .before .before in
+    let occ = at i .before .before .args .occupied in
+    c .tenths .ensures .0
+    ∙ laws.moved (knights i) (bitboards i) (colour i) (kind i) occ (gives i .attacked) (at i .before .before .pre)
+    (ap (λ (x : Walked). x .attacked) (i .before .walk .ensures .0)
+    ∙ ap (attackedFrom (λ s. reachWith (knights i) (kind i) s occ)) (i .before .before .standing .ensures ∙ ap (standing (bitboards i) (kind i)) (sym (i .index .ensures))))
 
 tenths-requires : tie.Need-tenths-requires Inv-loop μ-loop
-tenths-requires c κs = c .before .before .before .before .walk .ensures .1
+tenths-requires c κs = c .before .before .before .before .before .before .before .walk .ensures .1
 
-white-moves : (m : tie.After-tenths Inv-loop μ-loop)
-    → m .tenths .result ≡ moves (white-at (m .before .before .before .before .before) .before .before .args .knights .now) (white-at (m .before .before .before .before .before) .before .before .args .bitboards .now) 0 (white-at (m .before .before .before .before .before) .loop .kind)
-white-moves m =
-    let w = m .before .before .before .before .before in
-    let l = white-at w in
-    let a = l .before .before .args in
-    m .tenths .ensures .0
-    ∙ laws.moved (a .knights .now) (a .bitboards .now) 0 (l .loop .kind) (a .occupied) (w .walk .result .attacked) (l .before .before .pre)
-    (ap (λ (x : Walked). x .attacked) (w .walk .ensures .0) ∙ ap (attackedFrom (λ s. reachWith (a .knights .now) (l .loop .kind) s (a .occupied))) (w .before .standing .ensures))
+mul-mobility : tie.Need-mul-mobility Inv-loop μ-loop
+mul-mobility c = let h = below (c .before .before .before .before .before .before .before) in record { fits = omega arith }
 
-add-white : tie.Need-add-white Inv-loop μ-loop
-add-white c =
-    let w = c .before .before .before .before .before in
-    let l = white-at w in
-    record { fits = omega (arith, c .tenths .ensures .1, l .loop .inv .white-le, w .before .before .loop-test .taken) }
+array-read-mobility : tie.Need-array-read-mobility Inv-loop μ-loop
+array-read-mobility c = below (c .before .before .before .before .before .before .before)
 
--- ---- Black's board
-standing-requires-2 : tie.Need-standing-requires-2 Inv-loop μ-loop
-standing-requires-2 c κs = search needs
+add-mobility : tie.Need-add-mobility Inv-loop μ-loop
+add-mobility c =
+    let i = c .before .before .before .before .before .before .before in
+    let r = laws.mobility-room (knights i) (pst i) (bitboards i) (board i) (colour i) (kind i) (i .index .ensures) refl (less i) (at i .loop .position) (at i .loop .mobility) (at i .loop .inv) in
+    record { fits = omega (arith, c .tenths .ensures .1, few i) }
 
-walk-requires-2 : tie.Need-walk-requires-2 Inv-loop μ-loop
-walk-requires-2 c κs = search needs
+array-write-mobility : tie.Need-array-write-mobility Inv-loop μ-loop
+array-write-mobility c = below (c .before .before .before .before .before .before .before)
 
-abbrev black-at : tie.After-walk2 Inv-loop μ-loop → At
-black-at b = white-at (b .before .before .before .before .before .before .before)
-
-black-opening : (b : tie.After-walk2 Inv-loop μ-loop) → b .walk2 .result .opening ≡ weight (black-at b) 1 0
-black-opening b =
-    let l = black-at b in
-    ap (λ (x : Walked). x .opening) (b .walk2 .ensures .0)
-    ∙ ap (weighedFrom (λ s. weightIn (l .before .before .args .pst .now) (codeOf (l .loop .kind) 1) s 0)) (b .before .standing2 .ensures)
-
-black-ending : (b : tie.After-walk2 Inv-loop μ-loop) → b .walk2 .result .ending ≡ weight (black-at b) 1 1
-black-ending b =
-    let l = black-at b in
-    ap (λ (x : Walked). x .ending) (b .walk2 .ensures .0)
-    ∙ ap (weighedFrom (λ s. weightIn (l .before .before .args .pst .now) (codeOf (l .loop .kind) 1) s 1)) (b .before .standing2 .ensures)
-
-taken : (b : tie.After-walk2 Inv-loop μ-loop) → black-at b .loop .kind < 6
-taken b = b .before .before .before .before .before .before .before .before .before .loop-test .taken
-
-plus-requires-3 : tie.Need-plus-requires-3 Inv-loop μ-loop
-plus-requires-3 c κs =
-    let b = c .before in
-    let l = black-at b in
-    let z = b .walk2 .result .opening in
-    (omega arith, omega arith, laws.weight-fits (sum l 1 0) z (weight l 1 0) (l .loop .kind) (black-opening b) (fits z (b .walk2 .ensures .2)) (b .walk2 .ensures .2) (l .loop .inv .near10) (taken b) _ (ap (λ (s : List (List ℤ)). sumAt s 1 0) (white-two (b .before .before .before))))
-
-black-one : (p : tie.After-plus3 Inv-loop μ-loop)
-    → p .plus3 .result
-    ≡ four (sum (black-at (p .before .before)) 0 0 +ℤ weight (black-at (p .before .before)) 0 0) (sum (black-at (p .before .before)) 0 1 +ℤ weight (black-at (p .before .before)) 0 1) (sum (black-at (p .before .before)) 1 0 +ℤ weight (black-at (p .before .before)) 1 0) (sum (black-at (p .before .before)) 1 1)
-black-one p =
-    let b = p .before .before in
-    let z = b .walk2 .result .opening in
-    p .plus3 .ensures
-    ∙ ap₂ (λ (s : List (List ℤ)) (x : ℤ). plusOf s 1 0 x) (white-two (b .before .before .before)) (held-is {w = w32} (fits z (b .walk2 .ensures .2)) (black-opening b))
-
-plus-requires-4 : tie.Need-plus-requires-4 Inv-loop μ-loop
-plus-requires-4 c κs =
-    let p = c .before in
-    let b = p .before .before in
-    let l = black-at b in
-    let z = b .walk2 .result .ending in
-    (omega arith, omega arith, laws.weight-fits (sum l 1 1) z (weight l 1 1) (l .loop .kind) (black-ending b) (fits z (b .walk2 .ensures .3)) (b .walk2 .ensures .3) (l .loop .inv .near11) (taken b) _ (ap (λ (s : List (List ℤ)). sumAt s 1 1) (black-one p)))
-
-black-two : (p : tie.After-plus4 Inv-loop μ-loop)
-    → p .plus4 .result
-    ≡ four (sum (black-at (p .before .before .before .before)) 0 0 +ℤ weight (black-at (p .before .before .before .before)) 0 0) (sum (black-at (p .before .before .before .before)) 0 1 +ℤ weight (black-at (p .before .before .before .before)) 0 1) (sum (black-at (p .before .before .before .before)) 1 0 +ℤ weight (black-at (p .before .before .before .before)) 1 0) (sum (black-at (p .before .before .before .before)) 1 1 +ℤ weight (black-at (p .before .before .before .before)) 1 1)
-black-two p =
-    let b = p .before .before .before .before in
-    let z = b .walk2 .result .ending in
-    p .plus4 .ensures
-    ∙ ap₂ (λ (s : List (List ℤ)) (x : ℤ). plusOf s 1 1 x) (black-one (p .before .before)) (held-is {w = w32} (fits z (b .walk2 .ensures .3)) (black-ending b))
-
-tenths-requires-2 : tie.Need-tenths-requires-2 Inv-loop μ-loop
-tenths-requires-2 c κs = c .before .before .before .before .walk2 .ensures .1
-
-black-moves : (m : tie.After-tenths2 Inv-loop μ-loop)
-    → m .tenths2 .result ≡ moves (black-at (m .before .before .before .before .before) .before .before .args .knights .now) (black-at (m .before .before .before .before .before) .before .before .args .bitboards .now) 1 (black-at (m .before .before .before .before .before) .loop .kind)
-black-moves m =
-    let b = m .before .before .before .before .before in
-    let l = black-at b in
-    let a = l .before .before .args in
-    m .tenths2 .ensures .0
-    ∙ laws.moved (a .knights .now) (a .bitboards .now) 1 (l .loop .kind) (a .occupied) (b .walk2 .result .attacked) (l .before .before .pre)
-    (ap (λ (x : Walked). x .attacked) (b .walk2 .ensures .0) ∙ ap (attackedFrom (λ s. reachWith (a .knights .now) (l .loop .kind) s (a .occupied))) (b .before .standing2 .ensures))
-
-add-black : tie.Need-add-black Inv-loop μ-loop
-add-black c =
-    let b = c .before .before .before .before .before in
-    record { fits = omega (arith, c .tenths2 .ensures .1, black-at b .loop .inv .black-le, taken b) }
-
-add-kind : tie.Need-add-kind Inv-loop μ-loop
-add-kind c = omega (arith, taken (c .before .before .before .before .before))
+add-board : tie.Need-add-board Inv-loop μ-loop
+add-board c = omega (arith, less (c .before .before .before .before .before .before .before))
 
 loop-less : tie.Need-loop-less Inv-loop μ-loop
-loop-less c = omega (arith, taken (c .before .before .before .before .before))
+loop-less c = omega (arith, less (c .before .before .before .before .before .before .before))
 
 loop-again : tie.Need-loop-again Inv-loop μ-loop
 loop-again c =
-    let b = c .before .before .before .before .before in
-    let m = b .before .before in
-    let w = m .before .before .before .before .before in
-    let l = black-at b in
-    let a = l .before .before .args in
-    laws.more (a .knights .now) (a .pst .now) (a .bitboards .now) (l .loop .kind) (l .loop .white) (l .loop .black) (m .tenths .result) (c .tenths2 .result) (l .loop .position) (c .before .plus4 .result)
-    (l .loop .inv) (taken b) (black-two (c .before))
-    (subst (λ (z : ℤ). natAbs z ≤ 2097152) (white-opening w) (w .walk .ensures .2)) (subst (λ (z : ℤ). natAbs z ≤ 2097152) (white-ending w) (w .walk .ensures .3))
-    (subst (λ (z : ℤ). natAbs z ≤ 2097152) (black-opening b) (b .walk2 .ensures .2)) (subst (λ (z : ℤ). natAbs z ≤ 2097152) (black-ending b) (b .walk2 .ensures .3))
-    (white-moves m) (black-moves c) (m .tenths .ensures .1) (c .tenths2 .ensures .1)
+    let i = c .before .before .before .before .before .before .before in
+    let w = i .before .walk in
+    laws.more (knights i) (pst i) (bitboards i) (board i) (colour i) (kind i) (i .index .ensures) refl (less i) (at i .loop .position) (at i .loop .mobility) (at i .loop .inv)
+    (gives i .opening) (gives i .ending) (c .tenths .result) (opening-is i) (ending-is i) (moved c) (w .ensures .2) (w .ensures .3) (c .tenths .ensures .1) _ _ (two-is i) refl
 
 index-1-side : tie.Need-index-1-side Inv-loop μ-loop
 index-1-side c = search needs
@@ -230,6 +221,9 @@ index-1-side-2 c = search needs
 
 index-2-side-2 : tie.Need-index-2-side-2 Inv-loop μ-loop
 index-2-side-2 c = search needs
+
+array-read-side : tie.Need-array-read-side Inv-loop μ-loop
+array-read-side c = search needs
 
 side-requires : tie.Need-side-requires Inv-loop μ-loop
 side-requires c κs = search needs
@@ -246,6 +240,9 @@ index-1-side-4 c = search needs
 index-2-side-4 : tie.Need-index-2-side-4 Inv-loop μ-loop
 index-2-side-4 c = search needs
 
+array-read-side-2 : tie.Need-array-read-side-2 Inv-loop μ-loop
+array-read-side-2 c = search needs
+
 side-requires-2 : tie.Need-side-requires-2 Inv-loop μ-loop
 side-requires-2 c κs = search needs
 
@@ -254,9 +251,9 @@ returns c =
     let s = c .before .before .before in
     let l = s .before .before .before .before in
     let a = l .before .before .args in
-    let e : l .loop .kind ≡ 6 = omega (arith, l .loop .inv .few, s .before .before .before .loop-test .left) in
-    both _ _ _ _ (s .side .ensures ∙ laws.white-side (a .knights .now) (a .pst .now) (a .bitboards .now) (l .loop .kind) (l .loop .white) (l .loop .black) (l .loop .position) (l .loop .inv) e)
-    (c .side2 .ensures ∙ laws.black-side (a .knights .now) (a .pst .now) (a .bitboards .now) (l .loop .kind) (l .loop .white) (l .loop .black) (l .loop .position) (l .loop .inv) e)
+    let e : l .loop .board ≡ 12 = omega (arith, l .loop .inv .few, s .before .before .before .loop-test .left) in
+    both _ _ _ _ (s .side .ensures ∙ laws.brings (a .knights .now) (a .pst .now) (a .bitboards .now) (l .loop .board) (l .loop .position) (l .loop .mobility) (l .loop .inv) e 0 (omega arith))
+    (c .side2 .ensures ∙ laws.brings (a .knights .now) (a .pst .now) (a .bitboards .now) (l .loop .board) (l .loop .position) (l .loop .mobility) (l .loop .inv) e 1 (omega arith))
 
 pub tally-spec : {M : Type 1} → statement M
 tally-spec =
@@ -267,27 +264,37 @@ tally-spec =
     loop-holds
     standing-requires
     walk-requires
-    plus-requires
-    plus-requires-2
+    index-requires
+    mul-position
+    index-1-position
+    index-2-position
+    add-position
+    index-1-position-2
+    index-2-position-2
+    mul-position-2
+    index-1-position-3
+    index-2-position-3
+    add-position-2
+    index-1-position-4
+    index-2-position-4
     tenths-requires
-    add-white
-    standing-requires-2
-    walk-requires-2
-    plus-requires-3
-    plus-requires-4
-    tenths-requires-2
-    add-black
-    add-kind
+    mul-mobility
+    array-read-mobility
+    add-mobility
+    array-write-mobility
+    add-board
     loop-less
     loop-again
     index-1-side
     index-2-side
     index-1-side-2
     index-2-side-2
+    array-read-side
     side-requires
     index-1-side-3
     index-2-side-3
     index-1-side-4
     index-2-side-4
+    array-read-side-2
     side-requires-2
     returns)

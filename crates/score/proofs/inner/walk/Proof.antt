@@ -1,23 +1,21 @@
 -- `score::inner::walk` meets its contract. The loop's invariant: each of the three sums, with the squares that are left added, is the whole.
 -- The measure is how many are left. Assumes nothing.
-use mathlib.Core.Path.{_≡_, refl, sym, ap, ap₂, _∙_, subst}
+use mathlib.Core.Path.{_≡_, sym, ap, _∙_, subst}
 use mathlib.Core.List.{List, [], _∷_}
-use Prim.Native.Nat.{ℕ, suc, _+_, _*_, _^_, _<_, _≤_}
+use Prim.Native.Nat.{ℕ, suc, _+_, _<_, _≤_}
 use native.Mathlib.Omega.{arith}
 use borrow.Author.Needs.{needs, sfits-of}
-use lib.IntN.{ℤ, pos, natAbs, _+ℤ_}
+use lib.IntN.{ℤ, pos}
 use lib.ListN.{length}
 use mir.Syntax.{w32}
 use mir.Val.{toZ}
-use Rattle.laws.specs.Sums.{counted, added}
-use Rattle.laws.proofs.Sums.{counted-none, counted-one, added-none, added-one}
-use Rattle.chess.specs.Codes.{whiteOf, codeOf}
+use Rattle.laws.specs.Sums.{added}
+use Rattle.chess.specs.Codes.{codeOf}
 use Rattle.chess.proofs.Codes.{white-le}
 use Rattle.bits.specs.Bitboard.{has, howMany, squares}
-use Rattle.bits.specs.Answers.{lowest, nextOf}
+use Rattle.bits.specs.Answers.{lowest}
 use Rattle.bits.proofs.Counts.{many-le}
 use Rattle.bits.proofs.Each.{next-at, next-done}
-use Rattle.bits.proofs.Squares.{squares-le}
 use Rattle.pst.specs.Pst.{weightIn}
 use Rattle.score.specs.Walked.{reachWith}
 use Rattle.score.specs.declared.inner.Walked.{Walked}

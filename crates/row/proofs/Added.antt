@@ -4,10 +4,10 @@ use mathlib.Core.List.{List, [], _∷_, _++_, append-assoc}
 use Prim.Native.Nat.{ℕ, suc, _+_, _≤_}
 use native.Mathlib.Omega.{arith}
 use lib.IntN.{ℤ, pos, negsuc}
-use lib.ListN.{length, take, length-append}
+use lib.ListN.{length, take, drop, length-append}
 use Rattle.text.specs.Text.{Puts, place, placeOf, writtenOf, afterOf, digitsUpTo, decimalOf, signedOf}
 use Rattle.text.specs.declared.Placed.{Placed}
-use Rattle.text.proofs.Wrote.{place-is, written-front, written-length, written-then}
+use Rattle.text.proofs.Wrote.{place-is, written-front, written-back, written-length, written-then}
 use Rattle.text.proofs.Spelled.{length-decimal}
 use Rattle.chess.specs.Answer.{Answer, given, refused}
 use Rattle.fields.specs.Text.{text}
@@ -29,6 +29,9 @@ module _ {old : List ℕ} {at : ℕ} {text new : List ℕ} {r : ℕ} (a : Adds o
 
   pub adds-front : take r new ≡ take at old ++ text
   adds-front = ap (λ (n : ℕ). take n new) adds-to ∙ ap (take (at + length text)) (a .buffer) ∙ written-front old at text room
+
+  pub adds-back : drop r new ≡ drop r old
+  adds-back = ap (λ (n : ℕ). drop n new) adds-to ∙ ap (drop (at + length text)) (a .buffer) ∙ written-back old at text room ∙ sym (ap (λ (n : ℕ). drop n old) adds-to)
 
 -- one text after another
 pub adds-then : {x y z : List ℕ} {at b c : ℕ} {t u : List ℕ} → Adds x at t y b → Adds y b u z c → at + (length t + length u) ≤ length x → Adds x at (t ++ u) z c

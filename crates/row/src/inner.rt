@@ -13,6 +13,7 @@ use crate::words::put;
 use crate::words::shown;
 use crate::words::spaced;
 use chess::refusal::Refusal;
+use chess::square::Square;
 use line::Read;
 use score::Scored;
 use text::Placed;
@@ -84,8 +85,8 @@ pub fn row(
     bytes: &[u8],
     out: &mut [u8],
     at: usize,
-    pst: &[i16],
-    tables: &[[u64; 64]; 4],
+    pst: &[i8],
+    tables: &[[u64; Square::COUNT]; 4],
 ) -> Row
     ensures { λ r. ⌜ PutsLine (now (tables .entry)) (now (pst .entry)) (now (out .entry)) (now (out .exit)) at line (now (bytes .entry)) r ⌝ }
 {

@@ -10,6 +10,7 @@ ghost use Rattle.row.specs.Promises.{Adds};
 ghost use Rattle.rows.specs.Machine.{at, ends as endsOf, finished, keptByte, oneMore, bareOf, tally as tallyOf};
 ghost use Rattle.rows.specs.Promises.{Starts, Feeds, Finishes, Ready, Takes, Closes, unfinished, lastLines};
 use chess::refusal::Refusal;
+use chess::square::Square;
 use row::Row;
 use text::Placed;
 
@@ -121,8 +122,8 @@ fn close(
     number: u64,
     out: &mut [u8],
     at: usize,
-    pst: &[i16],
-    tables: &[[u64; 64]; 4],
+    pst: &[i8],
+    tables: &[[u64; Square::COUNT]; 4],
 ) -> Row
     requires { ⌜ length (now line) ≡ 256 ⌝ }
     ensures { λ r. ⌜ Closes (now (tables .entry)) (now (pst .entry)) (now (out .entry)) (now (out .exit)) at number (now (line .entry)) size r ⌝ }
@@ -158,8 +159,8 @@ fn take(
     line: &mut [u8],
     chunk: &[u8],
     out: &mut [u8],
-    pst: &[i16],
-    tables: &[[u64; 64]; 4],
+    pst: &[i8],
+    tables: &[[u64; Square::COUNT]; 4],
 ) -> Taken
     requires { ⌜ Ready state (now line) (now chunk) (now out) × (now tables ≡ stepTables) × (now pst ≡ pstTable) ⌝ }
     ensures { λ r. ⌜ Takes state (now (line .entry)) (now (chunk .entry)) (now (out .entry)) r (now (line .exit)) (now (out .exit)) ⌝ }

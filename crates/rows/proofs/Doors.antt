@@ -20,7 +20,6 @@ use Rattle.text.specs.declared.Placed.the-variants.{At, Full}
 use Rattle.rows.specs.Machine.{Machine, at, run, close, totals, finished, ends, saidOf, tally}
 use Rattle.rows.specs.Promises.{Came, turned, many, full, came, fit, feedOf, fed, valueOf, lineAfter, textAfter, stateOf, Feeds, Ready, Takes, unfinished, lastLines, finishOf, finishPaper, lengthOf, lastText, wrote, lastWrote, Finishes}
 use Rattle.rows.specs.declared.State.{State}
-use Rattle.rows.specs.declared.Taken.{Taken}
 use Rattle.rows.specs.declared.Fed.{Fed}
 use Rattle.rows.specs.declared.Fed.the-variants as F
 use Rattle.rows.specs.declared.Finished.{Finished}
@@ -83,16 +82,15 @@ module _ (state : State) (line chunk out : List ℕ) where
       pub feed-ready : ends chunk ≤ length out / 32 → Ready state line chunk out
       feed-ready h = record { size = size; counts = ltb-true (state .loaded + state .refused + ends chunk) (2 ^ 64) counts; room = omega arith }
 
-      pub feed-rows : ends chunk ≤ length out / 32 → (taken : Taken) (line′ out′ : List ℕ) → Takes state line chunk out taken line′ out′
-          → Feeds state line chunk out (F.Rows (taken .state) (taken .wrote)) line′ out′
+      pub feed-rows : ends chunk ≤ length out / 32 → (r : Fed) (line′ out′ : List ℕ) → Takes state line chunk out r line′ out′ → Feeds state line chunk out r line′ out′
       unfolding lines room m
-      feed-rows h taken line′ out′ t =
+      feed-rows h r line′ out′ t =
           let e : feedOf state line chunk out ≡ came m = fit-came line lines room m size counts (le-leb (32 * ends chunk) (length out) (omega arith)) in
           record {
-            answer = ap₂ (λ (s : State) (k : ℕ). came (s, k)) (t .after) (t .wrote) ∙ sym (ap valueOf e);
+            answer = ap fed (t .answer) ∙ sym (ap valueOf e);
             kept = t .kept ∙ sym (ap (λ (a : Came Machine). lineAfter a line) e);
             rows = t .rows ∙ sym (ap (λ (a : Came Machine). writtenOf out 0 (textAfter a)) e);
-            within = t .within;
+            within = subst (λ (q : Fed). wrote (fed q) ≤ length out) (sym (t .answer)) (t .within);
           }
 
 -- ---- what `put` answers

@@ -1,5 +1,5 @@
 -- One turn of the loop over a chunk's bytes: the machine's run from here on the rest is its run on the whole. Assumes nothing.
-use mathlib.Core.Path.{_≡_, refl, sym, ap, ap₂, _∙_}
+use mathlib.Core.Path.{_≡_, refl, sym, ap, ap₂, subst, _∙_}
 use mathlib.Core.Bool.{Bool, true, false, cond, not}
 use mathlib.Core.List.{List, [], _∷_, _++_}
 use Prim.Native.Nat.{ℕ, suc, _+_, _*_, _^_, _≤_, _<_}
@@ -17,9 +17,9 @@ use Rattle.row.proofs.Added.{adds-to, adds-length, adds-front, adds-back}
 use Rattle.text.specs.Text.{writtenOf}
 use Rattle.text.proofs.Wrote.{written-is}
 use Rattle.rows.specs.Machine.{Machine, run, step, close, push, at, keptByte, oneMore, bareOf, saidOf, tally, ends}
-use Rattle.rows.specs.Promises.{stateOf, Ready, Takes}
+use Rattle.rows.specs.Promises.{stateOf, Made, Ready, Takes}
 use Rattle.rows.specs.declared.State.{State}
-use Rattle.rows.specs.declared.Taken.{Taken}
+use Rattle.rows.specs.declared.Fed.the-variants as F
 use Rattle.rows.proofs.Counted.{ends-line, ends-byte}
 use Rattle.rows.proofs.Closed.{said-32, tally-both}
 
@@ -35,9 +35,9 @@ pub record Turn (m : Machine) (chunk out₀ line out : List ℕ) (held : ℕ) (c
   pub runs : run m chunk ≡ run (machine line held cr loaded refused (take w out)) (drop i chunk)
   pub rest : drop w out ≡ drop w out₀
 
-kept-256 : (t : Bool) (line : List ℕ) (held byte : ℕ) → length (cond t (set line held byte) line) ≡ length line
-kept-256 true line held byte = length-set line held byte
-kept-256 false line held byte = refl
+pub kept-size : (t : Bool) (line : List ℕ) (held byte : ℕ) → length (cond t (set line held byte) line) ≡ length line
+kept-size true line held byte = length-set line held byte
+kept-size false line held byte = refl
 
 run-at : (m : Machine) (s : List ℕ) (i b : ℕ) → i < length s → getD s i 0 ≡ b → run m (drop i s) ≡ run (step m b) (drop (i + 1) s)
 unfolding run
@@ -56,7 +56,7 @@ module _ (m : Machine) (chunk out₀ line out : List ℕ) (held : ℕ) (cr : Boo
       let b = ends-byte chunk i h e in
       record {
         most = omega arith;
-        size = ap length p ∙ kept-256 (ltb held 256) line held (getD chunk i 0) ∙ t .size;
+        size = ap length p ∙ kept-size (ltb held 256) line held (getD chunk i 0) ∙ t .size;
         kept = t .kept;
         room = omega (arith, t .room);
         counts = omega (arith, t .counts);
@@ -102,19 +102,18 @@ turn-none state line chunk out r =
 -- after the last
 pub turn-end : (state : State) (line₀ chunk out₀ line out : List ℕ) (held : ℕ) (cr : Bool) (loaded refused w i : ℕ) → length chunk ≤ i
     → Turn (at state line₀ []) chunk out₀ line out held cr loaded refused w i
-    → Takes state line₀ chunk out₀ (record { state = record { held = held; cr = cr; loaded = loaded; refused = refused }; wrote = w }) line out
+    → (next : State) → Made held cr loaded refused next → Takes state line₀ chunk out₀ (F.Rows next w) line out
 unfolding run
-turn-end state line₀ chunk out₀ line out held cr loaded refused w i h t =
+turn-end state line₀ chunk out₀ line out held cr loaded refused w i h t next made =
     let m : run (at state line₀ []) chunk ≡ machine line held cr loaded refused (take w out) = t .runs ∙ rw (drop-of-length-le chunk h) in
     let within : w ≤ length out₀ = omega (arith, t .room) in
     let size : length (take w out) ≡ w = length-take-le w out (omega (arith, t .kept)) in
     let fits : 0 + length (take w out) ≤ length out₀ = omega arith in
     record {
-      after = sym (ap stateOf m);
-      wrote = sym (ap (λ (x : Machine). length (x .text)) m ∙ size);
+      answer = ap₂ F.Rows (made ∙ sym (ap stateOf m)) (sym (ap (λ (x : Machine). length (x .text)) m ∙ size));
       kept = sym (ap (λ (x : Machine). x .line) m);
       rows =
           sym (take-append-drop w out) ∙ ap (λ (l : List ℕ). take w out ++ l) (t .rest ∙ ap (λ (k : ℕ). drop k out₀) (let z : w ≡ 0 + length (take w out) = omega arith in z))
           ∙ sym (written-is out₀ 0 (take w out) fits) ∙ sym (ap (λ (x : Machine). writtenOf out₀ 0 (x .text)) m);
-      within = within;
+      within = subst (λ (x : Machine). length (x .text) ≤ length out₀) (sym m) (omega arith);
     }

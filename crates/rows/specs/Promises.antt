@@ -16,7 +16,6 @@ use Rattle.rows.specs.Machine.{Machine, at, run, finished, ends, saidOf}
 use Rattle.rows.specs.declared.State.{State}
 use Rattle.rows.specs.declared.Fed.{Fed}
 use Rattle.rows.specs.declared.Fed.the-variants as F
-use Rattle.rows.specs.declared.Taken.{Taken}
 use Rattle.rows.specs.declared.Finished.{Finished}
 use Rattle.rows.specs.declared.Finished.the-variants as E
 
@@ -130,12 +129,14 @@ pub record Ready (state : State) (line chunk out : List ℕ) : Type 0 where
   pub counts : state .loaded + state .refused + ends chunk < 2 ^ 64
   pub room : 32 * ends chunk ≤ length out
 
-pub record Takes (state : State) (line chunk out : List ℕ) (r : Taken) (line′ out′ : List ℕ) : Type 0 where
-  pub after : r .state ≡ stateOf (run (at state line []) chunk)
-  pub wrote : r .wrote ≡ length (run (at state line []) chunk .text)
+pub record Takes (state : State) (line chunk out : List ℕ) (r : Fed) (line′ out′ : List ℕ) : Type 0 where
+  pub answer : r ≡ F.Rows (stateOf (run (at state line []) chunk)) (length (run (at state line []) chunk .text))
   pub kept : line′ ≡ run (at state line []) chunk .line
   pub rows : out′ ≡ writtenOf out 0 (run (at state line []) chunk .text)
-  pub within : r .wrote ≤ length out
+  pub within : length (run (at state line []) chunk .text) ≤ length out
+
+abbrev pub Made : ℕ → Bool → ℕ → ℕ → State → Type 0
+Made held ends loaded others r = r ≡ record { held = held; cr = ends; loaded = loaded; refused = others }
 
 -- the row of what the buffer holds
 abbrev pub Closes : List (List ℕ) → List ℤ → List ℕ → List ℕ → ℕ → ℕ → List ℕ → ℕ → Row → Type 0

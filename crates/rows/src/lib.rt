@@ -8,7 +8,7 @@ ghost use Rattle.steps.specs.Steps.{stepTables};
 ghost use Rattle.pst.specs.Pst.{pstTable};
 ghost use Rattle.row.specs.Promises.{Adds};
 ghost use Rattle.rows.specs.Machine.{at, ends as endsOf, finished, keptByte, oneMore, bareOf, tally as tallyOf};
-ghost use Rattle.rows.specs.Promises.{Starts, Feeds, Finishes, Ready, Takes, Closes, unfinished, lastLines};
+ghost use Rattle.rows.specs.Promises.{Starts, Feeds, Finishes, Made, Ready, Takes, Closes, unfinished, lastLines};
 use chess::refusal::Refusal;
 use chess::square::Square;
 use row::Row;
@@ -148,9 +148,15 @@ fn countable(loaded: u64, refused: u64, more: usize) -> bool
     more as u64 <= room - refused
 }
 
-struct Taken {
-    state: State,
-    wrote: usize,
+fn made(held: usize, cr: bool, loaded: u64, refused: u64) -> State
+    ensures { λ r. ⌜ Made held cr loaded refused r ⌝ }
+{
+    State {
+        held,
+        cr,
+        loaded,
+        refused,
+    }
 }
 
 // The bytes of a chunk, where there is room for their rows: each byte is kept, and each LF ends a line.
@@ -161,7 +167,7 @@ fn take(
     out: &mut [u8],
     pst: &[i8],
     tables: &[[u64; Square::COUNT]; 4],
-) -> Taken
+) -> Fed
     requires { ⌜ Ready state (now line) (now chunk) (now out) × (now tables ≡ stepTables) × (now pst ≡ pstTable) ⌝ }
     ensures { λ r. ⌜ Takes state (now (line .entry)) (now (chunk .entry)) (now (out .entry)) r (now (line .exit)) (now (out .exit)) ⌝ }
 {
@@ -190,15 +196,7 @@ fn take(
             cr = byte == b'\r';
         }
     }
-    Taken {
-        state: State {
-            held,
-            cr,
-            loaded,
-            refused,
-        },
-        wrote,
-    }
+    Fed::Rows(made(held, cr, loaded, refused), wrote)
 }
 
 // Takes a chunk of any size: a row for each line that ends in it. It needs 32 bytes of room for each of them.
@@ -217,10 +215,7 @@ pub fn feed(state: State, line: &mut [u8], chunk: &[u8], out: &mut [u8]) -> Fed
     }
     let pst = pst::inner::table();
     let tables = steps::inner::tables();
-    let taken = take(state, line, chunk, out, &pst, &tables);
-    let next = taken.state;
-    let wrote = taken.wrote;
-    Fed::Rows(next, wrote)
+    take(state, line, chunk, out, &pst, &tables)
 }
 
 // One more line where some of it was held.

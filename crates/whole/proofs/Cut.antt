@@ -6,7 +6,7 @@ use Prim.Native.Nat.{ℕ, suc, _+_, _*_, _^_, _≤_, _<_}
 use native.Mathlib.Nat.{add-zero, zero-add}
 use native.Mathlib.Omega.{arith}
 use lib.Dec.{ltb, leb, eqb}
-use lib.ListN.{length, take, set, length-set}
+use lib.ListN.{length, take, set}
 use borrow.Author.Tests.{lt-ltb, le-leb}
 use Rattle.chess.specs.Answer.{Answer}
 use Rattle.line.specs.Line.{Line}
@@ -22,10 +22,11 @@ use Rattle.rows.specs.declared.Fed.the-variants as F
 use Rattle.rows.specs.declared.Finished.{Finished}
 use Rattle.rows.specs.declared.Finished.the-variants as E
 use Rattle.rows.proofs.Closed.{tally-both}
+use Rattle.rows.proofs.Turn.{kept-size}
 use Rattle.rows.proofs.Doors.{fit-came, finished-116}
 use Rattle.whole.specs.Calls.{Call, Last, next, rowsOf, lastRowsOf, Made, written, input, Roomy, fresh}
 use Rattle.whole.specs.Whole.{Whole}
-use Rattle.whole.proofs.Machines.{machine-ledger, machine-lines}
+use Rattle.whole.proofs.Machines.{linesIn, machine-ledger, machine-lines}
 
 -- ---- one piece after another
 run-append : (m : Machine) (s t : List ℕ) → run m (s ++ t) ≡ run (run m s) t
@@ -112,12 +113,8 @@ run-counts m (b ∷ s) = go (eqb b lf) (run-counts (close m (bareOf (m .held) (m
 run-size : (m : Machine) (s : List ℕ) → length (run m s .line) ≡ length (m .line)
 unfolding run
 run-size m [] = refl
-run-size m (b ∷ s) = go (eqb b lf) (run-size (close m (bareOf (m .held) (m .cr))) s) (run-size (push m b) s ∙ kept (ltb (m .held) 256))
+run-size m (b ∷ s) = go (eqb b lf) (run-size (close m (bareOf (m .held) (m .cr))) s) (run-size (push m b) s ∙ kept-size (ltb (m .held) 256) (m .line) (m .held) b)
   where
-    kept : (x : Bool) → length (cond x (set (m .line) (m .held) b) (m .line)) ≡ length (m .line)
-    kept true = length-set (m .line) (m .held) b
-    kept false = refl
-
     go : (x : Bool) → length (run (close m (bareOf (m .held) (m .cr))) s .line) ≡ length (m .line) → length (run (push m b) s .line) ≡ length (m .line)
         → length (run (cond x (close m (bareOf (m .held) (m .cr))) (push m b)) s .line) ≡ length (m .line)
     go true p q = p
@@ -177,9 +174,6 @@ finish-given state line out r out′ f size counts room =
     ∙ taken out out′ t (f .rows ∙ ap (λ (x : Came (List ℕ)). writtenOf out 0 (lastText x)) e) (omega arith)
 
 -- ---- all calls
-abbrev linesIn : Machine → ℕ
-linesIn m = m .loaded + m .refused + unfinished (m .held)
-
 less : (a b c d : ℕ) (n : ℕ) → a ≡ b + (c + d) → a + n < 2 ^ 64 → b + c < 2 ^ 64
 less a b c d n e h = omega arith
 

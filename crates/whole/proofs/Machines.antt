@@ -93,11 +93,10 @@ machine-ledger line s h =
     ∙ rw (zero-add (length (linesFrom [] s)), zero-add (loadedIn (linesFrom [] s)), zero-add (refusedIn (linesFrom [] s)))
 
 -- ---- how many lines there are
-linesIn : Machine → ℕ
+abbrev pub linesIn : Machine → ℕ
 linesIn m = m .loaded + m .refused + unfinished (m .held)
 
 count-end : (m : Machine) (l : List ℕ) → View m l → linesIn m ≡ m .loaded + m .refused + length (atEnd l)
-unfolding linesIn
 count-end m [] v = rw (le-ltb 0 (m .held) (omega (arith, v .count)))
 count-end m (x ∷ l) v = rw (lt-ltb 0 (m .held) (some-held (m .held) x l (v .count)))
 
@@ -119,6 +118,5 @@ count-lines m l (b ∷ s) v =
     go false p q = p
     go true p q = q ∙ (let both = tally-both (isLoaded a) (m .loaded) (m .refused) in omega arith)
 
-pub machine-lines : (line s : List ℕ) → length line ≡ 256 → run (begun line) s .loaded + run (begun line) s .refused + unfinished (run (begun line) s .held) ≡ length (linesOf s)
-unfolding linesIn
+pub machine-lines : (line s : List ℕ) → length line ≡ 256 → linesIn (run (begun line) s) ≡ length (linesOf s)
 machine-lines line s h = count-lines (begun line) [] s (view-none (begun line) refl refl h) ∙ zero-add (length (linesFrom [] s))

@@ -14,6 +14,7 @@ use Rattle.chess.specs.Refusals.{refusalOf}
 use Rattle.chess.specs.declared.refusal.Refusal.the-variants as R
 use Rattle.line.specs.Line.{lineOf}
 use Rattle.rows.specs.Ledger.{endsInCR, withoutCR}
+use Rattle.rows.proofs.Turn.{kept-size}
 use Rattle.rows.specs.Machine.{Machine, push, keptByte, oneMore, bareOf, saidOf}
 
 -- what is kept of the line so far
@@ -48,10 +49,6 @@ more-min n k e = go (ltb n 258) refl
     go : (t : Bool) → ltb n 258 ≡ t → cond t (n + 1) n ≡ min 258 (k + 1)
     go true q = omega (arith, ltb-true n 258 q)
     go false q = omega (arith, ltb-false n 258 q)
-
-kept-size : (t : Bool) (line : List ℕ) (held b : ℕ) → length (cond t (set line held b) line) ≡ length line
-kept-size true line held b = length-set line held b
-kept-size false line held b = refl
 
 module _ (m : Machine) (l : List ℕ) (b : ℕ) (v : View m l) where
   -- a part that was there before

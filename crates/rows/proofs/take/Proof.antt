@@ -96,17 +96,21 @@ loop-again-2 c =
     (l .loaded) (l .refused) (l .wrote) (l .i) (omega arith) (l .inv)
     (c .before .before .before .before .before .if1 .left) (c .before .before .before .keep-byte .last .0) (c .one-more .result) (c .before .before .before .keep-byte .ensures) (c .one-more .ensures)
 
+made-requires : tie.Need-made-requires Inv-loop μ-loop
+made-requires c κs = search needs
+
 same-length : tie.Need-same-length Inv-loop μ-loop
-same-length c = c .before .loop .inv .size ∙ sym (c .before .before .before .before .before .pre .0 .size)
+same-length c = c .before .before .loop .inv .size ∙ sym (c .before .before .before .before .before .before .pre .0 .size)
 
 same-length-2 : tie.Need-same-length-2 Inv-loop μ-loop
-same-length-2 c = c .before .loop .inv .kept
+same-length-2 c = c .before .before .loop .inv .kept
 
 returns : tie.Need-returns Inv-loop μ-loop
 returns c =
-    let a = c .before .before .before .before .before .args in
-    let l = c .before .loop in
+    let a = c .before .before .before .before .before .before .args in
+    let l = c .before .before .loop in
     turn-end (a .state) (now (a .line)) (now (a .chunk)) (now (a .out)) (l .line) (l .out) (l .held) (l .cr) (l .loaded) (l .refused) (l .wrote) (l .i) (omega arith) (l .inv)
+    (c .made .result) (c .made .ensures)
 
 pub take-spec : {M : Type 1} → statement M
 take-spec =
@@ -130,6 +134,7 @@ take-spec =
     one-more-requires
     loop-less-2
     loop-again-2
+    made-requires
     same-length
     same-length-2
     returns)

@@ -1,0 +1,18 @@
+-- What a call says it wrote lies within the buffer. Assumes nothing.
+use mathlib.Core.Path.{_≡_, subst}
+use mathlib.Core.List.{List}
+use Prim.Native.Nat.{ℕ, _≤_}
+use lib.ListN.{length}
+use Rattle.rows.specs.Promises.{fed, wrote, finishPaper, lastWrote, Feeds, Finishes}
+use Rattle.rows.specs.declared.State.{State}
+use Rattle.rows.specs.declared.Fed.{Fed}
+use Rattle.rows.specs.declared.Fed.the-variants as F
+use Rattle.rows.specs.declared.Finished.{Finished}
+use Rattle.rows.specs.declared.Finished.the-variants as E
+
+pub fed-within : {state : State} {line chunk out : List ℕ} {r : Fed} {line′ out′ : List ℕ} → Feeds state line chunk out r line′ out′
+    → (next : State) (n : ℕ) → r ≡ F.Rows next n → n ≤ length out
+fed-within {out = out} f next n told = subst (λ (q : Fed). wrote (fed q) ≤ length out) told (f .within)
+
+pub last-within : {state : State} {line out : List ℕ} {r : Finished} {out′ : List ℕ} → Finishes state line out r out′ → (n : ℕ) → r ≡ E.Rows n → n ≤ length out
+last-within {out = out} f n told = subst (λ (q : Finished). lastWrote (finishPaper q) ≤ length out) told (f .within)

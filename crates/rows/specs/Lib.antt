@@ -1,0 +1,3 @@
+pub mod Ledger
+pub mod Machine
+pub mod Promises

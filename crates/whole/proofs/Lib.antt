@@ -1,0 +1,4 @@
+pub mod Views
+pub mod Machines
+pub mod Cut
+pub mod Once

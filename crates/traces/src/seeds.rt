@@ -173,31 +173,41 @@ fn one(r: u64, sparse: u64) -> i32 {
     0
 }
 
-// The numbers in the order in which a trace is listed.
-pub(crate) fn trace(n: &[i32; NUMBERS]) -> Trace {
+// The number at a place, 0 past the end.
+fn at(list: &[i32], place: usize) -> i32 {
+    if place < list.len() {
+        return list[place];
+    }
+    0
+}
+
+// White's number and Black's.
+fn both(list: &[i32], white: usize, black: usize) -> [i32; 2] {
+    [at(list, white), at(list, black)]
+}
+
+fn mobility(list: &[i32]) -> [i32; 12] {
+    let mut mobility = [0i32; 12];
+    let mut i = 0;
+    while i < 12 {
+        mobility[i] = at(list, 12 + i);
+        i += 1;
+    }
+    mobility
+}
+
+// The numbers are in the order in which a trace is listed.
+pub(crate) fn trace(numbers: &[i32]) -> Trace {
     Trace {
-        pawns: [n[0], n[1]],
-        knights: [n[2], n[3]],
-        bishops: [n[4], n[5]],
-        rooks: [n[6], n[7]],
-        queens: [n[8], n[9]],
-        bishop_pair: [n[10], n[11]],
-        mobility: [
-            n[12],
-            n[13],
-            n[14],
-            n[15],
-            n[16],
-            n[17],
-            n[18],
-            n[19],
-            n[20],
-            n[21],
-            n[22],
-            n[23],
-        ],
-        side: n[24],
-        piece_count: n[25],
+        pawns: both(numbers, 0, 1),
+        knights: both(numbers, 2, 3),
+        bishops: both(numbers, 4, 5),
+        rooks: both(numbers, 6, 7),
+        queens: both(numbers, 8, 9),
+        bishop_pair: both(numbers, 10, 11),
+        mobility: mobility(numbers),
+        side: at(numbers, 24),
+        piece_count: at(numbers, 25),
     }
 }
 

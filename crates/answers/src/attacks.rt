@@ -2,6 +2,7 @@
 use crate::said::Said;
 use crate::said::byte;
 use crate::said::yes_or_no;
+use asked::NUMBERS;
 use attack::Found;
 use attack::Told;
 use chess::piece::Piece;
@@ -10,7 +11,7 @@ use position::State;
 
 pub(crate) fn answer(
     word: &[u8],
-    n: [u64; 5],
+    n: [u64; NUMBERS],
     bitboards: &[u64],
     board: &[u8],
     state: State,

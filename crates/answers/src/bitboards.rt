@@ -2,13 +2,14 @@
 use crate::said::Said;
 use crate::said::byte;
 use crate::said::yes_or_no;
+use asked::NUMBERS;
 use bits::Changed;
 use bits::Got;
 use bits::Lowest;
 use fields::inner::is;
 use score::Verdict;
 
-pub(crate) fn answer(word: &[u8], n: [u64; 5]) -> Said {
+pub(crate) fn answer(word: &[u8], n: [u64; NUMBERS]) -> Said {
     if is(word, b"count") {
         return Said::Natural(bits::count(n[0]) as u64);
     }

@@ -1,6 +1,7 @@
 // Questions of exchanges: the least attacker, and what a capture is worth.
 use crate::said::Said;
 use crate::said::byte;
+use asked::NUMBERS;
 use exchange::Exchanged;
 use exchange::Least;
 use fields::inner::is;
@@ -9,7 +10,7 @@ use score::Verdict;
 
 pub(crate) fn answer(
     word: &[u8],
-    n: [u64; 5],
+    n: [u64; NUMBERS],
     bitboards: &[u64],
     board: &[u8],
     state: State,

@@ -1,6 +1,7 @@
 // Answers the oracle's questions on standard input, one a line: the file stdout holds what the Rust answered (oracle/README.md).
 ghost use Prim.Native.Nat.{_≤_};
 use crate::said::Said;
+use asked::NUMBERS;
 use fields::inner::is;
 use line::Read;
 use position::State;
@@ -100,7 +101,7 @@ fn state(read: Read) -> State {
 // Each kind of question in turn: a word that is none of its own says nothing.
 fn of_position(
     word: &[u8],
-    numbers: [u64; 5],
+    numbers: [u64; NUMBERS],
     bitboards: &[u64],
     board: &[u8],
     state: State,

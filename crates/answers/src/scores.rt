@@ -1,6 +1,9 @@
 // Questions of the score: square weights, verdict, material, score, and the score of a position that was bent out of shape.
 use crate::said::Said;
 use crate::said::byte;
+use asked::NUMBERS;
+use chess::piece::Piece;
+use chess::square::Square;
 use fields::inner::is;
 use position::State;
 use score::Ending;
@@ -10,7 +13,7 @@ use score::Verdict;
 
 pub(crate) fn answer(
     word: &[u8],
-    n: [u64; 5],
+    n: [u64; NUMBERS],
     bitboards: &[u64],
     board: &[u8],
     state: State,
@@ -31,23 +34,28 @@ pub(crate) fn answer(
 }
 
 // One bitboard has some bits turned over, and one byte is set.
-pub(crate) fn bent(n: [u64; 5], bitboards: [u64; 14], board: [u8; 64], state: State) -> Said {
+pub(crate) fn bent(
+    n: [u64; NUMBERS],
+    bitboards: [u64; Piece::BOARDS],
+    board: [u8; Square::COUNT],
+    state: State,
+) -> Said {
     let turned = turned(bitboards, byte(n[0]) as usize, n[1]);
     let set = set(board, byte(n[2]) as usize, byte(n[3]));
     scored(score::eval(&turned, &set, state))
 }
 
-fn turned(bitboards: [u64; 14], i: usize, bits: u64) -> [u64; 14] {
+fn turned(bitboards: [u64; Piece::BOARDS], i: usize, bits: u64) -> [u64; Piece::BOARDS] {
     let mut bent = bitboards;
-    if i < 14 {
+    if i < Piece::BOARDS {
         bent[i] = bent[i] ^ bits;
     }
     bent
 }
 
-fn set(board: [u8; 64], k: usize, byte: u8) -> [u8; 64] {
+fn set(board: [u8; Square::COUNT], k: usize, byte: u8) -> [u8; Square::COUNT] {
     let mut bent = board;
-    if k < 64 {
+    if k < Square::COUNT {
         bent[k] = byte;
     }
     bent

@@ -7,7 +7,7 @@ ghost use Rattle.asked.specs.Promises.{GivesWord, GivesNumbers, GivesPos
 use fields::inner::find;
 
 // How many numbers a question has at most.
-const NUMBERS: usize = 5;
+pub const NUMBERS: usize = 5;
 
 // The largest number of 64 bits.
 const LARGEST: u64 = 18446744073709551615;

@@ -1,6 +1,7 @@
 // Reads a collection on standard input and says of each line what the reader makes of it: the file stdout holds what document 01
 // makes of it (oracle/README.md, lines.answers).
 ghost use Prim.Native.Nat.{_≤_};
+use chess::piece::Piece;
 use chess::refusal::Refusal;
 use chess::square::Square;
 use line::Read;
@@ -86,8 +87,8 @@ fn read_part(line: &[u8], n: usize) {
 
 // A refused line has no field, and one that is read has one: else the row is `field`.
 fn read(text: &[u8]) {
-    let mut bitboards = [0u64; 14];
-    let mut board = [0u8; 64];
+    let mut bitboards = [0u64; Piece::BOARDS];
+    let mut board = [0u8; Square::COUNT];
     let field = line::position_field(text).len();
     match line::read_line(text, &mut bitboards, &mut board) {
         Read::Refused(r) => refused(r, field),
@@ -136,9 +137,12 @@ fn blanks(text: &[u8]) -> usize {
     i
 }
 
+// A space and a code for each square.
+const ROW: usize = 65;
+
 // The 64 codes from a1 to h8, a hexadecimal digit each.
-fn codes(board: [u8; 64]) {
-    let mut digits = [b' '; 65];
+fn codes(board: [u8; Square::COUNT]) {
+    let mut digits = [b' '; ROW];
     let mut k = 0;
     while k < Square::COUNT {
         digits[k + 1] = hex(board[k]);

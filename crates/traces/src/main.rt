@@ -1,11 +1,12 @@
 // Answers the oracle's questions of traces and doubles on standard input, one a line: the file stdout holds what the Rust answered,
 // a double as its bits (oracle/README.md).
 ghost use Prim.Native.Nat.{_≤_};
+use chess::entry::Entry;
+use chess::weight::SquareWeight;
 use double::Doubled;
 use double::Trace;
 use fields::inner::is;
 use line::Read;
-use position::Checked;
 use position::State;
 
 mod prints;
@@ -86,7 +87,7 @@ fn answer(question: &[u8]) {
 // The double of a seed's trace, one of whose numbers is set to a value, if it has the place.
 fn of_seed(seed: u64, place: usize, value: i32, kind: u64, weights_seed: u64) -> Doubled {
     let mut numbers = [0i32; seeds::NUMBERS];
-    let mut entries = [0i32; 768];
+    let mut entries = [0i32; Entry::COUNT];
     let next = seeds::numbers(seed, &mut numbers);
     seeds::entries(next, &mut entries);
     seeds::set(&mut numbers, place, value);
@@ -100,7 +101,7 @@ fn of_position(word: &[u8], kind: u64, seed: u64, text: &[u8]) {
     let bitboards = loaded.bitboards;
     let board = loaded.board;
     let read = loaded.answer;
-    let mut entries = [0i32; 768];
+    let mut entries = [0i32; Entry::COUNT];
     let traced = trace::compute_trace(&bitboards, &board, state(read), &mut entries);
     let t = traced.trace;
     if is(word, b"trace") {
@@ -119,7 +120,7 @@ fn state(read: Read) -> State {
 
 // The double of a trace with the weights of a kind and a seed: kind 0 is the shipped weights.
 fn doubled(t: Trace, entries: &[i32], kind: u64, seed: u64) -> Doubled {
-    let mut squares = [0.0f64; 768];
+    let mut squares = [0.0f64; SquareWeight::COUNT];
     if kind == 0 {
         trace::shipped::square_weights(&mut squares);
         return t.eval(entries, trace::shipped::weights(), &squares);

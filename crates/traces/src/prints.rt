@@ -1,4 +1,5 @@
 // What is said to a question of traces, on standard output.
+use chess::entry::Entry;
 use chess::refusal::Refusal;
 use double::Doubled;
 use double::Trace;
@@ -30,8 +31,8 @@ fn numbers(list: &[i32]) {
     }
 }
 
-fn ones(entries: &[i32]) -> u64 {
-    let mut n: u64 = 0;
+fn ones(entries: &[i32]) -> usize {
+    let mut n: usize = 0;
     let mut i = 0;
     while i < entries.len() {
         n = more(n, entries[i]);
@@ -40,9 +41,9 @@ fn ones(entries: &[i32]) -> u64 {
     n
 }
 
-fn more(n: u64, entry: i32) -> u64 {
+fn more(n: usize, entry: i32) -> usize {
     if entry == 1 {
-        if n < 768 {
+        if n < Entry::COUNT {
             return n + 1;
         }
     }
@@ -74,7 +75,7 @@ pub(crate) fn trace(t: Trace, entries: &[i32]) {
     numbers(&bishop_pair);
     numbers(&mobility);
     numbers(&last);
-    natural(ones(entries));
+    natural(ones(entries) as u64);
     places(entries);
     write(b"\n");
 }

@@ -6,6 +6,11 @@ use double::Weights;
 // The numbers of a trace beside its entries, and all of its places.
 pub(crate) const NUMBERS: usize = 26;
 
+// Attacked squares of six kinds and two colours, and where they begin among the numbers.
+const MOBILITY: usize = 12;
+
+const FIRST_MOBILITY: usize = 12;
+
 pub(crate) const PLACES: usize = 794;
 
 // A draw: xorshift64, the state after three shifts and xors.
@@ -186,11 +191,11 @@ fn both(list: &[i32], white: usize, black: usize) -> [i32; 2] {
     [at(list, white), at(list, black)]
 }
 
-fn mobility(list: &[i32]) -> [i32; 12] {
-    let mut mobility = [0i32; 12];
+fn mobility(list: &[i32]) -> [i32; MOBILITY] {
+    let mut mobility = [0i32; MOBILITY];
     let mut i = 0;
-    while i < 12 {
-        mobility[i] = at(list, 12 + i);
+    while i < MOBILITY {
+        mobility[i] = at(list, FIRST_MOBILITY + i);
         i += 1;
     }
     mobility

@@ -1,68 +1,78 @@
 // Questions of bitboards: count, scan, next, shift and one square.
-use crate::words;
+use crate::said::Said;
+use crate::said::byte;
+use crate::said::yes_or_no;
+use asked::NUMBERS;
 use bits::Changed;
 use bits::Got;
 use bits::Lowest;
+use fields::inner::is;
+use score::Verdict;
 
-pub(crate) fn answer(word: &[u8], rest: &[u8], out: &mut [u8]) -> usize {
-    let b = words::natural(rest, 0);
-    if check::same(word, b"count") {
-        return words::put_natural(out, 0, bits::count(b) as u64);
+pub(crate) fn answer(word: &[u8], n: [u64; NUMBERS]) -> Said {
+    if is(word, b"count") {
+        return Said::Natural(bits::count(n[0]) as u64);
     }
-    if check::same(word, b"scan") {
-        return words::put_natural(out, 0, bits::scan(b) as u64);
+    if is(word, b"scan") {
+        return Said::Natural(bits::scan(n[0]) as u64);
     }
-    if check::same(word, b"next") {
-        return put_next(out, bits::next(b));
+    if is(word, b"next") {
+        return next(bits::next(n[0]));
     }
-    if check::same(word, b"shift") {
-        return put_changed(
-            out,
-            bits::shift(words::natural(rest, 1), words::shift(rest, 0)),
-        );
+    if is(word, b"shift") {
+        return changed(bits::shift(n[1], by(n[0])));
     }
-    if check::same(word, b"from_square") {
-        return put_changed(out, bits::from_square(words::byte(rest, 0)));
-    }
-    of_square(word, words::byte(rest, 0), words::natural(rest, 1), out)
+    of_square(word, byte(n[0]), n[1])
 }
 
-fn of_square(word: &[u8], square: u8, b: u64, out: &mut [u8]) -> usize {
-    if check::same(word, b"get") {
-        return put_got(out, bits::get(b, square));
+fn of_square(word: &[u8], square: u8, b: u64) -> Said {
+    if is(word, b"from_square") {
+        return changed(bits::from_square(square));
     }
-    if check::same(word, b"set") {
-        return put_changed(out, bits::set(b, square));
+    if is(word, b"get") {
+        return got(bits::get(b, square));
     }
-    if check::same(word, b"toggle") {
-        return put_changed(out, bits::toggle(b, square));
+    if is(word, b"set") {
+        return changed(bits::set(b, square));
     }
-    if check::same(word, b"reset") {
-        return put_changed(out, bits::reset(b, square));
+    if is(word, b"toggle") {
+        return changed(bits::toggle(b, square));
     }
-    0
+    if is(word, b"reset") {
+        return changed(bits::reset(b, square));
+    }
+    Said::Nothing
 }
 
-fn put_next(out: &mut [u8], next: Lowest) -> usize {
+// A shift from its 64 bits; 64 where it is farther than that.
+fn by(n: u64) -> i8 {
+    if n < 64 {
+        return n as i8;
+    }
+    let m = 18446744073709551615 - n;
+    if m < 64 {
+        return (63 - m) as i8 - 64;
+    }
+    64
+}
+
+fn next(next: Lowest) -> Said {
     match next {
-        Lowest::At(square, rest) => {
-            let a = words::put_natural(out, 0, square as u64);
-            words::put_next(out, a, rest)
-        }
-        Lowest::Done => words::put(out, 0, b"none"),
+        Lowest::At(square, rest) => Said::Two(square as u64, rest),
+        Lowest::Done => Said::Word(Verdict::None),
     }
 }
 
-fn put_changed(out: &mut [u8], changed: Changed) -> usize {
+fn changed(changed: Changed) -> Said {
     match changed {
-        Changed::Bitboard(b) => words::put_natural(out, 0, b),
-        Changed::Refused(r) => words::put_refusal(out, 0, r),
+        Changed::Bitboard(b) => Said::Natural(b),
+        Changed::Refused(r) => Said::Refused(r),
     }
 }
 
-fn put_got(out: &mut [u8], got: Got) -> usize {
+fn got(got: Got) -> Said {
     match got {
-        Got::Is(t) => words::put_bool(out, 0, t),
-        Got::Refused(r) => words::put_refusal(out, 0, r),
+        Got::Is(t) => yes_or_no(t),
+        Got::Refused(r) => Said::Refused(r),
     }
 }

@@ -1,65 +1,40 @@
 // Questions of exchanges: the least attacker, and what a capture is worth.
-use crate::positions;
-use crate::words;
+use crate::said::Said;
+use crate::said::byte;
+use asked::NUMBERS;
 use exchange::Exchanged;
 use exchange::Least;
+use fields::inner::is;
+use position::State;
+use score::Verdict;
 
-pub(crate) fn answer(word: &[u8], rest: &[u8], out: &mut [u8]) -> usize {
-    if check::same(word, b"lvp") {
-        return least(rest, out);
+pub(crate) fn answer(
+    word: &[u8],
+    n: [u64; NUMBERS],
+    bitboards: &[u64],
+    board: &[u8],
+    state: State,
+) -> Said {
+    if is(word, b"lvp") {
+        return least(exchange::lvp(bitboards, board, state, byte(n[0]), n[1], n[2]));
     }
-    if check::same(word, b"see") {
-        return worth(rest, out);
+    if is(word, b"see") {
+        return worth(exchange::see(bitboards, board, state, byte(n[0]), byte(n[1])));
     }
-    0
+    Said::Nothing
 }
 
-fn least(rest: &[u8], out: &mut [u8]) -> usize {
-    let p = positions::load(words::after(rest, 3));
-    let bitboards = p.bitboards;
-    let board = p.board;
-    let color = words::byte(rest, 0);
-    let attacks = words::natural(rest, 1);
-    put_least(
-        out,
-        exchange::lvp(
-            &bitboards,
-            &board,
-            p.state,
-            color,
-            attacks,
-            words::natural(rest, 2),
-        ),
-    )
-}
-
-fn worth(rest: &[u8], out: &mut [u8]) -> usize {
-    let p = positions::load(words::after(rest, 2));
-    let bitboards = p.bitboards;
-    let board = p.board;
-    put_worth(
-        out,
-        exchange::see(
-            &bitboards,
-            &board,
-            p.state,
-            words::byte(rest, 0),
-            words::byte(rest, 1),
-        ),
-    )
-}
-
-fn put_least(out: &mut [u8], least: Least) -> usize {
+fn least(least: Least) -> Said {
     match least {
-        Least::At(square) => words::put_natural(out, 0, square as u64),
-        Least::Nobody => words::put(out, 0, b"none"),
-        Least::Refused(r) => words::put_refusal(out, 0, r),
+        Least::At(square) => Said::Natural(square as u64),
+        Least::Nobody => Said::Word(Verdict::None),
+        Least::Refused(r) => Said::Refused(r),
     }
 }
 
-fn put_worth(out: &mut [u8], worth: Exchanged) -> usize {
+fn worth(worth: Exchanged) -> Said {
     match worth {
-        Exchanged::Worth(value) => words::put_score(out, 0, value),
-        Exchanged::Refused(r) => words::put_refusal(out, 0, r),
+        Exchanged::Worth(value) => Said::Score(value),
+        Exchanged::Refused(r) => Said::Refused(r),
     }
 }

@@ -1,13 +1,15 @@
 // The positions of document 01 that carry no star, tried: a row each, what was tried and what came of it.
+use chess::piece::Piece;
 use chess::refusal::Refusal;
+use chess::square::Square;
 use exchange::Exchanged;
 use line::Read;
 use position::State;
 use score::Scored;
 
 struct Position {
-    bitboards: [u64; 14],
-    board: [u8; 64],
+    bitboards: [u64; Piece::BOARDS],
+    board: [u8; Square::COUNT],
     state: State,
 }
 
@@ -44,8 +46,8 @@ fn main() {
 
 // The empty board where the line is refused, which none of these is.
 fn load(text: &[u8]) -> Position {
-    let mut bitboards = [0u64; 14];
-    let mut board = [0u8; 64];
+    let mut bitboards = [0u64; Piece::BOARDS];
+    let mut board = [0u8; Square::COUNT];
     match line::read_line(text, &mut bitboards, &mut board) {
         Read::Position(state, _) => Position {
             bitboards,
@@ -86,8 +88,8 @@ fn exchange(name: &[u8], text: &[u8]) {
 }
 
 fn read(name: &[u8], text: &[u8]) {
-    let mut bitboards = [0u64; 14];
-    let mut board = [0u8; 64];
+    let mut bitboards = [0u64; Piece::BOARDS];
+    let mut board = [0u8; Square::COUNT];
     io::write_all(libc::STDOUT_FILENO, name);
     match line::read_line(text, &mut bitboards, &mut board) {
         Read::Position(_, _) => say(b"read\n"),

@@ -9,7 +9,7 @@ use Rattle.answers.proofs.answer_all.Statement.{statement}
 use Rattle.answers.proofs.answer_all.Tie as tie
 
 abbrev Inv-loop : tie.InvT-loop
-Inv-loop chunk₀ line₀ n₀ more₀ reads₀ chunk line n more reads = (reads ≤ 1000000) × (length line ≡ 1024) × (length chunk ≡ length chunk₀)
+Inv-loop chunk₀ line₀ n₀ more₀ reads₀ chunk line n more reads = (reads ≤ 1000000) × (length line ≡ 512) × (length chunk ≡ length chunk₀)
 
 abbrev μ-loop : tie.MeasureT-loop
 μ-loop chunk₀ line₀ n₀ more₀ reads₀ chunk line n more reads = 1000000 - reads

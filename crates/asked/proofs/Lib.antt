@@ -1,0 +1,4 @@
+pub mod Bytes
+pub mod Folds
+pub mod Examples
+pub mod Determined

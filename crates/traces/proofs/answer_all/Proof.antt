@@ -1,0 +1,78 @@
+-- `traces::answer_all` is safe and ends. Assumes nothing.
+use Prim.Native.Nat.{_≤_, _<_, _+_, _-_}
+use native.Mathlib.Omega.{arith}
+use mathlib.Core.Path.{_≡_}
+use lib.ListN.{length}
+use borrow.Author.Tests.{ltb-true}
+use borrow.Author.Needs.{needs}
+use Rattle.traces.proofs.answer_all.Statement.{statement}
+use Rattle.traces.proofs.answer_all.Tie as tie
+
+abbrev Inv-loop : tie.InvT-loop
+Inv-loop chunk₀ line₀ n₀ more₀ reads₀ chunk line n more reads = (reads ≤ 1000000) × (length line ≡ 512) × (length chunk ≡ length chunk₀)
+
+abbrev μ-loop : tie.MeasureT-loop
+μ-loop chunk₀ line₀ n₀ more₀ reads₀ chunk line n more reads = 1000000 - reads
+
+loop-holds : tie.Need-loop-holds Inv-loop μ-loop
+loop-holds c = search needs
+
+add-reads : tie.Need-add-reads Inv-loop μ-loop
+add-reads c = search needs
+
+read-requires : tie.Need-read-requires Inv-loop μ-loop
+read-requires c κs = search needs
+
+count-requires : tie.Need-count-requires Inv-loop μ-loop
+count-requires c κs = search needs
+
+slice-aggregate-each : tie.Need-slice-aggregate-each Inv-loop μ-loop
+slice-aggregate-each c = search needs
+
+slice-reshare-prefix-each : tie.Need-slice-reshare-prefix-each Inv-loop μ-loop
+slice-reshare-prefix-each c = search needs
+
+slice-aggregate-each-2 : tie.Need-slice-aggregate-each-2 Inv-loop μ-loop
+slice-aggregate-each-2 c = search needs
+
+each-requires : tie.Need-each-requires Inv-loop μ-loop
+each-requires c κs = search needs
+
+loop-less : tie.Need-loop-less Inv-loop μ-loop
+loop-less c = omega (arith, ltb-true)
+
+loop-again : tie.Need-loop-again Inv-loop μ-loop
+loop-again c = (omega (arith, ltb-true), search needs, search needs)
+
+same-length : tie.Need-same-length Inv-loop μ-loop
+same-length c = search needs
+
+returns : tie.Need-returns Inv-loop μ-loop
+returns c = search needs
+
+same-length-2 : tie.Need-same-length-2 Inv-loop μ-loop
+same-length-2 c = search needs
+
+returns-2 : tie.Need-returns-2 Inv-loop μ-loop
+returns-2 c = search needs
+
+pub answer-all-spec : {M : Type 1} → statement M
+answer-all-spec =
+    tie.close
+    (tie.spec
+    Inv-loop
+    μ-loop
+    loop-holds
+    add-reads
+    read-requires
+    count-requires
+    slice-aggregate-each
+    slice-reshare-prefix-each
+    slice-aggregate-each-2
+    each-requires
+    loop-less
+    loop-again
+    same-length
+    returns
+    same-length-2
+    returns-2)

@@ -59,15 +59,24 @@ pub see : (bitboards board : List ℕ) (side from to : ℕ) (worth : ℤ) (r s :
 see bitboards board side from to worth r s v w = door
 
 -- ---- traces
-pub compute-trace : (bitboards board : List ℕ) (side : ℕ) (counts entries : List ℤ) (r s : ℕ) (v w y z : List ℤ)
-    → ComputesTrace bitboards board side counts entries r v y → ComputesTrace bitboards board side counts entries s w z
-    → (r ≡ s) × (v ≡ w) × (y ≡ z)
-compute-trace bitboards board side counts entries r s v w y z p q =
-    (one (p .code) (q .code), one (p .lent) (q .lent), one (p .marked) (q .marked))
+pub compute-trace : (bitboards board : List ℕ) (side : ℕ) (counts mobility : List ℤ) (sign pieces : ℤ) (entries : List ℤ)
+    (r s : ℕ) (c d m n : List ℤ) (t u p q : ℤ) (v w : List ℤ)
+    → ComputesTrace bitboards board side counts mobility sign pieces entries r c m t p v
+    → ComputesTrace bitboards board side counts mobility sign pieces entries s d n u q w
+    → (r ≡ s) × (c ≡ d) × (m ≡ n) × (t ≡ u) × (p ≡ q) × (v ≡ w)
+compute-trace bitboards board side counts mobility sign pieces entries r s c d m n t u p q v w x y = (
+  one (x .code) (y .code),
+  one (x .counted) (y .counted),
+  one (x .moved) (y .moved),
+  one (x .turn) (y .turn),
+  one (x .total) (y .total),
+  one (x .marked) (y .marked),
+)
 
-pub trace-eval : (counts entries : List ℤ) (weights squares : List Float) (value : Float) (r s : ℕ) (v w : Float)
-    → EvalsTrace counts entries weights squares value r v → EvalsTrace counts entries weights squares value s w → (r ≡ s) × (v ≡ w)
-trace-eval counts entries weights squares value r s v w = door
+pub trace-eval : (counts mobility : List ℤ) (sign pieces : ℤ) (entries : List ℤ) (weights squares : List Float) (value : Float) (r s : ℕ) (v w : Float)
+    → EvalsTrace counts mobility sign pieces entries weights squares value r v
+    → EvalsTrace counts mobility sign pieces entries weights squares value s w → (r ≡ s) × (v ≡ w)
+trace-eval counts mobility sign pieces entries weights squares value r s v w = door
 
 pub shipped-weights : (weights squares : List Float) (r s : ℕ) (v w y z : List Float)
     → Ships weights squares r v y → Ships weights squares s w z → (r ≡ s) × (v ≡ w) × (y ≡ z)

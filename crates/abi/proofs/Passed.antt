@@ -30,10 +30,20 @@ passed-both {first = first} {second = second} {old = old} {old2 = old2} e h g k 
     record { code = h ∙ ap codeOf e; lent = g ∙ ap (after first old) e; lent2 = k ∙ ap (after second old2) e }
 
 -- ---- the doors that lend more
-pub traced : {bbs bytes : List ℕ} {side : ℕ} {counts entries : List ℤ} {x : Answer Trace} {n : ℕ} {counts′ entries′ : List ℤ}
-    → x ≡ tracedOf bbs bytes side entries → n ≡ codeOf x → counts′ ≡ after countsOf counts x
-    → entries′ ≡ entriesAfter (tracedOf bbs bytes side entries) bbs entries → ComputesTrace bbs bytes side counts entries n counts′ entries′
-traced {counts = counts} e h g k = record { code = h ∙ ap codeOf e; lent = g ∙ ap (after countsOf counts) e; marked = k }
+pub traced : (bbs bytes : List ℕ) (side : ℕ) {counts mobility : List ℤ} {sign pieces : ℤ} {entries : List ℤ}
+    {x : Answer Trace} {n : ℕ} {counts′ mobility′ : List ℤ} {sign′ pieces′ : ℤ} {entries′ : List ℤ}
+    → x ≡ tracedOf bbs bytes side entries → n ≡ codeOf x → counts′ ≡ after countsOf counts x → mobility′ ≡ after (λ (t : Trace). t .mobility) mobility x
+    → sign′ ≡ after (λ (t : Trace). t .side) sign x → pieces′ ≡ after (λ (t : Trace). t .«piece_count») pieces x
+    → entries′ ≡ entriesAfter (tracedOf bbs bytes side entries) bbs entries
+    → ComputesTrace bbs bytes side counts mobility sign pieces entries n counts′ mobility′ sign′ pieces′ entries′
+traced bbs bytes side {counts} {mobility} {sign} {pieces} e h g m s p k = record {
+  code = h ∙ ap codeOf e;
+  counted = g ∙ ap (after countsOf counts) e;
+  moved = m ∙ ap (after (λ (t : Trace). t .mobility) mobility) e;
+  turn = s ∙ ap (after (λ (t : Trace). t .side) sign) e;
+  total = p ∙ ap (after (λ (t : Trace). t .«piece_count») pieces) e;
+  marked = k;
+}
 
 pub ships : {weights squares : List Float} {x : Answer Unit} {n : ℕ} {weights′ squares′ : List Float}
     → x ≡ writtenOf squares → n ≡ codeOf x → weights′ ≡ after (λ (u : Unit). namedOf shipped) weights x → squares′ ≡ squaresAfter squares

@@ -12,6 +12,7 @@ use Rattle.exchange.specs.Answers.{lvpOf, seeOf}
 use Rattle.line.specs.Line.{Line, fieldOf}
 use Rattle.line.specs.Promises.{readOf, bitboardsAfter, boardAfter}
 use Rattle.score.specs.Score.{evalOf, endingOf, materialOf}
+use Rattle.double.specs.declared.Trace.{Trace}
 use Rattle.double.specs.Promises.{doubleOf}
 use Rattle.trace.specs.Promises.{tracedOf, entriesAfter, writtenOf, squaresAfter}
 use Rattle.trace.specs.Weights.{shipped}
@@ -67,13 +68,18 @@ abbrev pub See : List ℕ → List ℕ → ℕ → ℕ → ℕ → ℤ → ℕ �
 See bitboards board side from to worth r worth′ = Door (seeOf bitboards board side from to) same worth r worth′
 
 -- ---- traces
-pub record ComputesTrace (bitboards board : List ℕ) (side : ℕ) (counts entries : List ℤ) (r : ℕ) (counts′ entries′ : List ℤ) : Type 0 where
+pub record ComputesTrace (bitboards board : List ℕ) (side : ℕ) (counts mobility : List ℤ) (sign pieces : ℤ) (entries : List ℤ)
+    (r : ℕ) (counts′ mobility′ : List ℤ) (sign′ pieces′ : ℤ) (entries′ : List ℤ) : Type 0 where
   pub code : r ≡ codeOf (tracedOf bitboards board side entries)
-  pub lent : counts′ ≡ after countsOf counts (tracedOf bitboards board side entries)
+  pub counted : counts′ ≡ after countsOf counts (tracedOf bitboards board side entries)
+  pub moved : mobility′ ≡ after (λ (t : Trace). t .mobility) mobility (tracedOf bitboards board side entries)
+  pub turn : sign′ ≡ after (λ (t : Trace). t .side) sign (tracedOf bitboards board side entries)
+  pub total : pieces′ ≡ after (λ (t : Trace). t .«piece_count») pieces (tracedOf bitboards board side entries)
   pub marked : entries′ ≡ entriesAfter (tracedOf bitboards board side entries) bitboards entries
 
-abbrev pub EvalsTrace : List ℤ → List ℤ → List Float → List Float → Float → ℕ → Float → Type 0
-EvalsTrace counts entries weights squares value r value′ = Door (doubleOf (traceOf counts) entries (weightsOf weights) squares) same value r value′
+abbrev pub EvalsTrace : List ℤ → List ℤ → ℤ → ℤ → List ℤ → List Float → List Float → Float → ℕ → Float → Type 0
+EvalsTrace counts mobility sign pieces entries weights squares value r value′ =
+    Door (doubleOf (traceOf counts mobility sign pieces) entries (weightsOf weights) squares) same value r value′
 
 pub record Ships (weights squares : List Float) (r : ℕ) (weights′ squares′ : List Float) : Type 0 where
   pub code : r ≡ codeOf (writtenOf squares)

@@ -10,7 +10,7 @@ use Rattle.double.specs.declared.Weights.{Weights}
 abbrev pub at : List ℤ → ℕ → ℤ
 at l i = getD l i (pos 0)
 
--- what a trace has beside its entries: ten counts, two pair flags, twelve numbers of mobility, side, piece count
+-- a trace's ten counts and two pair flags, White's and then Black's of each
 abbrev pub countsOf : Trace → List ℤ
 countsOf t =
     at (t .pawns) 0 ∷ at (t .pawns) 1 ∷
@@ -18,27 +18,19 @@ countsOf t =
     at (t .bishops) 0 ∷ at (t .bishops) 1 ∷
     at (t .rooks) 0 ∷ at (t .rooks) 1 ∷
     at (t .queens) 0 ∷ at (t .queens) 1 ∷
-    at (t .«bishop_pair») 0 ∷ at (t .«bishop_pair») 1 ∷
-    at (t .mobility) 0 ∷ at (t .mobility) 1 ∷
-    at (t .mobility) 2 ∷ at (t .mobility) 3 ∷
-    at (t .mobility) 4 ∷ at (t .mobility) 5 ∷
-    at (t .mobility) 6 ∷ at (t .mobility) 7 ∷
-    at (t .mobility) 8 ∷ at (t .mobility) 9 ∷
-    at (t .mobility) 10 ∷ at (t .mobility) 11 ∷
-    t .side ∷ t .«piece_count» ∷ []
+    at (t .«bishop_pair») 0 ∷ at (t .«bishop_pair») 1 ∷ []
 
-abbrev pub traceOf : List ℤ → Trace
-traceOf l = record {
-  pawns = at l 0 ∷ at l 1 ∷ [];
-  knights = at l 2 ∷ at l 3 ∷ [];
-  bishops = at l 4 ∷ at l 5 ∷ [];
-  rooks = at l 6 ∷ at l 7 ∷ [];
-  queens = at l 8 ∷ at l 9 ∷ [];
-  «bishop_pair» = at l 10 ∷ at l 11 ∷ [];
-  mobility =
-      at l 12 ∷ at l 13 ∷ at l 14 ∷ at l 15 ∷ at l 16 ∷ at l 17 ∷ at l 18 ∷ at l 19 ∷ at l 20 ∷ at l 21 ∷ at l 22 ∷ at l 23 ∷ [];
-  side = at l 24;
-  «piece_count» = at l 25;
+abbrev pub traceOf : List ℤ → List ℤ → ℤ → ℤ → Trace
+traceOf counts mobility sign pieces = record {
+  pawns = at counts 0 ∷ at counts 1 ∷ [];
+  knights = at counts 2 ∷ at counts 3 ∷ [];
+  bishops = at counts 4 ∷ at counts 5 ∷ [];
+  rooks = at counts 6 ∷ at counts 7 ∷ [];
+  queens = at counts 8 ∷ at counts 9 ∷ [];
+  «bishop_pair» = at counts 10 ∷ at counts 11 ∷ [];
+  mobility = mobility;
+  side = sign;
+  «piece_count» = pieces;
 }
 
 -- "eleven named weights as doubles in one record"

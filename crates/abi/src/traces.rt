@@ -10,12 +10,14 @@ use position::Checked;
 use position::State;
 use trace::shipped::Written;
 
-// How many numbers a trace has beside its entries, and how many weights have a name.
-const COUNTS: usize = 26;
+// Six pairs of counts, White's and Black's; the numbers of mobility; the weights that have a name.
+const COUNTS: usize = 12;
+
+const MOBILITY: usize = 12;
 
 const NAMED: usize = 11;
 
-// A trace's 26 numbers, in the order of its fields.
+// A trace's counts and pair flags, in the order of its fields.
 fn counts_of(trace: Trace) -> [i32; COUNTS]
     ensures { λ r. ⌜ r ≡ countsOf trace ⌝ }
 {
@@ -25,7 +27,6 @@ fn counts_of(trace: Trace) -> [i32; COUNTS]
     let rooks = trace.rooks;
     let queens = trace.queens;
     let bishop_pair = trace.bishop_pair;
-    let mobility = trace.mobility;
     [
         pawns[0],
         pawns[1],
@@ -39,26 +40,13 @@ fn counts_of(trace: Trace) -> [i32; COUNTS]
         queens[1],
         bishop_pair[0],
         bishop_pair[1],
-        mobility[0],
-        mobility[1],
-        mobility[2],
-        mobility[3],
-        mobility[4],
-        mobility[5],
-        mobility[6],
-        mobility[7],
-        mobility[8],
-        mobility[9],
-        mobility[10],
-        mobility[11],
-        trace.side,
-        trace.piece_count,
     ]
 }
 
-fn trace_of(counts: &[i32; COUNTS]) -> Trace
-    ensures { λ r. ⌜ r ≡ traceOf (now (counts .entry)) ⌝ }
+fn trace_of(counts: &[i32; COUNTS], mobility: &[i32; MOBILITY], side: i32, pieces: i32) -> Trace
+    ensures { λ r. ⌜ r ≡ traceOf (now (counts .entry)) (now (mobility .entry)) side pieces ⌝ }
 {
+    let mobility = *mobility;
     Trace {
         pawns: [counts[0], counts[1]],
         knights: [counts[2], counts[3]],
@@ -66,22 +54,9 @@ fn trace_of(counts: &[i32; COUNTS]) -> Trace
         rooks: [counts[6], counts[7]],
         queens: [counts[8], counts[9]],
         bishop_pair: [counts[10], counts[11]],
-        mobility: [
-            counts[12],
-            counts[13],
-            counts[14],
-            counts[15],
-            counts[16],
-            counts[17],
-            counts[18],
-            counts[19],
-            counts[20],
-            counts[21],
-            counts[22],
-            counts[23],
-        ],
-        side: counts[24],
-        piece_count: counts[25],
+        mobility,
+        side,
+        piece_count: pieces,
     }
 }
 
@@ -128,9 +103,12 @@ pub extern "C" fn chess_compute_trace(
     board: &[u8],
     side: u8,
     counts: &mut [i32; COUNTS],
+    mobility: &mut [i32; MOBILITY],
+    sign: &mut i32,
+    pieces: &mut i32,
     entries: &mut [i32],
 ) -> u8
-    ensures { λ r. ⌜ ComputesTrace (now (bitboards .entry)) (now (board .entry)) side (now (counts .entry)) (now (entries .entry)) r (now (counts .exit)) (now (entries .exit)) ⌝ }
+    ensures { λ r. ⌜ ComputesTrace (now (bitboards .entry)) (now (board .entry)) side (now (counts .entry)) (now (mobility .entry)) (now (sign .entry)) (now (pieces .entry)) (now (entries .entry)) r (now (counts .exit)) (now (mobility .exit)) (now (sign .exit)) (now (pieces .exit)) (now (entries .exit)) ⌝ }
 {
     let traced = trace::compute_trace(bitboards, board, State { side }, entries);
     let checked = traced.checked;
@@ -139,6 +117,12 @@ pub extern "C" fn chess_compute_trace(
     }
     let trace = traced.trace;
     *counts = counts_of(trace);
+    let moved = trace.mobility;
+    *mobility = moved;
+    let turn = trace.side;
+    *sign = turn;
+    let total = trace.piece_count;
+    *pieces = total;
     GIVEN
 }
 
@@ -146,14 +130,18 @@ pub extern "C" fn chess_compute_trace(
 #[no_mangle]
 pub extern "C" fn chess_trace_eval(
     counts: &[i32; COUNTS],
+    mobility: &[i32; MOBILITY],
+    sign: i32,
+    pieces: i32,
     entries: &[i32],
     weights: &[f64; NAMED],
     squares: &[f64],
     value: &mut f64,
 ) -> u8
-    ensures { λ r. ⌜ EvalsTrace (now (counts .entry)) (now (entries .entry)) (now (weights .entry)) (now (squares .entry)) (now (value .entry)) r (now (value .exit)) ⌝ }
+    ensures { λ r. ⌜ EvalsTrace (now (counts .entry)) (now (mobility .entry)) sign pieces (now (entries .entry)) (now (weights .entry)) (now (squares .entry)) (now (value .entry)) r (now (value .exit)) ⌝ }
 {
-    let answer = trace_of(counts).eval(entries, weights_of(weights), squares);
+    let trace = trace_of(counts, mobility, sign, pieces);
+    let answer = trace.eval(entries, weights_of(weights), squares);
     match answer {
         Doubled::Refused(refusal) => refusal.number(),
         Doubled::Is(x) => {

@@ -1,6 +1,8 @@
 -- `abi::traces::chess_compute_trace` meets its contract. Assumes nothing.
 use mathlib.Core.Path.{refl, sym, ap, _∙_}
+use denote.Ref.{now}
 use Rattle.position.specs.declared.Checked.{Checked}
+use Rattle.double.proofs.Held.{read}
 use Rattle.trace.specs.Promises.{paperOf}
 use Rattle.abi.proofs.Passed.{traced}
 use borrow.Author.Needs.{needs}
@@ -23,7 +25,9 @@ returns : tie.Need-returns
 returns c =
     let k = c .before .before .before .before .before in
     let r = k .compute-trace .result in
-    traced (sym (ap (λ (x : Checked). paperOf x (r .trace)) (c .before .before .checked .given .1)) ∙ k .compute-trace .ensures .0) (c .number .ensures) refl
+    let s = k .before .before .before .before in
+    traced (now (s .args .bitboards)) (now (s .args .board)) (s .args .side)
+    (sym (ap (λ (x : Checked). paperOf x (r .trace)) (c .before .before .checked .given .1)) ∙ k .compute-trace .ensures .0) (c .number .ensures) refl refl refl refl
     (k .compute-trace .ensures .2)
 
 enum-told : tie.Need-enum-told
@@ -37,10 +41,14 @@ same-length-2 c = search needs
 
 returns-2 : tie.Need-returns-2
 returns-2 c =
-    let t = c .before .before in
+    let n = c .before .before .before in
+    let t = n .before .before in
     let k = t .before .before .before in
     let r = k .compute-trace .result in
-    traced (sym (ap (λ (x : Checked). paperOf x (r .trace)) (t .enum-told .given .1)) ∙ k .compute-trace .ensures .0) refl (c .counts-of .ensures)
+    let s = k .before .before .before .before in
+    traced (now (s .args .bitboards)) (now (s .args .board)) (s .args .side)
+    (sym (ap (λ (x : Checked). paperOf x (r .trace)) (t .enum-told .given .1)) ∙ k .compute-trace .ensures .0) refl (n .counts-of .ensures) refl
+    (read _ (c .before .struct-told .given .1 .1 .1 .1 .1 .1 .1 .0 .1)) (read _ (c .struct-told2 .given .1 .1 .1 .1 .1 .1 .1 .1 .0 .1))
     (k .compute-trace .ensures .2)
 
 pub chess-compute-trace-spec : {M : Type 1} → statement M

@@ -1,0 +1,4 @@
+pub mod Passed
+pub mod Read
+pub mod Found
+pub mod Determined

@@ -1,0 +1,40 @@
+-- `abi::attacks::chess_is_attacked` meets its contract. Assumes nothing.
+use mathlib.Core.Path.{refl}
+use Rattle.attack.specs.Answers.{told}
+use Rattle.abi.proofs.Passed.{met, passed}
+use borrow.Author.Needs.{needs}
+use Rattle.abi.proofs.attacks.chess_is_attacked.Statement.{statement}
+use Rattle.abi.proofs.attacks.chess_is_attacked.Tie as tie
+
+is-attacked-requires : tie.Need-is-attacked-requires
+is-attacked-requires c κs = search needs
+
+enum-known-answer : tie.Need-enum-known-answer
+enum-known-answer c = search needs
+
+number-requires : tie.Need-number-requires
+number-requires c κs = search needs
+
+enum-known-answer-2 : tie.Need-enum-known-answer-2
+enum-known-answer-2 c = search needs
+
+returns : tie.Need-returns
+returns c =
+    let k = c .before .before .before .before in
+    passed (met told (k .is-attacked .ensures) (c .before .before .answer .given .1)) (c .number .ensures) refl
+
+returns-2 : tie.Need-returns-2
+returns-2 c =
+    let k = c .before .before .before in
+    passed (met told (k .is-attacked .ensures) (c .before .answer2 .given .1)) refl refl
+
+pub chess-is-attacked-spec : {M : Type 1} → statement M
+chess-is-attacked-spec =
+    tie.close
+    (tie.spec
+    is-attacked-requires
+    enum-known-answer
+    number-requires
+    enum-known-answer-2
+    returns
+    returns-2)

@@ -1,0 +1,50 @@
+-- `abi::exchanges::chess_lvp` meets its contract. Assumes nothing.
+use mathlib.Core.Path.{refl}
+use Rattle.exchange.specs.Answers.{least}
+use Rattle.abi.proofs.Passed.{met, passed-both}
+use borrow.Author.Needs.{needs}
+use Rattle.abi.proofs.exchanges.chess_lvp.Statement.{statement}
+use Rattle.abi.proofs.exchanges.chess_lvp.Tie as tie
+
+lvp-requires : tie.Need-lvp-requires
+lvp-requires c κs = search needs
+
+enum-known-answer : tie.Need-enum-known-answer
+enum-known-answer c = search needs
+
+number-requires : tie.Need-number-requires
+number-requires c κs = search needs
+
+enum-told : tie.Need-enum-told
+enum-told c = search needs
+
+enum-known-answer-2 : tie.Need-enum-known-answer-2
+enum-known-answer-2 c = search needs
+
+returns : tie.Need-returns
+returns c =
+    let k = c .before .before .before .before in
+    passed-both (met least (k .lvp .ensures) (c .before .before .answer .given .1)) (c .number .ensures) refl refl
+
+returns-2 : tie.Need-returns-2
+returns-2 c =
+    let k = c .before .before in
+    passed-both (met least (k .lvp .ensures) (c .enum-told .given .1)) refl refl refl
+
+returns-3 : tie.Need-returns-3
+returns-3 c =
+    let k = c .before .before .before in
+    passed-both (met least (k .lvp .ensures) (c .before .answer2 .given .1)) refl refl refl
+
+pub chess-lvp-spec : {M : Type 1} → statement M
+chess-lvp-spec =
+    tie.close
+    (tie.spec
+    lvp-requires
+    enum-known-answer
+    number-requires
+    enum-told
+    enum-known-answer-2
+    returns
+    returns-2
+    returns-3)

@@ -1,0 +1,36 @@
+-- `abi::exchanges::chess_see` meets its contract. Assumes nothing.
+use mathlib.Core.Path.{refl}
+use mir.Syntax.{w16}
+use mir.Facts.{toZ-ofZ}
+use Rattle.exchange.specs.Answers.{exchanged}
+use Rattle.abi.proofs.Passed.{met, passed}
+use borrow.Author.Needs.{needs, sfits-of}
+use Rattle.abi.proofs.exchanges.chess_see.Statement.{statement}
+use Rattle.abi.proofs.exchanges.chess_see.Tie as tie
+
+see-requires : tie.Need-see-requires
+see-requires c κs = search needs
+
+enum-known-answer : tie.Need-enum-known-answer
+enum-known-answer c = search needs
+
+number-requires : tie.Need-number-requires
+number-requires c κs = search needs
+
+enum-known-answer-2 : tie.Need-enum-known-answer-2
+enum-known-answer-2 c = search needs
+
+returns : tie.Need-returns
+returns c =
+    let k = c .before .before .before .before in
+    passed (met exchanged (k .see .ensures) (c .before .before .answer .given .1)) (c .number .ensures) refl
+
+returns-2 : tie.Need-returns-2
+returns-2 c =
+    let k = c .before .before .before in
+    passed (met exchanged (k .see .ensures) (c .before .answer2 .given .1)) refl (toZ-ofZ {w = w16} (sfits-of (c .known-told2 .given .0 .1)))
+
+pub chess-see-spec : {M : Type 1} → statement M
+chess-see-spec =
+    tie.close
+    (tie.spec see-requires enum-known-answer number-requires enum-known-answer-2 returns returns-2)

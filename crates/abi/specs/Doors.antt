@@ -1,0 +1,43 @@
+-- How an answer of document 01 passes through a door of C: a number comes back, and the answer's own numbers stand in lent memory. Definitions only.
+use mathlib.Core.Bool.{Bool, true, false}
+use mathlib.Core.List.{List, [], _∷_}
+use Prim.Native.Nat.{ℕ}
+use lib.IntN.{ℤ, pos}
+use Rattle.chess.specs.Answer.{Answer, given, refused}
+use Rattle.score.specs.Verdict as P
+use Rattle.score.specs.Score.{Outcome, verdict, score}
+
+-- the refusal's number, and 0 of an answer: no refusal has it
+abbrev pub codeOf : {A : Type 0} → Answer A → ℕ
+codeOf (given a) = 0
+codeOf (refused n l) = n
+
+-- what stands in lent memory afterwards: "Every refusal returns its number only .. and changes no lent byte"
+abbrev pub after : {A B : Type 0} → (A → B) → B → Answer A → B
+after part old (given a) = part a
+after part old (refused n l) = old
+
+-- ---- a verdict's number, none 0
+abbrev pub verdictCode : P.Verdict → ℕ
+verdictCode P.none = 0
+verdictCode P.lost = 1
+verdictCode P.won = 2
+verdictCode P.drawn = 3
+
+-- a verdict or a score as two numbers, each 0 where the other is meant
+abbrev pub outcomeVerdict : Outcome → ℕ
+outcomeVerdict (verdict v) = verdictCode v
+outcomeVerdict (score z) = 0
+
+abbrev pub outcomeScore : Outcome → ℤ
+outcomeScore (verdict v) = pos 0
+outcomeScore (score z) = z
+
+-- ---- a square or nobody: whether there is one, and the square, 0 beside nobody
+abbrev pub anyone : List ℕ → Bool
+anyone [] = false
+anyone (s ∷ l) = true
+
+abbrev pub squareOr : List ℕ → ℕ
+squareOr [] = 0
+squareOr (s ∷ l) = s

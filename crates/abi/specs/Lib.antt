@@ -1,0 +1,4 @@
+pub mod Doors
+pub mod Part
+pub mod Records
+pub mod Promises

@@ -1,0 +1,99 @@
+-- What each door promises, for all inputs: the number that comes back and every lent number afterwards. Definitions only.
+use mathlib.Core.Path.{_≡_}
+use mathlib.Core.Bool.{Bool}
+use mathlib.Core.List.{List}
+use Prim.Native.Nat.{ℕ}
+use lib.Ieee.{Float}
+use lib.IntN.{ℤ}
+use lib.ListN.{length}
+use Rattle.chess.specs.Answer.{Answer}
+use Rattle.attack.specs.Answers.{pieceAttacksOf, attacksToOf, isAttackedOf, isCheckOf}
+use Rattle.exchange.specs.Answers.{lvpOf, seeOf}
+use Rattle.line.specs.Line.{Line, fieldOf}
+use Rattle.line.specs.Promises.{readOf, bitboardsAfter, boardAfter}
+use Rattle.score.specs.Score.{evalOf, endingOf, materialOf}
+use Rattle.double.specs.declared.Trace.{Trace}
+use Rattle.double.specs.Promises.{doubleOf}
+use Rattle.trace.specs.Promises.{tracedOf, entriesAfter, writtenOf, squaresAfter}
+use Rattle.trace.specs.Weights.{shipped}
+use Rattle.abi.specs.Doors.{codeOf, after, verdictCode, outcomeVerdict, outcomeScore, anyone, squareOr}
+use Rattle.abi.specs.Part.{startOf}
+use Rattle.abi.specs.Records.{countsOf, traceOf, namedOf, weightsOf}
+use Rattle.abi.specs.declared.lines.Part.{Part}
+
+-- a door that lends one number: what comes back, and what it is afterwards
+pub record Door {A B : Type 0} (a : Answer A) (part : A → B) (old : B) (r : ℕ) (new : B) : Type 0 where
+  pub code : r ≡ codeOf a
+  pub lent : new ≡ after part old a
+
+-- and one that lends two
+pub record Doors {A B C : Type 0} (a : Answer A) (first : A → B) (second : A → C) (old : B) (old2 : C) (r : ℕ) (new : B) (new2 : C) : Type 0 where
+  pub code : r ≡ codeOf a
+  pub lent : new ≡ after first old a
+  pub lent2 : new2 ≡ after second old2 a
+
+abbrev same : {A : Type 0} → A → A
+same a = a
+
+-- ---- scores
+abbrev pub EvalsEnding : List ℕ → List ℕ → ℕ → ℕ → ℕ → ℕ → Type 0
+EvalsEnding bitboards board side verdict r verdict′ = Door (endingOf bitboards board side) verdictCode verdict r verdict′
+
+abbrev pub EvalsMaterial : List ℕ → List ℕ → ℕ → ℕ → ℤ → ℕ → ℤ → Type 0
+EvalsMaterial bitboards board side colour material r material′ = Door (materialOf bitboards board side colour) same material r material′
+
+abbrev pub Evals : List ℕ → List ℕ → ℕ → ℕ → ℤ → ℕ → ℕ → ℤ → Type 0
+Evals bitboards board side verdict score r verdict′ score′ =
+    Doors (evalOf bitboards board side) outcomeVerdict outcomeScore verdict score r verdict′ score′
+
+-- ---- attacks
+abbrev pub PieceAttacks : ℕ → ℕ → ℕ → ℕ → ℕ → ℕ → Type 0
+PieceAttacks piece square occupied squares r squares′ = Door (pieceAttacksOf piece square occupied) same squares r squares′
+
+abbrev pub AttacksTo : List ℕ → List ℕ → ℕ → ℕ → ℕ → ℕ → ℕ → ℕ → Type 0
+AttacksTo bitboards board side square occupied squares r squares′ = Door (attacksToOf bitboards board side square occupied) same squares r squares′
+
+abbrev pub IsAttacked : List ℕ → List ℕ → ℕ → ℕ → ℕ → Bool → ℕ → Bool → Type 0
+IsAttacked bitboards board side square colour attacked r attacked′ = Door (isAttackedOf bitboards board side square colour) same attacked r attacked′
+
+abbrev pub IsCheck : List ℕ → List ℕ → ℕ → ℕ → Bool → ℕ → Bool → Type 0
+IsCheck bitboards board side colour check r check′ = Door (isCheckOf bitboards board side colour) same check r check′
+
+-- ---- exchanges
+abbrev pub Lvp : List ℕ → List ℕ → ℕ → ℕ → ℕ → ℕ → Bool → ℕ → ℕ → Bool → ℕ → Type 0
+Lvp bitboards board side colour attacks occupied found square r found′ square′ =
+    Doors (lvpOf bitboards board side colour attacks occupied) anyone squareOr found square r found′ square′
+
+abbrev pub See : List ℕ → List ℕ → ℕ → ℕ → ℕ → ℤ → ℕ → ℤ → Type 0
+See bitboards board side from to worth r worth′ = Door (seeOf bitboards board side from to) same worth r worth′
+
+-- ---- traces
+pub record ComputesTrace (bitboards board : List ℕ) (side : ℕ) (counts mobility : List ℤ) (sign pieces : ℤ) (entries : List ℤ)
+    (r : ℕ) (counts′ mobility′ : List ℤ) (sign′ pieces′ : ℤ) (entries′ : List ℤ) : Type 0 where
+  pub code : r ≡ codeOf (tracedOf bitboards board side entries)
+  pub counted : counts′ ≡ after countsOf counts (tracedOf bitboards board side entries)
+  pub moved : mobility′ ≡ after (λ (t : Trace). t .mobility) mobility (tracedOf bitboards board side entries)
+  pub turn : sign′ ≡ after (λ (t : Trace). t .side) sign (tracedOf bitboards board side entries)
+  pub total : pieces′ ≡ after (λ (t : Trace). t .«piece_count») pieces (tracedOf bitboards board side entries)
+  pub marked : entries′ ≡ entriesAfter (tracedOf bitboards board side entries) bitboards entries
+
+abbrev pub EvalsTrace : List ℤ → List ℤ → ℤ → ℤ → List ℤ → List Float → List Float → Float → ℕ → Float → Type 0
+EvalsTrace counts mobility sign pieces entries weights squares value r value′ =
+    Door (doubleOf (traceOf counts mobility sign pieces) entries (weightsOf weights) squares) same value r value′
+
+pub record Ships (weights squares : List Float) (r : ℕ) (weights′ squares′ : List Float) : Type 0 where
+  pub code : r ≡ codeOf (writtenOf squares)
+  pub lent : weights′ ≡ after (λ (u : Unit). namedOf shipped) weights (writtenOf squares)
+  pub written : squares′ ≡ squaresAfter squares
+
+-- ---- lines
+pub record ReadsLine (line bitboards board : List ℕ) (side half r : ℕ) (bitboards′ board′ : List ℕ) (side′ half′ : ℕ) : Type 0 where
+  pub code : r ≡ codeOf (readOf line bitboards board)
+  pub boards : bitboards′ ≡ bitboardsAfter (readOf line bitboards board) bitboards
+  pub bytes : board′ ≡ boardAfter (readOf line bitboards board) board
+  pub lent : side′ ≡ after (λ (l : Line). l .state .side) side (readOf line bitboards board)
+  pub lent2 : half′ ≡ after (λ (l : Line). l .half) half (readOf line bitboards board)
+
+pub record GivesPart (line : List ℕ) (r : Part) : Type 0 where
+  pub start : r .start ≡ startOf line
+  pub length : r .length ≡ length (fieldOf line)

@@ -1,0 +1,86 @@
+// What a piece attacks, who attacks a square, check.
+ghost use Rattle.abi.specs.Promises.{PieceAttacks, AttacksTo, IsAttacked, IsCheck};
+use crate::GIVEN;
+use attack::Found;
+use attack::Told;
+use position::State;
+
+// The squares that a piece attacks: SHAPE, SQUARE.
+#[no_mangle]
+pub extern "C" fn chess_piece_attacks(piece: u8, square: u8, occupied: u64, squares: &mut u64) -> u8
+    ensures { λ r. ⌜ PieceAttacks piece square occupied (now (squares .entry)) r (now (squares .exit)) ⌝ }
+{
+    let answer = attack::piece_attacks(piece, square, occupied);
+    match answer {
+        Found::Refused(refusal) => refusal.number(),
+        Found::Squares(b) => {
+            *squares = b;
+            GIVEN
+        }
+    }
+}
+
+// The squares of the attackers of both colours, whether they stand in `occupied` or not: SHAPE, BOARD, SQUARE.
+#[no_mangle]
+pub extern "C" fn chess_attacks_to(
+    bitboards: &[u64],
+    board: &[u8],
+    side: u8,
+    square: u8,
+    occupied: u64,
+    squares: &mut u64,
+) -> u8
+    ensures { λ r. ⌜ AttacksTo (now (bitboards .entry)) (now (board .entry)) side square occupied (now (squares .entry)) r (now (squares .exit)) ⌝ }
+{
+    let answer = attack::attacks_to(bitboards, board, State { side }, square, occupied);
+    match answer {
+        Found::Refused(refusal) => refusal.number(),
+        Found::Squares(b) => {
+            *squares = b;
+            GIVEN
+        }
+    }
+}
+
+// Whether a piece of the colour other than the one named attacks a square: SHAPE, BOARD, SQUARE.
+#[no_mangle]
+pub extern "C" fn chess_is_attacked(
+    bitboards: &[u64],
+    board: &[u8],
+    side: u8,
+    square: u8,
+    color: u8,
+    attacked: &mut bool,
+) -> u8
+    ensures { λ r. ⌜ IsAttacked (now (bitboards .entry)) (now (board .entry)) side square color (now (attacked .entry)) r (now (attacked .exit)) ⌝ }
+{
+    let answer = attack::is_attacked(bitboards, board, State { side }, square, color);
+    match answer {
+        Told::Refused(refusal) => refusal.number(),
+        Told::Is(is) => {
+            *attacked = is;
+            GIVEN
+        }
+    }
+}
+
+// Whether a colour's king is attacked, the lowest if it has several; true if it has none: SHAPE, BOARD.
+#[no_mangle]
+pub extern "C" fn chess_is_check(
+    bitboards: &[u64],
+    board: &[u8],
+    side: u8,
+    color: u8,
+    check: &mut bool,
+) -> u8
+    ensures { λ r. ⌜ IsCheck (now (bitboards .entry)) (now (board .entry)) side color (now (check .entry)) r (now (check .exit)) ⌝ }
+{
+    let answer = attack::is_check(bitboards, board, State { side }, color);
+    match answer {
+        Told::Refused(refusal) => refusal.number(),
+        Told::Is(is) => {
+            *check = is;
+            GIVEN
+        }
+    }
+}

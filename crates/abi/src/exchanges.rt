@@ -1,0 +1,58 @@
+// The least attacker and the exchange.
+ghost use Rattle.abi.specs.Promises.{Lvp, See};
+use crate::GIVEN;
+use exchange::Exchanged;
+use exchange::Least;
+use position::State;
+
+// Whether there is an attacker of the colour, in `attacks` and in `occupied`, and the square of the least; 0 beside none: SHAPE, BOARD.
+#[no_mangle]
+pub extern "C" fn chess_lvp(
+    bitboards: &[u64],
+    board: &[u8],
+    side: u8,
+    color: u8,
+    attacks: u64,
+    occupied: u64,
+    found: &mut bool,
+    square: &mut u8,
+) -> u8
+    ensures { λ r. ⌜ Lvp (now (bitboards .entry)) (now (board .entry)) side color attacks occupied (now (found .entry)) (now (square .entry)) r (now (found .exit)) (now (square .exit)) ⌝ }
+{
+    let answer = exchange::lvp(bitboards, board, State { side }, color, attacks, occupied);
+    match answer {
+        Least::Refused(refusal) => refusal.number(),
+        Least::Nobody => {
+            *found = false;
+            *square = 0;
+            GIVEN
+        }
+        Least::At(s) => {
+            *found = true;
+            *square = s;
+            GIVEN
+        }
+    }
+}
+
+// What the exchange that a capture starts is worth to the side to move: SHAPE, BOARD, SQUARE, MOVE, CROWD.
+#[no_mangle]
+pub extern "C" fn chess_see(
+    bitboards: &[u64],
+    board: &[u8],
+    side: u8,
+    from: u8,
+    to: u8,
+    worth: &mut i16,
+) -> u8
+    ensures { λ r. ⌜ See (now (bitboards .entry)) (now (board .entry)) side from to (now (worth .entry)) r (now (worth .exit)) ⌝ }
+{
+    let answer = exchange::see(bitboards, board, State { side }, from, to);
+    match answer {
+        Exchanged::Refused(refusal) => refusal.number(),
+        Exchanged::Worth(z) => {
+            *worth = z;
+            GIVEN
+        }
+    }
+}

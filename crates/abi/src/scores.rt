@@ -1,0 +1,100 @@
+// Verdict, material and score.
+ghost use Rattle.abi.specs.Promises.{EvalsEnding, EvalsMaterial, Evals};
+use crate::GIVEN;
+use position::State;
+use score::Ending;
+use score::Material;
+use score::Scored;
+use score::Verdict;
+
+// Verdicts as numbers; none where there is a score.
+pub const NONE: u8 = 0;
+
+pub const LOST: u8 = 1;
+
+pub const WON: u8 = 2;
+
+pub const DRAWN: u8 = 3;
+
+// The verdict for the side to move: SHAPE, BOARD.
+#[no_mangle]
+pub extern "C" fn chess_eval_ending(
+    bitboards: &[u64],
+    board: &[u8],
+    side: u8,
+    verdict: &mut u8,
+) -> u8
+    ensures { λ r. ⌜ EvalsEnding (now (bitboards .entry)) (now (board .entry)) side (now (verdict .entry)) r (now (verdict .exit)) ⌝ }
+{
+    let answer = score::eval_ending(bitboards, board, State { side });
+    match answer {
+        Ending::Refused(refusal) => refusal.number(),
+        Ending::Is(is) => {
+            match is {
+                Verdict::Lost => *verdict = LOST,
+                Verdict::Won => *verdict = WON,
+                Verdict::Drawn => *verdict = DRAWN,
+                Verdict::None => *verdict = NONE,
+            }
+            GIVEN
+        }
+    }
+}
+
+// What a colour's pieces are worth, without the pair of bishops: SHAPE, BOARD, SCORE.
+#[no_mangle]
+pub extern "C" fn chess_eval_material(
+    bitboards: &[u64],
+    board: &[u8],
+    side: u8,
+    color: u8,
+    material: &mut i16,
+) -> u8
+    ensures { λ r. ⌜ EvalsMaterial (now (bitboards .entry)) (now (board .entry)) side color (now (material .entry)) r (now (material .exit)) ⌝ }
+{
+    let answer = score::eval_material(bitboards, board, State { side }, color);
+    match answer {
+        Material::Refused(refusal) => refusal.number(),
+        Material::Is(z) => {
+            *material = z;
+            GIVEN
+        }
+    }
+}
+
+// The verdict, and beside it 0; or none, and the score for the side to move: SHAPE, BOARD, SCORE.
+#[no_mangle]
+pub extern "C" fn chess_eval(
+    bitboards: &[u64],
+    board: &[u8],
+    side: u8,
+    verdict: &mut u8,
+    score: &mut i16,
+) -> u8
+    ensures { λ r. ⌜ Evals (now (bitboards .entry)) (now (board .entry)) side (now (verdict .entry)) (now (score .entry)) r (now (verdict .exit)) (now (score .exit)) ⌝ }
+{
+    let answer = score::eval(bitboards, board, State { side });
+    match answer {
+        Scored::Refused(refusal) => refusal.number(),
+        Scored::Lost => {
+            *verdict = LOST;
+            *score = 0;
+            GIVEN
+        }
+        Scored::Won => {
+            *verdict = WON;
+            *score = 0;
+            GIVEN
+        }
+        Scored::Drawn => {
+            *verdict = DRAWN;
+            *score = 0;
+            GIVEN
+        }
+        Scored::Score(z) => {
+            *verdict = NONE;
+            *score = z;
+            GIVEN
+        }
+    }
+}

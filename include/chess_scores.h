@@ -1,0 +1,133 @@
+/* Chess scores, exchanges and traces, every one proved: the doors for C.
+ *
+ * Every function returns 0 where it has an answer, and the answer's numbers then stand where the last pointers point; or it returns the
+ * number of a refusal, the first in the order that is named with the function, and has written nothing.
+ *
+ * A slice is a pointer and a length. A length that is not the one asked for is refused (SHAPE); what C must see to itself is that the
+ * pointers are valid for their lengths, that no pointer is null, not even that of an empty slice, that those written through overlap
+ * nothing else that the call is handed, and that a bool is 0 or 1.
+ *
+ * A position is 14 bitboards, 64 board bytes and a side. Bitboard c, from 2 to 13, has the squares of the pieces of code c (pawn 2,
+ * knight 4, king 6, bishop 8, rook 10, queen 12, one more for Black); bitboards 0 and 1 have all of White's and all of Black's. Bit s
+ * is square s, a1 = 0, b1 = 1, h8 = 63. Board byte s is the code of the piece on s, or 0. chess_read_line makes one. */
+#ifndef CHESS_SCORES_H
+#define CHESS_SCORES_H
+
+#include <stdbool.h>
+#include <stddef.h>
+#include <stdint.h>
+
+#ifdef __cplusplus
+extern "C" {
+#endif
+
+enum { CHESS_BITBOARDS = 14, CHESS_SQUARES = 64, CHESS_COUNTS = 12, CHESS_NAMED_WEIGHTS = 11, CHESS_ENTRIES = 768, CHESS_SQUARE_WEIGHTS = 768 };
+
+enum { CHESS_WHITE = 0, CHESS_BLACK = 1 };
+
+/* Refusals. */
+enum {
+    CHESS_SHAPE = 1,   /* a length, a side, a colour or a piece code that none has */
+    CHESS_BOARD = 2,   /* bitboards and board bytes that do not agree */
+    CHESS_SCORE = 3,   /* a number leaves 16 bits on the way to the score */
+    CHESS_SQUARE = 4,  /* a square above 63 */
+    CHESS_MOVE = 5,    /* no capture by the side to move */
+    CHESS_CROWD = 6,   /* over 32 pieces, or two or more kings of one colour */
+    CHESS_TRACE = 7,   /* a number of a trace out of its range */
+    CHESS_LONG = 8,    /* a line over 256 bytes */
+    CHESS_BYTE = 9,    /* a byte other than 32 to 126, tab and CR */
+    CHESS_FIELD = 10,  /* no `;` */
+    CHESS_PLACE = 11,  /* bad ranks */
+    CHESS_SIDE = 12,   /* bad side */
+    CHESS_RESULT = 13  /* unknown result */
+};
+
+/* Verdicts. */
+enum { CHESS_NONE = 0, CHESS_LOST = 1, CHESS_WON = 2, CHESS_DRAWN = 3 };
+
+/* A part of the caller's line. */
+typedef struct {
+    size_t start;
+    size_t length;
+} chess_part;
+
+/* ---- lines */
+
+/* Reads one line of a collection, `POSITION;RESULT`, without its LF and the CR before that: 14 bitboards, 64 bytes, the side to move
+ * and the half points for White (1-0 is 2, 1/2-1/2 is 1, 0-1 is 0). SHAPE, LONG, BYTE, FIELD, PLACE, SIDE, RESULT. */
+uint8_t chess_read_line(const uint8_t *line, size_t line_length, uint64_t *bitboards, size_t bitboards_length, uint8_t *board,
+                        size_t board_length, uint8_t *side, uint8_t *half_points);
+
+/* Where the trimmed position field stands in the line; of length 0, and at 0, exactly if the line is refused. */
+chess_part chess_position_field(const uint8_t *line, size_t line_length);
+
+/* ---- scores: of a position for the side to move */
+
+/* The verdict: fewer than two kings in all is lost or won; fewer than four pieces and only kings, knights and bishops is drawn; else
+ * none. SHAPE, BOARD. */
+uint8_t chess_eval_ending(const uint64_t *bitboards, size_t bitboards_length, const uint8_t *board, size_t board_length, uint8_t side,
+                          uint8_t *verdict);
+
+/* What a colour's pieces are worth, without the pair of bishops. SHAPE (the colour too), BOARD, SCORE. */
+uint8_t chess_eval_material(const uint64_t *bitboards, size_t bitboards_length, const uint8_t *board, size_t board_length, uint8_t side,
+                            uint8_t color, int16_t *material);
+
+/* A verdict, and 0 for the score; or CHESS_NONE, and the score. SHAPE, BOARD, SCORE. */
+uint8_t chess_eval(const uint64_t *bitboards, size_t bitboards_length, const uint8_t *board, size_t board_length, uint8_t side,
+                   uint8_t *verdict, int16_t *score);
+
+/* ---- attacks */
+
+/* The squares that a piece of a code attacks from a square, each ray up to and including the first square of `occupied`.
+ * SHAPE (the code), SQUARE. */
+uint8_t chess_piece_attacks(uint8_t piece, uint8_t square, uint64_t occupied, uint64_t *squares);
+
+/* The squares of the pieces of both colours that attack a square, whether they stand in `occupied` or not. SHAPE, BOARD, SQUARE. */
+uint8_t chess_attacks_to(const uint64_t *bitboards, size_t bitboards_length, const uint8_t *board, size_t board_length, uint8_t side,
+                         uint8_t square, uint64_t occupied, uint64_t *squares);
+
+/* Whether a piece of the colour other than the one named attacks a square. SHAPE (the colour too), BOARD, SQUARE. */
+uint8_t chess_is_attacked(const uint64_t *bitboards, size_t bitboards_length, const uint8_t *board, size_t board_length, uint8_t side,
+                          uint8_t square, uint8_t color, bool *attacked);
+
+/* Whether the colour's king is attacked, the lowest if it has several; true if it has none. SHAPE (the colour too), BOARD. */
+uint8_t chess_is_check(const uint64_t *bitboards, size_t bitboards_length, const uint8_t *board, size_t board_length, uint8_t side,
+                       uint8_t color, bool *check);
+
+/* ---- exchanges */
+
+/* Whether the colour has a piece in `attacks` and `occupied`, and the lowest square of the first kind that has one, in the order
+ * pawn, knight, bishop, rook, queen, king; 0 beside false. SHAPE (the colour too), BOARD. */
+uint8_t chess_lvp(const uint64_t *bitboards, size_t bitboards_length, const uint8_t *board, size_t board_length, uint8_t side,
+                  uint8_t color, uint64_t attacks, uint64_t occupied, bool *found, uint8_t *square);
+
+/* What the exchange that the capture `from`-`to` starts is worth to the side to move. SHAPE, BOARD, SQUARE, MOVE, CROWD. */
+uint8_t chess_see(const uint64_t *bitboards, size_t bitboards_length, const uint8_t *board, size_t board_length, uint8_t side,
+                  uint8_t from, uint8_t to, int16_t *worth);
+
+/* ---- traces
+ *
+ * Kinds run 0 to 5: pawn, knight, bishop, rook, queen, king. counts[2 * kind + colour] counts the pieces of the first five kinds, and
+ * counts[10 + colour] is 1 for two or more bishops. mobility[2 * kind + colour] counts the squares that they attack. sign is 1 for
+ * White to move and -1 for Black. entries[128 * kind + 2 * square + colour] is 1 where a piece stands, Black's squares xor 56. */
+
+/* The trace of a position. SHAPE (also not 768 entries), BOARD. */
+uint8_t chess_compute_trace(const uint64_t *bitboards, size_t bitboards_length, const uint8_t *board, size_t board_length, uint8_t side,
+                            int32_t counts[CHESS_COUNTS], int32_t mobility[CHESS_COUNTS], int32_t *sign, int32_t *piece_count,
+                            int32_t *entries, size_t entries_length);
+
+/* The double of a trace under weights, in the order of the original's operations, one rounding for each: the eleven named weights are
+ * pawn, knight, bishop, rook, queen, pair of bishops, mobility of knight, bishop, rook and queen, and tempo; a square weight is at
+ * 128 * kind + 64 * phase + square. SHAPE, TRACE. */
+uint8_t chess_trace_eval(const int32_t counts[CHESS_COUNTS], const int32_t mobility[CHESS_COUNTS], int32_t sign, int32_t piece_count,
+                         const int32_t *entries, size_t entries_length, const double weights[CHESS_NAMED_WEIGHTS], const double *squares,
+                         size_t squares_length, double *value);
+
+/* The weights that the score has. SHAPE (not room for just 768 square weights). */
+uint8_t chess_shipped_weights(double weights[CHESS_NAMED_WEIGHTS], double *squares, size_t squares_length);
+
+#ifdef __cplusplus
+}
+#endif
+
+#endif

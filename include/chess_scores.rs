@@ -1,0 +1,393 @@
+//! Chess scores, exchanges and traces, every one proved: a safe face of the library's doors (`chess_scores.h`), with no dependencies.
+//!
+//! ```
+//! use chess_scores::{read_line, Outcome, Refusal};
+//!
+//! let (position, half_points) = read_line(b"4k3/8/8/8/8/8/4P3/4K3 w - - 0 1;1-0")?;
+//! assert_eq!(half_points, 2);
+//! assert_eq!(position.eval()?, Outcome::Score(117));
+//! assert_eq!(read_line(b"4k3/8/8/8/8/8/4P3/4K3 b;1/2").err(), Some(Refusal::Result));
+//! # Ok::<(), Refusal>(())
+//! ```
+//!
+//! Every function answers, or refuses with the first [`Refusal`] in the order that its documentation names, and then has changed nothing.
+//! A [`Position`] can be filled by hand: one that is not consistent is refused, never scored.
+
+use std::fmt;
+
+mod doors {
+    use super::Part;
+
+    extern "C" {
+        pub fn chess_read_line(line: *const u8, n: usize, bitboards: *mut u64, b: usize, board: *mut u8, s: usize, side: *mut u8, half_points: *mut u8) -> u8;
+        pub fn chess_position_field(line: *const u8, n: usize) -> Part;
+        pub fn chess_eval_ending(bitboards: *const u64, b: usize, board: *const u8, s: usize, side: u8, verdict: *mut u8) -> u8;
+        pub fn chess_eval_material(bitboards: *const u64, b: usize, board: *const u8, s: usize, side: u8, color: u8, material: *mut i16) -> u8;
+        pub fn chess_eval(bitboards: *const u64, b: usize, board: *const u8, s: usize, side: u8, verdict: *mut u8, score: *mut i16) -> u8;
+        pub fn chess_piece_attacks(piece: u8, square: u8, occupied: u64, squares: *mut u64) -> u8;
+        pub fn chess_attacks_to(bitboards: *const u64, b: usize, board: *const u8, s: usize, side: u8, square: u8, occupied: u64, squares: *mut u64) -> u8;
+        pub fn chess_is_attacked(bitboards: *const u64, b: usize, board: *const u8, s: usize, side: u8, square: u8, color: u8, attacked: *mut bool) -> u8;
+        pub fn chess_is_check(bitboards: *const u64, b: usize, board: *const u8, s: usize, side: u8, color: u8, check: *mut bool) -> u8;
+        pub fn chess_lvp(bitboards: *const u64, b: usize, board: *const u8, s: usize, side: u8, color: u8, attacks: u64, occupied: u64, found: *mut bool, square: *mut u8) -> u8;
+        pub fn chess_see(bitboards: *const u64, b: usize, board: *const u8, s: usize, side: u8, from: u8, to: u8, worth: *mut i16) -> u8;
+        pub fn chess_compute_trace(bitboards: *const u64, b: usize, board: *const u8, s: usize, side: u8, counts: *mut i32, mobility: *mut i32, sign: *mut i32, pieces: *mut i32, entries: *mut i32, e: usize) -> u8;
+        pub fn chess_trace_eval(counts: *const i32, mobility: *const i32, sign: i32, pieces: i32, entries: *const i32, e: usize, weights: *const f64, squares: *const f64, w: usize, value: *mut f64) -> u8;
+        pub fn chess_shipped_weights(weights: *mut f64, squares: *mut f64, w: usize) -> u8;
+    }
+}
+
+/// White's number.
+pub const WHITE: u8 = 0;
+/// Black's number.
+pub const BLACK: u8 = 1;
+
+/// A piece's code, for White; Black's is one more.
+pub const PAWN: u8 = 2;
+pub const KNIGHT: u8 = 4;
+pub const KING: u8 = 6;
+pub const BISHOP: u8 = 8;
+pub const ROOK: u8 = 10;
+pub const QUEEN: u8 = 12;
+
+/// Why a call is refused, with the number of document 01's table.
+#[derive(Clone, Copy, Debug, PartialEq, Eq)]
+#[repr(u8)]
+pub enum Refusal {
+    /// A length, a side, a colour or a piece code that none has.
+    Shape = 1,
+    /// Bitboards and board bytes that do not agree.
+    Board = 2,
+    /// A number leaves 16 bits on the way to the score.
+    Score = 3,
+    /// A square above 63.
+    Square = 4,
+    /// No capture by the side to move.
+    Move = 5,
+    /// Over 32 pieces, or two or more kings of one colour.
+    Crowd = 6,
+    /// A number of a trace out of its range.
+    Trace = 7,
+    /// A line over 256 bytes.
+    Long = 8,
+    /// A byte other than 32 to 126, tab and CR.
+    Byte = 9,
+    /// No `;`.
+    Field = 10,
+    /// Bad ranks.
+    Place = 11,
+    /// Bad side.
+    Side = 12,
+    /// Unknown result.
+    Result = 13,
+}
+
+impl Refusal {
+    const ALL: [Refusal; 13] = {
+        use Refusal::*;
+        [Shape, Board, Score, Square, Move, Crowd, Trace, Long, Byte, Field, Place, Side, Result]
+    };
+
+    /// Document 01's number.
+    pub fn number(self) -> u8 {
+        self as u8
+    }
+}
+
+impl fmt::Display for Refusal {
+    fn fmt(&self, out: &mut fmt::Formatter) -> fmt::Result {
+        write!(out, "refused {}", self.number())
+    }
+}
+
+impl std::error::Error for Refusal {}
+
+/// What a door gave, once it has written it.
+fn given<T>(number: u8, answer: T) -> Result<T, Refusal> {
+    match number {
+        0 => Ok(answer),
+        _ => Err(Refusal::ALL[number as usize - 1]),
+    }
+}
+
+/// How a game stands that a verdict ends, for the side to move.
+#[derive(Clone, Copy, Debug, PartialEq, Eq)]
+pub enum Verdict {
+    Lost,
+    Won,
+    Drawn,
+}
+
+fn verdict(number: u8) -> Option<Verdict> {
+    [None, Some(Verdict::Lost), Some(Verdict::Won), Some(Verdict::Drawn)][number as usize]
+}
+
+/// A verdict, or the score for the side to move.
+#[derive(Clone, Copy, Debug, PartialEq, Eq)]
+pub enum Outcome {
+    Verdict(Verdict),
+    Score(i16),
+}
+
+#[doc(hidden)]
+#[repr(C)]
+pub struct Part {
+    start: usize,
+    length: usize,
+}
+
+/// 14 bitboards, 64 board bytes and the side to move.
+///
+/// Bitboard `c`, from 2 to 13, has the squares of the pieces of code `c`; 0 and 1 have all of White's and all of Black's. Square 0 is a1, 1
+/// is b1, 63 is h8. A board byte is the code of the piece there, or 0.
+#[derive(Clone, Copy, Debug, PartialEq, Eq)]
+pub struct Position {
+    pub bitboards: [u64; 14],
+    pub board: [u8; 64],
+    pub side: u8,
+}
+
+/// Reads one line of a collection, without its LF and the CR before that: the position, and the half points for White.
+/// LONG, BYTE, FIELD, PLACE, SIDE, RESULT.
+pub fn read_line(line: &[u8]) -> Result<(Position, u8), Refusal> {
+    let mut read = Position { bitboards: [0; 14], board: [0; 64], side: 0 };
+    let mut half = 0;
+    // SAFETY: the pointers are those of slices and locals, with their lengths, and none overlap.
+    let number = unsafe {
+        doors::chess_read_line(line.as_ptr(), line.len(), read.bitboards.as_mut_ptr(), 14, read.board.as_mut_ptr(), 64, &mut read.side, &mut half)
+    };
+    given(number, (read, half))
+}
+
+/// The trimmed position field, as that part of the line; empty exactly if the line is refused.
+///
+/// ```
+/// assert_eq!(chess_scores::position_field(b" 8/8/8/8/8/8/8/8 w ;0-1"), b"8/8/8/8/8/8/8/8 w");
+/// assert_eq!(chess_scores::position_field(b"8/8/8/8/8/8/8/8 w"), b"");
+/// ```
+pub fn position_field(line: &[u8]) -> &[u8] {
+    // SAFETY: the pointer is that of a slice, with its length.
+    let part = unsafe { doors::chess_position_field(line.as_ptr(), line.len()) };
+    &line[part.start..part.start + part.length]
+}
+
+/// The squares that a piece of a code attacks from a square, each ray up to and including the first square of `occupied`.
+/// SHAPE, SQUARE.
+pub fn piece_attacks(piece: u8, square: u8, occupied: u64) -> Result<u64, Refusal> {
+    let mut squares = 0;
+    // SAFETY: the pointer is that of a local.
+    let number = unsafe { doors::chess_piece_attacks(piece, square, occupied, &mut squares) };
+    given(number, squares)
+}
+
+// SAFETY, of every call below: the pointers are those of the position's arrays, of slices and of locals, with their lengths, and none of
+// those written through overlaps another.
+impl Position {
+    /// The verdict, or none. SHAPE, BOARD.
+    pub fn eval_ending(&self) -> Result<Option<Verdict>, Refusal> {
+        let mut ending = 0;
+        let number = unsafe { doors::chess_eval_ending(self.bitboards.as_ptr(), 14, self.board.as_ptr(), 64, self.side, &mut ending) };
+        given(number, verdict(ending))
+    }
+
+    /// What a colour's pieces are worth, without the pair of bishops. SHAPE, BOARD, SCORE.
+    pub fn eval_material(&self, color: u8) -> Result<i16, Refusal> {
+        let mut material = 0;
+        let number = unsafe { doors::chess_eval_material(self.bitboards.as_ptr(), 14, self.board.as_ptr(), 64, self.side, color, &mut material) };
+        given(number, material)
+    }
+
+    /// The verdict, or the score for the side to move. SHAPE, BOARD, SCORE.
+    pub fn eval(&self) -> Result<Outcome, Refusal> {
+        let (mut ending, mut score) = (0, 0);
+        let number = unsafe { doors::chess_eval(self.bitboards.as_ptr(), 14, self.board.as_ptr(), 64, self.side, &mut ending, &mut score) };
+        given(number, verdict(ending).map_or(Outcome::Score(score), Outcome::Verdict))
+    }
+
+    /// The squares of the pieces of both colours that attack a square, whether they stand in `occupied` or not. SHAPE, BOARD, SQUARE.
+    pub fn attacks_to(&self, square: u8, occupied: u64) -> Result<u64, Refusal> {
+        let mut squares = 0;
+        let number = unsafe { doors::chess_attacks_to(self.bitboards.as_ptr(), 14, self.board.as_ptr(), 64, self.side, square, occupied, &mut squares) };
+        given(number, squares)
+    }
+
+    /// Whether a piece of the colour other than the one named attacks a square. SHAPE, BOARD, SQUARE.
+    pub fn is_attacked(&self, square: u8, color: u8) -> Result<bool, Refusal> {
+        let mut attacked = false;
+        let number = unsafe { doors::chess_is_attacked(self.bitboards.as_ptr(), 14, self.board.as_ptr(), 64, self.side, square, color, &mut attacked) };
+        given(number, attacked)
+    }
+
+    /// Whether the colour's king is attacked, the lowest if it has several; true if it has none. SHAPE, BOARD.
+    pub fn is_check(&self, color: u8) -> Result<bool, Refusal> {
+        let mut check = false;
+        let number = unsafe { doors::chess_is_check(self.bitboards.as_ptr(), 14, self.board.as_ptr(), 64, self.side, color, &mut check) };
+        given(number, check)
+    }
+
+    /// The lowest square of the first kind that has a piece of the colour in `attacks` and `occupied`, in the order pawn, knight, bishop,
+    /// rook, queen, king; or none. SHAPE, BOARD.
+    pub fn lvp(&self, color: u8, attacks: u64, occupied: u64) -> Result<Option<u8>, Refusal> {
+        let (mut found, mut square) = (false, 0);
+        let number = unsafe { doors::chess_lvp(self.bitboards.as_ptr(), 14, self.board.as_ptr(), 64, self.side, color, attacks, occupied, &mut found, &mut square) };
+        given(number, found.then_some(square))
+    }
+
+    /// What the exchange that a capture starts is worth to the side to move. SHAPE, BOARD, SQUARE, MOVE, CROWD.
+    pub fn see(&self, from: u8, to: u8) -> Result<i16, Refusal> {
+        let mut worth = 0;
+        let number = unsafe { doors::chess_see(self.bitboards.as_ptr(), 14, self.board.as_ptr(), 64, self.side, from, to, &mut worth) };
+        given(number, worth)
+    }
+
+    /// The position's trace. SHAPE, BOARD.
+    pub fn trace(&self) -> Result<Trace, Refusal> {
+        let mut trace = Trace { counts: [0; 12], mobility: [0; 12], sign: 0, piece_count: 0, entries: [0; 768] };
+        let number = unsafe {
+            doors::chess_compute_trace(self.bitboards.as_ptr(), 14, self.board.as_ptr(), 64, self.side, trace.counts.as_mut_ptr(),
+                trace.mobility.as_mut_ptr(), &mut trace.sign, &mut trace.piece_count, trace.entries.as_mut_ptr(), 768)
+        };
+        given(number, trace)
+    }
+}
+
+/// What the weights are fitted to. Kinds run 0 to 5: pawn, knight, bishop, rook, queen, king.
+#[derive(Clone, Debug, PartialEq, Eq)]
+pub struct Trace {
+    /// At `2 * kind + colour` the pieces of the first five kinds, and at `10 + colour` 1 for two or more bishops.
+    pub counts: [i32; 12],
+    /// At `2 * kind + colour` the attacked squares.
+    pub mobility: [i32; 12],
+    /// 1 for White to move, -1 for Black.
+    pub sign: i32,
+    pub piece_count: i32,
+    /// At `128 * kind + 2 * square + colour` 1 where a piece stands, Black's squares xor 56.
+    pub entries: [i32; 768],
+}
+
+/// The weights of a trace's double.
+#[derive(Clone, Debug, PartialEq)]
+pub struct Weights {
+    /// Pawn, knight, bishop, rook, queen, pair of bishops, mobility of knight, bishop, rook and queen, tempo.
+    pub named: [f64; 11],
+    /// At `128 * kind + 64 * phase + square`, phase 0 the opening and 1 the ending.
+    pub squares: [f64; 768],
+}
+
+impl Weights {
+    /// The weights that the score has.
+    pub fn shipped() -> Weights {
+        let mut weights = Weights { named: [0.0; 11], squares: [0.0; 768] };
+        // SAFETY: the pointers are those of a local's arrays, with their lengths.
+        let number = unsafe { doors::chess_shipped_weights(weights.named.as_mut_ptr(), weights.squares.as_mut_ptr(), 768) };
+        debug_assert_eq!(number, 0, "768 square weights are never refused");
+        weights
+    }
+}
+
+impl Trace {
+    /// The double of the trace, in the order of the original's operations, one rounding for each. TRACE.
+    ///
+    /// ```
+    /// # use chess_scores::{read_line, Refusal, Weights};
+    /// let (position, _) = read_line(b"4k3/8/8/8/8/8/4P3/4K3 w;1-0")?;
+    /// let shown = position.trace()?.eval(&Weights::shipped())?;
+    /// assert!((shown - 117.0).abs() < 85.0 / 30.0);
+    /// # Ok::<(), Refusal>(())
+    /// ```
+    pub fn eval(&self, weights: &Weights) -> Result<f64, Refusal> {
+        let mut value = 0.0;
+        // SAFETY: the pointers are those of the arrays of two references and of a local, with their lengths.
+        let number = unsafe {
+            doors::chess_trace_eval(self.counts.as_ptr(), self.mobility.as_ptr(), self.sign, self.piece_count, self.entries.as_ptr(), 768,
+                weights.named.as_ptr(), weights.squares.as_ptr(), 768, &mut value)
+        };
+        given(number, value)
+    }
+}
+
+#[cfg(test)]
+mod tests {
+    use super::*;
+
+    fn position(line: &str) -> Position {
+        read_line(format!("{line};1-0").as_bytes()).expect("a good line").0
+    }
+
+    const START: &str = "rnbqkbnr/pppppppp/8/8/8/8/PPPPPPPP/RNBQKBNR w";
+
+    #[test]
+    fn scores_of_document_01() {
+        assert_eq!(position("4k3/8/8/8/8/8/4P3/4K3 w").eval(), Ok(Outcome::Score(117)));
+        assert_eq!(position("4k3/8/8/8/8/8/4P3/4K3 b").eval(), Ok(Outcome::Score(-95)));
+        assert_eq!(position("4k3/8/8/8/8/8/8/R3K3 w").eval(), Ok(Outcome::Score(535)));
+        assert_eq!(position(START).eval(), Ok(Outcome::Score(11)));
+        assert_eq!(position("8/8/8/8/8/8/8/8 w").eval(), Ok(Outcome::Verdict(Verdict::Lost)));
+        assert_eq!(position("8/8/8/8/8/8/8/4K3 w").eval(), Ok(Outcome::Verdict(Verdict::Won)));
+        assert_eq!(position("8/8/8/8/8/8/8/4KK2 w").eval_ending(), Ok(Some(Verdict::Drawn)));
+        assert_eq!(position(START).eval_ending(), Ok(None));
+        assert_eq!(position(START).eval_material(WHITE), Ok(10000 + 1013 + 2 * (487 + 292 + 304) + 800));
+    }
+
+    #[test]
+    fn exchanges_of_document_01() {
+        assert_eq!(position("8/8/8/4p3/8/8/8/4R3 w").see(4, 36), Ok(100));
+        assert_eq!(position("8/8/3p4/4p3/8/8/8/4R3 w").see(4, 36), Ok(-387));
+        assert_eq!(position("6k1/1b6/5n2/3p4/4P3/8/8/3Q2K1 w").see(3, 35), Ok(-709));
+        assert_eq!(position(START).see(3, 35), Err(Refusal::Move));
+        assert_eq!(position(START).see(3, 64), Err(Refusal::Square));
+    }
+
+    #[test]
+    fn attacks() {
+        let start = position(START);
+        assert_eq!(piece_attacks(KNIGHT, 0, 0), Ok(1 << 10 | 1 << 17));
+        assert_eq!(piece_attacks(14, 0, 0), Err(Refusal::Shape));
+        assert_eq!(start.is_check(WHITE), Ok(false));
+        assert_eq!(start.is_attacked(16, BLACK), Ok(true));
+        assert_eq!(start.is_attacked(16, WHITE), Ok(false));
+        let attackers = start.attacks_to(18, start.bitboards[0] | start.bitboards[1]).unwrap();
+        assert_eq!(attackers, 1 << 1 | 1 << 9 | 1 << 11);
+        assert_eq!(start.lvp(WHITE, attackers, u64::MAX), Ok(Some(9)));
+        assert_eq!(start.lvp(BLACK, attackers, u64::MAX), Ok(None));
+    }
+
+    #[test]
+    fn refusals_of_a_position() {
+        let mut bent = position(START);
+        bent.board[0] = 0;
+        assert_eq!(bent.eval(), Err(Refusal::Board));
+        assert_eq!(bent.trace(), Err(Refusal::Board));
+        bent.side = 2;
+        assert_eq!(bent.eval(), Err(Refusal::Shape));
+    }
+
+    #[test]
+    fn lines() {
+        for (line, refusal) in [
+            ("x".repeat(257), Refusal::Long),
+            ("8/8/8/8/8/8/8/8 w;1-0\u{7f}".to_string(), Refusal::Byte),
+            (String::new(), Refusal::Field),
+            ("8/8/8/8/8/8/8 w;1-0".to_string(), Refusal::Place),
+            ("8/8/8/8/8/8/8/8 x;1-0".to_string(), Refusal::Side),
+            ("8/8/8/8/8/8/8/8 w;2-0".to_string(), Refusal::Result),
+        ] {
+            assert_eq!(read_line(line.as_bytes()).err(), Some(refusal), "{line}");
+            assert_eq!(position_field(line.as_bytes()), b"", "{line}");
+        }
+        assert_eq!(position_field(b"\t8/8/8/8/8/8/8/8 b - -\r;0-1"), b"8/8/8/8/8/8/8/8 b - -");
+    }
+
+    #[test]
+    fn traces() {
+        let trace = position(START).trace().unwrap();
+        assert_eq!(trace.counts, [8, 8, 2, 2, 2, 2, 2, 2, 1, 1, 1, 1]);
+        assert_eq!((trace.sign, trace.piece_count), (1, 32));
+        assert_eq!(trace.entries.iter().sum::<i32>(), 32);
+        let weights = Weights::shipped();
+        assert_eq!(weights.named, [100.0, 304.0, 292.0, 487.0, 1013.0, 33.0, 24.0, 47.0, 39.0, 21.0, 11.0]);
+        assert_eq!(trace.eval(&weights), Ok(11.0));
+        let mut odd = trace;
+        odd.sign = 0;
+        assert_eq!(odd.eval(&weights), Err(Refusal::Trace));
+    }
+}

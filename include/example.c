@@ -1,0 +1,68 @@
+/* A line of a collection on the command line, what the library says of it: the position field, verdict or score, and the double of its trace. */
+#include "chess_scores.h"
+#include <stdio.h>
+#include <string.h>
+
+typedef struct {
+    uint64_t bitboards[CHESS_BITBOARDS];
+    uint8_t board[CHESS_SQUARES];
+    uint8_t side;
+} position;
+
+static const char *const VERDICTS[] = {"none", "lost", "won", "drawn"};
+
+static int refused(const char *what, uint8_t number)
+{
+    printf("%s refused %d\n", what, number);
+    return 1;
+}
+
+static int print_score(const position *p)
+{
+    uint8_t verdict;
+    int16_t score;
+    uint8_t number = chess_eval(p->bitboards, CHESS_BITBOARDS, p->board, CHESS_SQUARES, p->side, &verdict, &score);
+    if (number != 0)
+        return refused("score", number);
+    if (verdict != CHESS_NONE)
+        printf("%s\n", VERDICTS[verdict]);
+    else
+        printf("score %d\n", score);
+    return 0;
+}
+
+static int print_double(const position *p)
+{
+    int32_t counts[CHESS_COUNTS], mobility[CHESS_COUNTS], sign, piece_count;
+    static int32_t entries[CHESS_ENTRIES];
+    static double weights[CHESS_NAMED_WEIGHTS], squares[CHESS_SQUARE_WEIGHTS];
+    double value;
+    uint8_t number = chess_compute_trace(p->bitboards, CHESS_BITBOARDS, p->board, CHESS_SQUARES, p->side, counts, mobility, &sign, &piece_count,
+                                         entries, CHESS_ENTRIES);
+    if (number == 0)
+        number = chess_shipped_weights(weights, squares, CHESS_SQUARE_WEIGHTS);
+    if (number == 0)
+        number = chess_trace_eval(counts, mobility, sign, piece_count, entries, CHESS_ENTRIES, weights, squares, CHESS_SQUARE_WEIGHTS, &value);
+    if (number != 0)
+        return refused("trace", number);
+    printf("trace %.3f\n", value);
+    return 0;
+}
+
+int main(int count, char **words)
+{
+    if (count != 2) {
+        fprintf(stderr, "usage: example 'POSITION;RESULT'\n");
+        return 2;
+    }
+    const uint8_t *line = (const uint8_t *)words[1];
+    size_t length = strlen(words[1]);
+    position p;
+    uint8_t half_points;
+    uint8_t number = chess_read_line(line, length, p.bitboards, CHESS_BITBOARDS, p.board, CHESS_SQUARES, &p.side, &half_points);
+    if (number != 0)
+        return refused("line", number);
+    chess_part field = chess_position_field(line, length);
+    printf("%.*s, %d half points\n", (int)field.length, words[1] + field.start, half_points);
+    return print_score(&p) | print_double(&p);
+}

@@ -1,0 +1,189 @@
+# The tree that the test of the promise check begins with.
+
+# The good tree has each way to be tried: an edit of the function (count), of a private function behind another
+# (shift), of a definition behind another (Square::new), of a table (knight). What the check is to pass over
+# stands in comments, in quoted text and in bodies.
+good_tree() {
+    put good/crates.txt <<'END'
+# a bitboard
+bits:
+unpromised: bits # no public function
+END
+    put good/crates/unpromised/src/main.rt <<'END'
+fn main() {}
+END
+    put good/crates/notlisted/src/lib.rt <<'END'
+pub fn passed_over() {}
+END
+    put good/crates/bits/src/lib.rt <<'END'
+// pub fn in_a_comment(b: u64) -> u32 { 0 }
+ghost use mathlib.Core.Path.{_≡_};
+ghost use Rattle.other.specs.Board.{Foreign};
+ghost use Rattle.bits.specs.Board.{Counts, Shifts as Board·Shifts, Made};
+pub mod steps;
+mod inner_private;
+
+// A square.
+pub struct Square(pub u8);
+
+/* pub fn in_a_block(b: u64) -> u32
+{ */
+pub fn count(b: u64) -> u32
+    // requires { ⌜ b < 7 ⌝ }
+    ensures { λ r. ⌜ Counts b r ⌝ }
+{
+    let requires = b"{ \" // pub fn quoted() {";
+    let brace = b'{';
+    u64::count_ones(b)
+}
+
+#[no_mangle]
+pub extern "C" fn shift<'a>(b: &'a u64, s: [u8; 2]) -> u64
+where
+    'a: 'a,
+    ensures {
+        λ r. ⌜ Board·Shifts (now b) {s = s} r ⌝ -- }
+    }
+{
+    moved(b, s)
+}
+
+fn moved(b: u64, s: [u8; 2]) -> u64 {
+    if s == 0 { b } else { up(b, s) }
+}
+
+fn up(b: u64, s: [u8; 2]) -> u64 {
+    b << s
+}
+
+impl<'a> Square {
+    pub const COUNT: usize = 64;
+
+    pub fn new(s: u8) -> Square
+        ensures { λ r. ⌜ Made s r ⌝ }
+    {
+        Square(s)
+    }
+
+    fn hidden(self) -> u8 {
+        self.0
+    }
+}
+END
+    put good/crates/bits/src/steps.rt <<'END'
+ghost use Rattle.bits.specs.Board.{Steps};
+
+const KNIGHT: [u64; 2] = [
+    0x20400,
+    0x50800,
+];
+
+pub fn knight(s: u8) -> u64
+    ensures { λ r. ⌜ Steps s r ⌝ }
+{
+    KNIGHT[s]
+}
+
+pub(crate) fn within(s: u8) -> u64 {
+    knight(s)
+}
+END
+    put good/crates/bits/src/inner_private.rt <<'END'
+pub fn not_public(b: u64) -> u64
+    requires { ⌜ b < 7 ⌝ }
+{
+    b
+}
+END
+    put good/crates/bits/specs/Board.antt <<'END'
+-- The bitboard.
+use Prim.Native.Nat.{ℕ, _+_}
+
+-- square k stands in b
+unfoldable pub has : ℕ → ℕ → Bool
+has b k = isSet (b / 2 ^ k)
+
+abbrev pub Counts : ℕ → ℕ → Type 0
+Counts b r = r ≡ howMany 64 (has b)
+
+pub record Shifts (b : ℕ) (s : ℕ) (r : ℕ) : Type 0 where
+  pub is : r ≡ b
+
+module _ (n : ℕ)
+    (m : ℕ) where
+  abbrev limit : ℕ
+  limit = 64
+
+  abbrev pub madeOf : ℕ → ℕ
+  madeOf s = cond (ltb s limit) s n
+
+abbrev pub Made : ℕ → ℕ → Type 0
+Made s r = r ≡ madeOf 0 0 s
+
+abbrev pub Steps : ℕ → ℕ → Type 0
+Steps s r = r ≡ 0
+END
+    put good/crates/bits/specs/Other.antt <<'END'
+-- What has the same names as the bitboard's.
+use Rattle.bits.specs.Board.{Steps as Moves}
+
+abbrev pub limit : ℕ
+limit = 7
+
+abbrev pub Made : ℕ → ℕ → Type 0
+Made s r = r ≡ limit
+END
+    put good/crates/bits/proofs/Determined.antt <<'END'
+-- Each promise allows one result.
+use Rattle.bits.specs.Board.{Counts, Shifts as Moves, Made, Steps}
+
+{- pub count-once : Made b r → Made b s → r ≡ s -}
+pub count-once : (b r s : ℕ) → Counts b r → Counts b s → r ≡ s
+count-once b r s p q = p ∙ sym q
+
+pub shift-once : (b s r t : ℕ)
+    → Moves b s r -- the one
+    → Moves b s t
+    → r ≡ t
+shift-once b s r t p q = p .is ∙ sym (q .is)
+
+module _ (s : ℕ) where
+  pub made-once : (r t : ℕ) → Made s r → Made s t → r ≡ t
+  made-once r t p q = p ∙ sym q
+
+pub steps-once : (s r t : ℕ) → Steps s r → Steps s t → r ≡ t
+steps-once s r t p q = p ∙ sym q
+END
+    put good/crates/bits/must-fail/count_wrong.edit <<'END'
+# the full bitboard: 0 for 64
+file: src/lib.rt
+old: count_ones
+new: count_zeros
+END
+    put good/crates/bits/must-fail/shift_wrong.edit <<'END'
+# the bitboard 1 by 1: 0 for 2
+file: src/lib.rt
+old:     b << s
+new:     b >> s
+END
+    put good/crates/bits/must-fail/made_wrong.edit <<'END'
+# square 63 is refused
+file: specs/Board.antt
+old: limit = 64
+new: limit = 63
+END
+    put good/crates/bits/must-fail/steps_wrong.edit <<'END'
+# the knight on b1
+file: src/steps.rt
+old: 0x50800
+new: 0x50801
+END
+    put good/docs/PROMISES.md <<'END'
+| function | promise |
+|---|---|
+| `bits::count(b)` | `Counts` |
+| `bits::shift` | `Shifts` |
+| `bits::Square::new` | `Made` |
+| `bits::steps::knight` | `Steps` |
+END
+}

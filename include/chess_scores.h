@@ -126,6 +126,26 @@ uint8_t chess_trace_eval(const int32_t counts[CHESS_COUNTS], const int32_t mobil
 /* The weights that the score has. SHAPE (not room for just 768 square weights). */
 uint8_t chess_shipped_weights(double weights[CHESS_NAMED_WEIGHTS], double *squares, size_t squares_length);
 
+/* ---- the ledger of a collection, fed in pieces of any size
+ *
+ * A row for each line, in order: `NUMBER HALFPOINTS SCORE`, the score also `won`, `lost`, `drawn` or `over`; or `NUMBER refused R`. The last
+ * row is `lines N loaded N refused N`. The caller keeps the state, four numbers that are all 0 before the first piece, and the line
+ * buffer of 256 bytes. Beside SHAPE (a line buffer that has not 256 bytes) there are two numbers that are no refusal of a position: */
+enum { CHESS_LEDGER_STATE = 4, CHESS_LEDGER_LINE = 256, CHESS_LEDGER_ROW = 32, CHESS_LEDGER_LAST = 116 };
+
+enum {
+    CHESS_FULL = 254, /* too little room for the rows: CHESS_LEDGER_ROW bytes for each LF in the piece, CHESS_LEDGER_LAST at the end */
+    CHESS_MANY = 255  /* more lines than 64 bits count */
+};
+
+/* The rows of the lines that end in a piece, and how many bytes they are. SHAPE, MANY, FULL. */
+uint8_t chess_ledger_feed(uint64_t state[CHESS_LEDGER_STATE], uint8_t *line, size_t line_length, const uint8_t *piece, size_t piece_length,
+                          uint8_t *out, size_t out_length, size_t *wrote);
+
+/* The end of the input: the row of a last line that has no LF, and the last row. SHAPE, MANY, FULL (not room for what is written). */
+uint8_t chess_ledger_finish(const uint64_t state[CHESS_LEDGER_STATE], const uint8_t *line, size_t line_length, uint8_t *out,
+                            size_t out_length, size_t *wrote);
+
 #ifdef __cplusplus
 }
 #endif

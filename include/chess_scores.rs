@@ -33,6 +33,8 @@ mod doors {
         pub fn chess_compute_trace(bitboards: *const u64, b: usize, board: *const u8, s: usize, side: u8, counts: *mut i32, mobility: *mut i32, sign: *mut i32, pieces: *mut i32, entries: *mut i32, e: usize) -> u8;
         pub fn chess_trace_eval(counts: *const i32, mobility: *const i32, sign: i32, pieces: i32, entries: *const i32, e: usize, weights: *const f64, squares: *const f64, w: usize, value: *mut f64) -> u8;
         pub fn chess_shipped_weights(weights: *mut f64, squares: *mut f64, w: usize) -> u8;
+        pub fn chess_ledger_feed(state: *mut u64, line: *mut u8, l: usize, piece: *const u8, p: usize, out: *mut u8, o: usize, wrote: *mut usize) -> u8;
+        pub fn chess_ledger_finish(state: *const u64, line: *const u8, l: usize, out: *mut u8, o: usize, wrote: *mut usize) -> u8;
     }
 }
 
@@ -305,6 +307,67 @@ impl Trace {
     }
 }
 
+/// The ledger of a collection, fed in pieces of any size: a row for each line, and a last row with the totals.
+///
+/// ```
+/// let mut ledger = chess_scores::Ledger::new();
+/// let mut rows = Vec::new();
+/// ledger.feed(b"4k3/8/8/8/8/8/4P3/4K3 w;1-0\n8/8/8/8/8/8/8/8 w;1/", &mut rows);
+/// ledger.feed(b"2-1/2\n4k3/8/8/8/8/8/4P3/4K3 b;1/2", &mut rows);
+/// ledger.finish(&mut rows);
+/// assert_eq!(rows, b"1 2 117\n2 1 lost\n3 refused 13\nlines 3 loaded 2 refused 1\n");
+/// ```
+pub struct Ledger {
+    state: [u64; 4],
+    line: [u8; 256],
+}
+
+impl Default for Ledger {
+    fn default() -> Ledger {
+        Ledger::new()
+    }
+}
+
+impl Ledger {
+    /// The room that a row takes at most, and that which the last two take.
+    const ROW: usize = 32;
+    const LAST_ROWS: usize = 116;
+
+    /// Before anything was read.
+    pub fn new() -> Ledger {
+        Ledger { state: [0; 4], line: [0; 256] }
+    }
+
+    /// The rows of the lines that end in a piece, added to `rows`. More lines than 64 bits count end in a panic.
+    pub fn feed(&mut self, piece: &[u8], rows: &mut Vec<u8>) {
+        let ends = piece.iter().filter(|&&byte| byte == b'\n').count();
+        written(rows, ends * Ledger::ROW, |out, wrote| {
+            // SAFETY: the pointers are those of the ledger's arrays and of slices, with their lengths, and none overlap.
+            unsafe {
+                doors::chess_ledger_feed(self.state.as_mut_ptr(), self.line.as_mut_ptr(), 256, piece.as_ptr(), piece.len(), out.as_mut_ptr(), out.len(), wrote)
+            }
+        });
+    }
+
+    /// The end of the input: the row of a last line that has no LF, and the last row, added to `rows`.
+    pub fn finish(self, rows: &mut Vec<u8>) {
+        written(rows, Ledger::LAST_ROWS, |out, wrote| {
+            // SAFETY: as in `feed`.
+            unsafe { doors::chess_ledger_finish(self.state.as_ptr(), self.line.as_ptr(), 256, out.as_mut_ptr(), out.len(), wrote) }
+        });
+    }
+}
+
+/// What a door of the ledger writes, added where there is room for so many bytes.
+fn written(rows: &mut Vec<u8>, room: usize, door: impl FnOnce(&mut [u8], &mut usize) -> u8) {
+    let start = rows.len();
+    rows.resize(start + room, 0);
+    let mut wrote = 0;
+    let number = door(&mut rows[start..], &mut wrote);
+    assert_eq!(number, 0, "more lines than 64 bits count");
+    rows.truncate(start + wrote);
+}
+
 #[cfg(test)]
 mod tests {
     use super::*;
@@ -375,6 +438,19 @@ mod tests {
             assert_eq!(position_field(line.as_bytes()), b"", "{line}");
         }
         assert_eq!(position_field(b"\t8/8/8/8/8/8/8/8 b - -\r;0-1"), b"8/8/8/8/8/8/8/8 b - -");
+    }
+
+    #[test]
+    fn ledger_however_it_is_cut() {
+        let input = b"4k3/8/8/8/8/8/4P3/4K3 w - - 0 1;1-0\r\n\n8/8/8/8/8/8/8/8 w;1/2-1/2\n4k3/8/8/8/8/8/4P3/4K3 b;1/2";
+        let ledger = |size: usize| {
+            let (mut ledger, mut rows) = (Ledger::new(), Vec::new());
+            input.chunks(size).for_each(|piece| ledger.feed(piece, &mut rows));
+            ledger.finish(&mut rows);
+            String::from_utf8(rows).unwrap()
+        };
+        let whole = "1 2 117\n2 refused 10\n3 1 lost\n4 refused 13\nlines 4 loaded 2 refused 2\n";
+        assert!((1..=input.len()).all(|size| ledger(size) == whole));
     }
 
     #[test]

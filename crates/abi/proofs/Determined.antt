@@ -7,7 +7,7 @@ use lib.Ieee.{Float}
 use lib.IntN.{ℤ}
 use Rattle.chess.specs.Answer.{Answer}
 use Rattle.chess.proofs.Paper.{one}
-use Rattle.abi.specs.Promises.{Door, Doors, EvalsEnding, EvalsMaterial, Evals, PieceAttacks, AttacksTo, IsAttacked, IsCheck, Lvp, See, ComputesTrace, EvalsTrace, Ships, ReadsLine, GivesPart}
+use Rattle.abi.specs.Promises.{Door, Doors, EvalsEnding, EvalsMaterial, Evals, PieceAttacks, AttacksTo, IsAttacked, IsCheck, Lvp, See, ComputesTrace, EvalsTrace, Ships, ReadsLine, GivesPart, FeedsLedger, FinishesLedger}
 use Rattle.abi.specs.declared.lines.Part.{Part}
 
 -- ---- a door that lends one number, and one that lends two
@@ -97,3 +97,14 @@ part-same e f = cc
 
 pub position-field : (line : List ℕ) (r s : Part) → GivesPart line r → GivesPart line s → r ≡ s
 position-field line r s p q = part-same (one (p .start) (q .start)) (one (p .length) (q .length))
+
+-- ---- the ledger
+pub ledger-feed : (state line chunk out : List ℕ) (wrote r s : ℕ) (t t′ l l′ o o′ : List ℕ) (w w′ : ℕ)
+    → FeedsLedger state line chunk out wrote r t l o w → FeedsLedger state line chunk out wrote s t′ l′ o′ w′
+    → (r ≡ s) × (t ≡ t′) × (l ≡ l′) × (o ≡ o′) × (w ≡ w′)
+ledger-feed state line chunk out wrote r s t t′ l l′ o o′ w w′ p q =
+    (one (p .code) (q .code), one (p .lent) (q .lent), one (p .kept) (q .kept), one (p .rows) (q .rows), one (p .lent2) (q .lent2))
+
+pub ledger-finish : (state line out : List ℕ) (wrote r s : ℕ) (o o′ : List ℕ) (w w′ : ℕ)
+    → FinishesLedger state line out wrote r o w → FinishesLedger state line out wrote s o′ w′ → (r ≡ s) × (o ≡ o′) × (w ≡ w′)
+ledger-finish state line out wrote r s o o′ w w′ p q = (one (p .code) (q .code), one (p .rows) (q .rows), one (p .lent) (q .lent))

@@ -1,4 +1,5 @@
 pub mod Passed
 pub mod Read
 pub mod Found
+pub mod Fed
 pub mod Determined

@@ -1,4 +1,5 @@
 pub mod Doors
 pub mod Part
 pub mod Records
+pub mod Ledger
 pub mod Promises

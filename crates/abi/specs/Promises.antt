@@ -20,6 +20,12 @@ use Rattle.abi.specs.Doors.{codeOf, after, verdictCode, outcomeVerdict, 
 use Rattle.abi.specs.Part.{startOf}
 use Rattle.abi.specs.Records.{countsOf, traceOf, namedOf, weightsOf}
 use Rattle.abi.specs.declared.lines.Part.{Part}
+use Rattle.text.specs.Text.{writtenOf as bufferOf}
+use Rattle.rows.specs.Machine.{Machine}
+use Rattle.rows.specs.Promises as Rows
+use Rattle.rows.specs.Promises.{feedOf, finishOf, lineAfter, textAfter, lastText}
+use Rattle.abi.specs.Ledger as Ledger
+use Rattle.abi.specs.Ledger.{stateOf, numbersOf}
 
 -- a door that lends one number: what comes back, and what it is afterwards
 pub record Door {A B : Type 0} (a : Answer A) (part : A → B) (old : B) (r : ℕ) (new : B) : Type 0 where
@@ -97,3 +103,16 @@ pub record ReadsLine (line bitboards board : List ℕ) (side half r : ℕ) (bitb
 pub record GivesPart (line : List ℕ) (r : Part) : Type 0 where
   pub start : r .start ≡ startOf line
   pub length : r .length ≡ length (fieldOf line)
+
+-- ---- the ledger
+pub record FeedsLedger (state line chunk out : List ℕ) (wrote r : ℕ) (state′ line′ out′ : List ℕ) (wrote′ : ℕ) : Type 0 where
+  pub code : r ≡ Ledger.codeOf (feedOf (stateOf state) line chunk out)
+  pub lent : state′ ≡ Ledger.after (λ (m : Machine). numbersOf (Rows.stateOf m)) state (feedOf (stateOf state) line chunk out)
+  pub kept : line′ ≡ lineAfter (feedOf (stateOf state) line chunk out) line
+  pub rows : out′ ≡ bufferOf out 0 (textAfter (feedOf (stateOf state) line chunk out))
+  pub lent2 : wrote′ ≡ Ledger.after (λ (m : Machine). length (m .text)) wrote (feedOf (stateOf state) line chunk out)
+
+pub record FinishesLedger (state line out : List ℕ) (wrote r : ℕ) (out′ : List ℕ) (wrote′ : ℕ) : Type 0 where
+  pub code : r ≡ Ledger.codeOf (finishOf (stateOf state) line out)
+  pub rows : out′ ≡ bufferOf out 0 (lastText (finishOf (stateOf state) line out))
+  pub lent : wrote′ ≡ Ledger.after length wrote (finishOf (stateOf state) line out)

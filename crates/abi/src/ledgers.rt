@@ -1,0 +1,90 @@
+// The ledger of a collection, fed in pieces of any size. Its state is lent as four numbers, all 0 before anything was read.
+ghost use mathlib.Core.Path.{_≡_};
+ghost use Rattle.abi.specs.Ledger.{stateOf, numbersOf, flagOf};
+ghost use Rattle.abi.specs.Promises.{FeedsLedger, FinishesLedger};
+use crate::GIVEN;
+use rows::Fed;
+use rows::Finished;
+use rows::State;
+
+// Bytes held of the line that has not ended, whether the last was a CR, loaded rows, refused rows.
+const NUMBERS: usize = 4;
+
+// Beside the refusals: too little room for the rows, and more lines than 64 bits count.
+pub const FULL: u8 = 254;
+
+pub const MANY: u8 = 255;
+
+fn state_of(numbers: &[u64; NUMBERS]) -> State
+    ensures { λ r. ⌜ r ≡ stateOf (now (numbers .entry)) ⌝ }
+{
+    State {
+        held: numbers[0] as usize,
+        cr: numbers[1] != 0,
+        loaded: numbers[2],
+        refused: numbers[3],
+    }
+}
+
+fn flag(holds: bool) -> u64
+    ensures { λ r. ⌜ r ≡ flagOf holds ⌝ }
+{
+    if holds { 1 } else { 0 }
+}
+
+fn numbers_of(state: State) -> [u64; NUMBERS]
+    ensures { λ r. ⌜ r ≡ numbersOf state ⌝ }
+{
+    [
+        state.held as u64,
+        flag(state.cr),
+        state.loaded,
+        state.refused,
+    ]
+}
+
+// A row for each line that ends in the chunk, and how many bytes they are: SHAPE (not 256 bytes for the line), MANY, FULL (not 32 bytes of room for each).
+#[no_mangle]
+pub extern "C" fn chess_ledger_feed(
+    state: &mut [u64; NUMBERS],
+    line: &mut [u8],
+    chunk: &[u8],
+    out: &mut [u8],
+    wrote: &mut usize,
+) -> u8
+    ensures { λ r. ⌜ FeedsLedger (now (state .entry)) (now (line .entry)) (now (chunk .entry)) (now (out .entry)) (now (wrote .entry)) r (now (state .exit)) (now (line .exit)) (now (out .exit)) (now (wrote .exit)) ⌝ }
+{
+    let fed = rows::feed(state_of(state), line, chunk, out);
+    match fed {
+        Fed::Rows(next, n) => {
+            *state = numbers_of(next);
+            *wrote = n;
+            GIVEN
+        }
+        Fed::Full => FULL,
+        Fed::Many => MANY,
+        Fed::Refused(refusal) => refusal.number(),
+    }
+}
+
+// The row of a last line with no LF, and the totals: SHAPE, MANY, FULL (not room for what is written).
+#[no_mangle]
+pub extern "C" fn chess_ledger_finish(
+    state: &[u64; NUMBERS],
+    line: &[u8],
+    out: &mut [u8],
+    wrote: &mut usize,
+) -> u8
+    ensures { λ r. ⌜ FinishesLedger (now (state .entry)) (now (line .entry)) (now (out .entry)) (now (wrote .entry)) r (now (out .exit)) (now (wrote .exit)) ⌝ }
+{
+    let finished = rows::finish(state_of(state), line, out);
+    match finished {
+        Finished::Rows(n) => {
+            *wrote = n;
+            GIVEN
+        }
+        Finished::Full => FULL,
+        Finished::Many => MANY,
+        Finished::Refused(refusal) => refusal.number(),
+    }
+}

@@ -30,155 +30,78 @@ mod play;
 #[path = "../oracle/harness/random.rs"]
 mod random;
 
+#[path = "positions.rs"]
+mod drawn;
+mod functions;
+mod ledger;
 mod ours;
 
-use attack::{piece_attacks, Attack};
-use bitboard::BitboardIterator;
-use eval::Eval;
-use game::Game;
-use piece_move::PieceMove;
-use random::Random;
 use std::hint::black_box;
+use std::io::{self, BufReader, BufWriter, Write};
 use std::time::Instant;
 
-const BLOCK: usize = 64;
-
-struct Position {
-    board: [u8; 64],
-    side: u8,
-    from: u8,
-    to: u8,
+fn seconds(run: impl FnOnce()) -> f64 {
+    let start = Instant::now();
+    run();
+    start.elapsed().as_secs_f64()
 }
 
-/// The first capture of the side to move.
-fn capture(game: &Game, side: u8) -> Option<(u8, u8)> {
-    let occupied = game.bitboards[0] | game.bitboards[1];
-    let mut own = game.bitboards[side as usize];
-    while let Some(from) = own.next() {
-        let mut targets = piece_attacks(game.board[from as usize], from, occupied) & game.bitboards[(side ^ 1) as usize];
-        if let Some(to) = targets.next() {
-            return Some((from, to));
+/// Both ledgers over collections of growing size, in turn, the least time of some rounds.
+fn ledgers(most: usize, rounds: usize) {
+    println!("{:<14} {:>10} {:>10} {:>7}   lines a second: ours, theirs", "ledger lines", "ours ns", "theirs ns", "ratio");
+    let text = drawn::lines(most);
+    let mut count = 10_000;
+    while count <= most {
+        let end = text.iter().enumerate().filter(|(_, &byte)| byte == b'\n').nth(count - 1).unwrap().0 + 1;
+        let input = &text[..end];
+        let (mut best_ours, mut best_theirs) = (f64::MAX, f64::MAX);
+        let (mut one, mut other) = (Vec::with_capacity(32 * count + 128), Vec::with_capacity(32 * count + 128));
+        for _ in 0..rounds {
+            one.clear();
+            other.clear();
+            best_ours = best_ours.min(seconds(|| ledger::ours(black_box(input), &mut one).unwrap()));
+            best_theirs = best_theirs.min(seconds(|| ledger::theirs(black_box(input), &mut other).unwrap()));
+            assert!(one == other, "the ledgers differ");
         }
+        let each = 1e9 / count as f64;
+        println!("{:<14} {:>10.1} {:>10.1} {:>7.2}   {:.0}, {:.0}", count, best_ours * each, best_theirs * each, best_ours / best_theirs,
+            count as f64 / best_ours, count as f64 / best_theirs);
+        count *= 10;
     }
-    None
 }
 
-/// So many positions of random play that have a capture.
-fn drawn(count: usize) -> Vec<Position> {
-    let mut game = Game::new();
-    let mut found = Vec::new();
-    let mut place = 0;
-    while found.len() < count {
-        let (board, side) = play::played(&mut Random::at(7, place));
-        place += 1;
-        placement::fill(&mut game, &board, side);
-        if let Some((from, to)) = capture(&game, side) {
-            found.push(Position { board, side, from, to });
-        }
-    }
-    found
+/// The most memory that the process had so far.
+fn peak() -> String {
+    let status = std::fs::read_to_string("/proc/self/status").unwrap_or_default();
+    status.lines().find(|line| line.starts_with("VmHWM")).unwrap_or("VmHWM: not known").to_string()
 }
 
-#[derive(Clone, Copy)]
-struct Best {
-    theirs: f64,
-    ours: f64,
+fn usage() -> ! {
+    eprintln!("functions COUNT ROUNDS    each function over so many positions");
+    eprintln!("ledgers MOST ROUNDS       both ledgers over 10,000 lines, ten times as many, .. up to MOST");
+    eprintln!("lines COUNT               a collection of so many lines on standard output");
+    eprintln!("ours, theirs              a ledger of standard input; the peak of memory on standard error");
+    std::process::exit(2)
 }
 
-const NAMES: [&str; 6] = ["eval", "eval_material", "is_check", "compute_trace", "Trace::eval", "see"];
-
-fn timed<F: FnMut()>(mut f: F) -> f64 {
-    let t = Instant::now();
-    f();
-    t.elapsed().as_nanos() as f64
+fn number(word: &str) -> usize {
+    word.parse().unwrap_or_else(|_| usage())
 }
 
-fn one(best: &mut Best, first: bool, theirs: &mut dyn FnMut(), ours: &mut dyn FnMut()) {
-    let (a, b);
-    if first {
-        a = timed(&mut *theirs);
-        b = timed(&mut *ours);
-    } else {
-        b = timed(&mut *ours);
-        a = timed(&mut *theirs);
+fn main() -> io::Result<()> {
+    let words: Vec<String> = std::env::args().skip(1).collect();
+    let words: Vec<&str> = words.iter().map(String::as_str).collect();
+    let output = BufWriter::new(io::stdout().lock());
+    match words.as_slice() {
+        ["functions", count, rounds] => functions::measure(number(count), number(rounds)),
+        ["ledgers", most, rounds] => ledgers(number(most), number(rounds)),
+        ["lines", count] => io::stdout().write_all(&drawn::lines(number(count)))?,
+        ["ours"] => ledger::ours(io::stdin().lock(), output)?,
+        ["theirs"] => ledger::theirs(BufReader::new(io::stdin().lock()), output)?,
+        _ => usage(),
     }
-    best.theirs = best.theirs.min(a);
-    best.ours = best.ours.min(b);
-}
-
-fn main() {
-    let words: Vec<String> = std::env::args().collect();
-    let count: usize = words.get(1).map_or(100_000, |w| w.parse().unwrap()) / BLOCK * BLOCK;
-    let rounds: usize = words.get(2).map_or(10, |w| w.parse().unwrap());
-    let positions = drawn(count);
-    let mut games: Vec<Game> = (0..BLOCK).map(|_| Game::new()).collect();
-    let params = tune::Tuner::new().params;
-    let mut named = [0.0; 11];
-    named.copy_from_slice(&params[..11]);
-    let squares = params[11..].to_vec();
-    let mut best = vec![[Best { theirs: f64::MAX, ours: f64::MAX }; 6]; count / BLOCK];
-    let mut entries = vec![0i32; 768];
-    let mut differing = 0;
-    for round in 0..rounds {
-        for (k, block) in positions.chunks(BLOCK).enumerate() {
-            for (game, p) in games.iter_mut().zip(block) {
-                placement::fill(game, &p.board, p.side);
-            }
-            let games = &games;
-            let first = (round + k) % 2 == 0;
-            let mut a = [0i64; BLOCK];
-            let mut b = [0i64; BLOCK];
-            let best = &mut best[k];
-            one(&mut best[0], first, &mut || for i in 0..BLOCK { a[i] = games[i].eval() as i64 }, &mut || for i in 0..BLOCK {
-                let (g, mut v, mut s) = (&games[i], 0u8, 0i16);
-                let r = unsafe { ours::chess_eval(g.bitboards.as_ptr(), 14, g.board.as_ptr(), 64, g.side(), &mut v, &mut s) };
-                b[i] = if r == 0 && v == 0 { s as i64 } else if r == 0 { [0, -29999, 29999, 0][v as usize] } else { -100000 };
-            });
-            differing += (a != b) as usize;
-            one(&mut best[1], first, &mut || for i in 0..BLOCK { a[i] = games[i].eval_material(games[i].side()) as i64 }, &mut || for i in 0..BLOCK {
-                let (g, mut s) = (&games[i], 0i16);
-                let r = unsafe { ours::chess_eval_material(g.bitboards.as_ptr(), 14, g.board.as_ptr(), 64, g.side(), g.side(), &mut s) };
-                b[i] = s as i64 + r as i64 * 100000;
-            });
-            differing += (a != b) as usize;
-            one(&mut best[2], first, &mut || for i in 0..BLOCK { a[i] = games[i].is_check(games[i].side()) as i64 }, &mut || for i in 0..BLOCK {
-                let (g, mut s) = (&games[i], false);
-                let r = unsafe { ours::chess_is_check(g.bitboards.as_ptr(), 14, g.board.as_ptr(), 64, g.side(), g.side(), &mut s) };
-                b[i] = s as i64 + r as i64 * 100000;
-            });
-            differing += (a != b) as usize;
-            let mut traces: Vec<tune::Trace> = games.iter().map(tune::traced).collect();
-            let mut counts = vec![ours::Trace::default(); BLOCK];
-            one(&mut best[3], first, &mut || for i in 0..BLOCK { traces[i] = tune::traced(&games[i]); }, &mut || for i in 0..BLOCK {
-                let g = &games[i];
-                unsafe { ours::chess_compute_trace(g.bitboards.as_ptr(), 14, g.board.as_ptr(), 64, g.side(), &mut counts[i], entries.as_mut_ptr(), 768) };
-                black_box(&entries);
-            });
-            for i in 0..BLOCK {
-                let g = &games[i];
-                let r = unsafe { ours::chess_compute_trace(g.bitboards.as_ptr(), 14, g.board.as_ptr(), 64, g.side(), &mut counts[i], entries.as_mut_ptr(), 768) };
-                differing += (r != 0 || traces[i].pst.as_flattened().as_flattened() != entries.as_slice()) as usize;
-            }
-            let mut x = [0f64; BLOCK];
-            let mut y = [0f64; BLOCK];
-            one(&mut best[4], first, &mut || for i in 0..BLOCK { x[i] = traces[i].eval(&params) }, &mut || for i in 0..BLOCK {
-                let e = traces[i].pst.as_flattened().as_flattened();
-                unsafe { ours::chess_trace_eval(&counts[i], e.as_ptr(), 768, named.as_ptr(), squares.as_ptr(), 768, &mut y[i]) };
-            });
-            differing += (x != y) as usize;
-            one(&mut best[5], first, &mut || for i in 0..BLOCK { a[i] = games[i].see(PieceMove::capture(block[i].from, block[i].to)) as i64 }, &mut || for i in 0..BLOCK {
-                let (g, mut s) = (&games[i], 0i16);
-                let r = unsafe { ours::chess_see(g.bitboards.as_ptr(), 14, g.board.as_ptr(), 64, g.side(), block[i].from, block[i].to, &mut s) };
-                b[i] = s as i64 + r as i64 * 100000;
-            });
-            differing += (a != b) as usize;
-        }
+    if matches!(words[0], "ours" | "theirs") {
+        eprintln!("{} {}", words[0], peak());
     }
-    println!("{} positions, {} rounds, {} answers differ", count, rounds, differing);
-    println!("{:<14} {:>10} {:>10} {:>7}", "function", "ours ns", "theirs ns", "ratio");
-    for (n, name) in NAMES.iter().enumerate() {
-        let ours: f64 = best.iter().map(|b| b[n].ours).sum::<f64>() / count as f64;
-        let theirs: f64 = best.iter().map(|b| b[n].theirs).sum::<f64>() / count as f64;
-        println!("{:<14} {:>10.1} {:>10.1} {:>7.2}", name, ours, theirs, ours / theirs);
-    }
+    Ok(())
 }

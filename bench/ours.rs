@@ -1,23 +1,80 @@
-// The library's doors, as include/ declares them.
-#[repr(C)]
-#[derive(Clone, Copy, Default)]
-pub struct Trace {
-    pub pawns: [i32; 2],
-    pub knights: [i32; 2],
-    pub bishops: [i32; 2],
-    pub rooks: [i32; 2],
-    pub queens: [i32; 2],
-    pub bishop_pair: [i32; 2],
-    pub mobility: [i32; 12],
-    pub side: i32,
-    pub piece_count: i32,
+// The library's doors, as include/chess_scores.h declares them.
+extern "C" {
+    pub fn chess_eval(bitboards: *const u64, b: usize, board: *const u8, s: usize, side: u8, verdict: *mut u8, score: *mut i16) -> u8;
+    pub fn chess_eval_material(bitboards: *const u64, b: usize, board: *const u8, s: usize, side: u8, color: u8, material: *mut i16) -> u8;
+    pub fn chess_is_check(bitboards: *const u64, b: usize, board: *const u8, s: usize, side: u8, color: u8, check: *mut bool) -> u8;
+    pub fn chess_see(bitboards: *const u64, b: usize, board: *const u8, s: usize, side: u8, from: u8, to: u8, worth: *mut i16) -> u8;
+    pub fn chess_compute_trace(bitboards: *const u64, b: usize, board: *const u8, s: usize, side: u8, counts: *mut i32, mobility: *mut i32, sign: *mut i32, pieces: *mut i32, entries: *mut i32, e: usize) -> u8;
+    pub fn chess_trace_eval(counts: *const i32, mobility: *const i32, sign: i32, pieces: i32, entries: *const i32, e: usize, weights: *const f64, squares: *const f64, w: usize, value: *mut f64) -> u8;
+    pub fn chess_ledger_feed(state: *mut u64, line: *mut u8, l: usize, piece: *const u8, p: usize, out: *mut u8, o: usize, wrote: *mut usize) -> u8;
+    pub fn chess_ledger_finish(state: *const u64, line: *const u8, l: usize, out: *mut u8, o: usize, wrote: *mut usize) -> u8;
 }
 
-extern "C" {
-    pub fn chess_eval(bb: *const u64, n: usize, b: *const u8, m: usize, side: u8, verdict: *mut u8, score: *mut i16) -> u8;
-    pub fn chess_eval_material(bb: *const u64, n: usize, b: *const u8, m: usize, side: u8, color: u8, value: *mut i16) -> u8;
-    pub fn chess_is_check(bb: *const u64, n: usize, b: *const u8, m: usize, side: u8, color: u8, check: *mut bool) -> u8;
-    pub fn chess_see(bb: *const u64, n: usize, b: *const u8, m: usize, side: u8, from: u8, to: u8, worth: *mut i16) -> u8;
-    pub fn chess_compute_trace(bb: *const u64, n: usize, b: *const u8, m: usize, side: u8, counts: *mut Trace, e: *mut i32, k: usize) -> u8;
-    pub fn chess_trace_eval(t: *const Trace, e: *const i32, k: usize, w: *const f64, s: *const f64, l: usize, value: *mut f64) -> u8;
+use crate::color::WHITE;
+use crate::game::Game;
+use crate::tune;
+
+/// What a trace has beside its entries.
+#[derive(Clone, Copy, Default, PartialEq)]
+pub struct Counts {
+    counts: [i32; 12],
+    mobility: [i32; 12],
+    sign: i32,
+    pieces: i32,
+}
+
+impl Counts {
+    pub fn of(trace: &tune::Trace) -> Counts {
+        let mut all = Counts { sign: trace.side, pieces: trace.piece_count, ..Counts::default() };
+        let pairs = [trace.pawns, trace.knights, trace.bishops, trace.rooks, trace.queens, trace.bishop_pair];
+        all.counts.copy_from_slice(pairs.as_flattened());
+        all.mobility.copy_from_slice(trace.mobility.as_flattened());
+        all
+    }
+}
+
+/// What stands for a refusal among the answers: no answer of the original.
+const REFUSED: i64 = 1 << 40;
+
+fn answer(number: u8, given: i64) -> i64 {
+    if number == 0 { given } else { REFUSED + number as i64 }
+}
+
+// Of each call: the pointers are those of the position's arrays, of slices and of locals, with their lengths.
+pub fn eval(game: &Game) -> i64 {
+    let (mut verdict, mut score) = (0, 0);
+    let number = unsafe { chess_eval(game.bitboards.as_ptr(), 14, game.board.as_ptr(), 64, game.side(), &mut verdict, &mut score) };
+    let inf = crate::common::INF as i64;
+    answer(number, [score as i64, -inf, inf, 0][verdict as usize])
+}
+
+pub fn eval_material(game: &Game) -> i64 {
+    let mut material = 0;
+    answer(unsafe { chess_eval_material(game.bitboards.as_ptr(), 14, game.board.as_ptr(), 64, WHITE, game.side(), &mut material) }, material as i64)
+}
+
+pub fn is_check(game: &Game) -> i64 {
+    let mut check = false;
+    answer(unsafe { chess_is_check(game.bitboards.as_ptr(), 14, game.board.as_ptr(), 64, WHITE, game.side(), &mut check) }, check as i64)
+}
+
+pub fn see(game: &Game, from: u8, to: u8) -> i64 {
+    let mut worth = 0;
+    answer(unsafe { chess_see(game.bitboards.as_ptr(), 14, game.board.as_ptr(), 64, game.side(), from, to, &mut worth) }, worth as i64)
+}
+
+pub fn compute_trace(game: &Game, counts: &mut Counts, entries: &mut [i32]) -> u8 {
+    unsafe {
+        chess_compute_trace(game.bitboards.as_ptr(), 14, game.board.as_ptr(), 64, game.side(), counts.counts.as_mut_ptr(), counts.mobility.as_mut_ptr(),
+            &mut counts.sign, &mut counts.pieces, entries.as_mut_ptr(), entries.len())
+    }
+}
+
+pub fn trace_eval(counts: &Counts, entries: &[i32], weights: &[f64; tune::WEIGHTS]) -> f64 {
+    let (mut value, (named, squares)) = (0.0, weights.split_at(11));
+    unsafe {
+        chess_trace_eval(counts.counts.as_ptr(), counts.mobility.as_ptr(), counts.sign, counts.pieces, entries.as_ptr(), entries.len(), named.as_ptr(),
+            squares.as_ptr(), squares.len(), &mut value)
+    };
+    value
 }

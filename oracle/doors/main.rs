@@ -1,10 +1,11 @@
-// A voice: the library itself, asked through its doors (include/). Questions on standard input, answers on standard output.
+// A voice: the library itself, asked through its doors (include/). Questions on standard input, answers on standard output; with the
+// word `ledger`, a collection on standard input and its ledger on standard output.
 #[path = "../../include/chess_scores.rs"]
 mod chess_scores;
 mod seeded;
 
-use chess_scores::{piece_attacks, read_line, Outcome, Position, Refusal, Trace, Verdict};
-use std::io::{self, BufRead, BufWriter, Write};
+use chess_scores::{piece_attacks, read_line, Ledger, Outcome, Position, Refusal, Trace, Verdict};
+use std::io::{self, BufRead, BufWriter, Read, Write};
 
 type Answer = Result<String, Refusal>;
 
@@ -116,10 +117,32 @@ fn said(answer: Answer) -> String {
     }
 }
 
-fn main() -> io::Result<()> {
+fn answer_all() -> io::Result<()> {
     let mut out = BufWriter::new(io::stdout().lock());
     for question in io::stdin().lock().lines() {
         writeln!(out, "{}", said(of(&Question::read(&question?))))?;
     }
     out.flush()
+}
+
+fn ledger() -> io::Result<()> {
+    let (mut ledger, mut rows, mut piece) = (Ledger::new(), Vec::new(), [0; 4096]);
+    loop {
+        let count = io::stdin().lock().read(&mut piece)?;
+        if count == 0 {
+            break;
+        }
+        ledger.feed(&piece[..count], &mut rows);
+        io::stdout().lock().write_all(&rows)?;
+        rows.clear();
+    }
+    ledger.finish(&mut rows);
+    io::stdout().lock().write_all(&rows)
+}
+
+fn main() -> io::Result<()> {
+    match std::env::args().nth(1).as_deref() {
+        Some("ledger") => ledger(),
+        _ => answer_all(),
+    }
 }

@@ -6,7 +6,7 @@ use Prim.Native.Nat.{ℕ}
 use Rattle.chess.proofs.Paper.{one, retract, readBack, number-back}
 use Rattle.position.specs.declared.State.{State}
 use Rattle.attack.specs.Answers.{found, told}
-use Rattle.attack.specs.Promises.{PieceAttacks, AttacksTo, IsAttacked, IsCheck, Other, Standing, Occupied, AttacksWith, AttackersWith, AttackedWith, CheckWith}
+use Rattle.attack.specs.Promises.{PieceAttacks, AttacksTo, IsAttacked, IsCheck, Other, Standing, Occupied, AttacksWith, AttacksFrom, Attackers, Attacked, InCheck}
 use Rattle.attack.specs.declared.Found.{Found}
 use Rattle.attack.specs.declared.Found.the-variants as F
 use Rattle.attack.specs.declared.Told.{Told}
@@ -53,11 +53,14 @@ inner-occupied bbs r s = one
 pub inner-attacks : (tables : List (List ℕ)) (kind colour square occ r s : ℕ) → AttacksWith tables kind colour square occ r → AttacksWith tables kind colour square occ s → r ≡ s
 inner-attacks tables kind colour square occ r s = one
 
-pub inner-attacks-to : (tables : List (List ℕ)) (bbs : List ℕ) (square occ r s : ℕ) → AttackersWith tables bbs square occ r → AttackersWith tables bbs square occ s → r ≡ s
-inner-attacks-to tables bbs square occ r s = one
+pub inner-attacks-from : (kind colour square occ r s : ℕ) → AttacksFrom kind colour square occ r → AttacksFrom kind colour square occ s → r ≡ s
+inner-attacks-from kind colour square occ r s = one
 
-pub inner-is-attacked : (tables : List (List ℕ)) (bbs : List ℕ) (square colour : ℕ) (r s : Bool) → AttackedWith tables bbs square colour r → AttackedWith tables bbs square colour s → r ≡ s
-inner-is-attacked tables bbs square colour r s = one
+pub inner-attacks-to : (bbs : List ℕ) (square occ r s : ℕ) → Attackers bbs square occ r → Attackers bbs square occ s → r ≡ s
+inner-attacks-to bbs square occ r s = one
 
-pub inner-is-check : (tables : List (List ℕ)) (bbs : List ℕ) (colour : ℕ) (r s : Bool) → CheckWith tables bbs colour r → CheckWith tables bbs colour s → r ≡ s
-inner-is-check tables bbs colour r s = one
+pub inner-is-attacked : (bbs : List ℕ) (square colour : ℕ) (r s : Bool) → Attacked bbs square colour r → Attacked bbs square colour s → r ≡ s
+inner-is-attacked bbs square colour r s = one
+
+pub inner-is-check : (bbs : List ℕ) (colour : ℕ) (r s : Bool) → InCheck bbs colour r → InCheck bbs colour s → r ≡ s
+inner-is-check bbs colour r s = one

@@ -10,11 +10,8 @@ use Rattle.chess.specs.Codes.{isPiece, kindOf, colourOf}
 use Rattle.chess.specs.Refusals.{numberOf, refusalOf}
 use Rattle.chess.specs.declared.refusal.Refusal.the-variants as R
 use Rattle.bits.specs.Answers.{onBoard}
-use Rattle.steps.specs.Steps.{stepTables}
-use Rattle.attack.specs.Attacks.{attacks, attackers, isAttacked, isCheck}
-use Rattle.attack.specs.Lent.{attacksWith, attackersWith, isAttackedWith, isCheckWith}
+use Rattle.attack.specs.Attacks.{attacks}
 use Rattle.attack.specs.Answers.{pieceAttacksOf, withColour}
-use Rattle.attack.proofs.Lent.{lent-attacks, lent-attackers, lent-attacked, lent-check}
 
 -- ---- a square
 pub off-board : {A : Type 0} (s : ℕ) (a : A) → 64 ≤ s → refusalOf R.Square ≡ onBoard s a
@@ -53,16 +50,3 @@ module _ (code s occ : ℕ) where
   pub piece-on : (kind b : ℕ) → 2 ≤ code → code ≤ 13 → s < 64 → kind ≡ kindOf code → b ≡ attacks kind (colourOf code) s occ → given b ≡ pieceAttacksOf code s occ
   piece-on kind b l h q e a =
       on-board s (attacks (kindOf code) (colourOf code) s occ) b q (a ∙ ap (λ (k : ℕ). attacks k (colourOf code) s occ) e) ∙ a-piece l h
-
--- ---- what the inner functions give where the tables are the paper's
-pub told-attackers : (tables : List (List ℕ)) (bbs : List ℕ) (s occ b : ℕ) → tables ≡ stepTables → b ≡ attackersWith tables bbs s occ → b ≡ attackers bbs s occ
-told-attackers tables bbs s occ b t e = e ∙ ap (λ (x : List (List ℕ)). attackersWith x bbs s occ) t ∙ lent-attackers bbs s occ
-
-pub told-attacks : (tables : List (List ℕ)) (kind colour s occ b : ℕ) → tables ≡ stepTables → b ≡ attacksWith tables kind colour s occ → b ≡ attacks kind colour s occ
-told-attacks tables kind colour s occ b t e = e ∙ ap (λ (x : List (List ℕ)). attacksWith x kind colour s occ) t ∙ lent-attacks kind colour s occ
-
-pub told-attacked : (tables : List (List ℕ)) (bbs : List ℕ) (s colour : ℕ) (b : Bool) → tables ≡ stepTables → b ≡ isAttackedWith tables bbs s colour → b ≡ isAttacked bbs s colour
-told-attacked tables bbs s colour b t e = e ∙ ap (λ (x : List (List ℕ)). isAttackedWith x bbs s colour) t ∙ lent-attacked bbs s colour
-
-pub told-check : (tables : List (List ℕ)) (bbs : List ℕ) (colour : ℕ) (b : Bool) → tables ≡ stepTables → b ≡ isCheckWith tables bbs colour → b ≡ isCheck bbs colour
-told-check tables bbs colour b t e = e ∙ ap (λ (x : List (List ℕ)). isCheckWith x bbs colour) t ∙ lent-check bbs colour

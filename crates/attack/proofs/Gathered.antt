@@ -11,9 +11,8 @@ use Rattle.bits.proofs.Digits.{has-or, has-and}
 use Rattle.bits.proofs.Lists.{board-lt}
 use Rattle.bits.proofs.Those.{is-those}
 use Rattle.rays.specs.Rays.{seen, straight, slanted}
-use Rattle.steps.specs.Steps.{stepIn}
-use Rattle.attack.specs.Attacks.{standing}
-use Rattle.attack.specs.Lent.{attackersWith}
+use Rattle.steps.specs.Steps.{reached, stepsOf}
+use Rattle.attack.specs.Attacks.{standing, attackers}
 
 cut : (x y : ℕ) → y < 2 ^ 64 → bitAnd x y < 2 ^ 64
 cut x y h = lt-of-le-of-lt (and-le-r x y) h
@@ -38,24 +37,24 @@ module _ (a b c d e f p q r s t u : ℕ) where
 abbrev pub bothOf : List ℕ → ℕ → ℕ
 bothOf bbs kind = bitOr (standing bbs kind 0) (standing bbs kind 1)
 
-module _ (tables : List (List ℕ)) (bbs : List ℕ) (s occ : ℕ) where
-  joined : stepIn tables 1 s < 2 ^ 64 → stepIn tables 0 s < 2 ^ 64 → stepIn tables 2 s < 2 ^ 64 → stepIn tables 3 s < 2 ^ 64
+module _ (bbs : List ℕ) (s occ : ℕ) where
+  joined : reached (stepsOf 1) s < 2 ^ 64 → reached (stepsOf 0) s < 2 ^ 64 → reached (stepsOf 2) s < 2 ^ 64 → reached (stepsOf 3) s < 2 ^ 64
       → six (standing bbs 0 0) (standing bbs 0 1) (bothOf bbs 1) (bothOf bbs 5) (bitOr (bothOf bbs 2) (bothOf bbs 4)) (bitOr (bothOf bbs 3) (bothOf bbs 4))
-      (stepIn tables 1 s) (stepIn tables 0 s) (stepIn tables 2 s) (stepIn tables 3 s) (board (seen slanted s occ)) (board (seen straight s occ))
-      ≡ attackersWith tables bbs s occ
-  unfolding attackersWith
+      (reached (stepsOf 1) s) (reached (stepsOf 0) s) (reached (stepsOf 2) s) (reached (stepsOf 3) s) (board (seen slanted s occ)) (board (seen straight s occ))
+      ≡ attackers bbs s occ
+  unfolding attackers
   joined h₁ h₂ h₃ h₄ =
       simp has-or at
       (six-is (standing bbs 0 0) (standing bbs 0 1) (bothOf bbs 1) (bothOf bbs 5) (bitOr (bothOf bbs 2) (bothOf bbs 4)) (bitOr (bothOf bbs 3) (bothOf bbs 4))
-      (stepIn tables 1 s) (stepIn tables 0 s) (stepIn tables 2 s) (stepIn tables 3 s) (board (seen slanted s occ)) (board (seen straight s occ))
+      (reached (stepsOf 1) s) (reached (stepsOf 0) s) (reached (stepsOf 2) s) (reached (stepsOf 3) s) (board (seen slanted s occ)) (board (seen straight s occ))
       h₁ h₂ h₃ h₄ (board-lt (seen slanted s occ)) (board-lt (seen straight s occ)))
 
   -- the same of what the calls gave
   pub gathered : (a b c d e f q p₁ p₂ p₃ p₄ p₅ p₆ : ℕ)
       → p₁ < 2 ^ 64 → p₂ < 2 ^ 64 → p₃ < 2 ^ 64 → p₄ < 2 ^ 64
-      → a ≡ standing bbs 0 0 → p₁ ≡ stepIn tables 1 s → b ≡ standing bbs 0 1 → p₂ ≡ stepIn tables 0 s → c ≡ bothOf bbs 1 → p₃ ≡ stepIn tables 2 s
-      → d ≡ bothOf bbs 5 → p₄ ≡ stepIn tables 3 s → q ≡ bothOf bbs 4 → e ≡ bothOf bbs 2 → p₅ ≡ board (seen slanted s occ) → f ≡ bothOf bbs 3 → p₆ ≡ board (seen straight s occ)
-      → six a b c d (bitOr e q) (bitOr f q) p₁ p₂ p₃ p₄ p₅ p₆ ≡ attackersWith tables bbs s occ
+      → a ≡ standing bbs 0 0 → p₁ ≡ reached (stepsOf 1) s → b ≡ standing bbs 0 1 → p₂ ≡ reached (stepsOf 0) s → c ≡ bothOf bbs 1 → p₃ ≡ reached (stepsOf 2) s
+      → d ≡ bothOf bbs 5 → p₄ ≡ reached (stepsOf 3) s → q ≡ bothOf bbs 4 → e ≡ bothOf bbs 2 → p₅ ≡ board (seen slanted s occ) → f ≡ bothOf bbs 3 → p₆ ≡ board (seen straight s occ)
+      → six a b c d (bitOr e q) (bitOr f q) p₁ p₂ p₃ p₄ p₅ p₆ ≡ attackers bbs s occ
   gathered a b c d e f q p₁ p₂ p₃ p₄ p₅ p₆ l₁ l₂ l₃ l₄ h₁ h₂ h₃ h₄ h₅ h₆ h₇ h₈ h₉ h₁₀ h₁₁ h₁₂ h₁₃ =
       rw (h₁, h₂, h₃, h₄, h₅, h₆, h₇, h₈, h₉, h₁₀, h₁₁, h₁₂, h₁₃)
       (joined (rw h₂ at l₁) (rw h₄ at l₂) (rw h₆ at l₃) (rw h₈ at l₄))

@@ -4,8 +4,8 @@ use mathlib.Core.Bool.{Bool}
 use mathlib.Core.List.{List}
 use Prim.Native.Nat.{ℕ}
 use Rattle.position.specs.declared.State.{State}
-use Rattle.attack.specs.Attacks.{standing, occupied, other}
-use Rattle.attack.specs.Lent.{attacksWith, attackersWith, isAttackedWith, isCheckWith}
+use Rattle.attack.specs.Attacks.{standing, occupied, other, attacks, attackers, isAttacked, isCheck}
+use Rattle.attack.specs.Lent.{attacksWith}
 use Rattle.attack.specs.Answers.{pieceAttacksOf, attacksToOf, isAttackedOf, isCheckOf, found, told}
 use Rattle.attack.specs.declared.Found.{Found}
 use Rattle.attack.specs.declared.Told.{Told}
@@ -36,11 +36,14 @@ Occupied bitboards r = r ≡ occupied bitboards
 abbrev pub AttacksWith : List (List ℕ) → ℕ → ℕ → ℕ → ℕ → ℕ → Type 0
 AttacksWith tables kind colour square occ r = r ≡ attacksWith tables kind colour square occ
 
-abbrev pub AttackersWith : List (List ℕ) → List ℕ → ℕ → ℕ → ℕ → Type 0
-AttackersWith tables bitboards square occ r = r ≡ attackersWith tables bitboards square occ
+abbrev pub AttacksFrom : ℕ → ℕ → ℕ → ℕ → ℕ → Type 0
+AttacksFrom kind colour square occ r = r ≡ attacks kind colour square occ
 
-abbrev pub AttackedWith : List (List ℕ) → List ℕ → ℕ → ℕ → Bool → Type 0
-AttackedWith tables bitboards square colour r = r ≡ isAttackedWith tables bitboards square colour
+abbrev pub Attackers : List ℕ → ℕ → ℕ → ℕ → Type 0
+Attackers bitboards square occ r = r ≡ attackers bitboards square occ
 
-abbrev pub CheckWith : List (List ℕ) → List ℕ → ℕ → Bool → Type 0
-CheckWith tables bitboards colour r = r ≡ isCheckWith tables bitboards colour
+abbrev pub Attacked : List ℕ → ℕ → ℕ → Bool → Type 0
+Attacked bitboards square colour r = r ≡ isAttacked bitboards square colour
+
+abbrev pub InCheck : List ℕ → ℕ → Bool → Type 0
+InCheck bitboards colour r = r ≡ isCheck bitboards colour

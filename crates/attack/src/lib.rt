@@ -1,27 +1,18 @@
 // What a piece attacks, who attacks a square, and check, as attack.rs has them: the doors.
 ghost use mathlib.Core.Path.{_≡_};
-ghost use Rattle.attack.specs.Attacks.{attacks};
 ghost use Rattle.attack.specs.Lent.{pawnRow, rowOf};
 ghost use Rattle.attack.specs.Promises.{PieceAttacks, AttacksTo, IsAttacked, IsCheck};
 use chess::color::WHITE;
-use chess::kind::BISHOP;
 use chess::kind::KING;
 use chess::kind::KNIGHT;
 use chess::kind::PAWN;
-use chess::kind::QUEEN;
-use chess::kind::ROOK;
 use chess::refusal::Refusal;
 use position::Checked;
 use position::State;
-use rays::inner::bishop;
-use rays::inner::queen;
-use rays::inner::rook;
 use steps::inner::BLACK_PAWN_ROW;
 use steps::inner::KING_ROW;
 use steps::inner::KNIGHT_ROW;
 use steps::inner::WHITE_PAWN_ROW;
-use steps::inner::reached;
-use steps::inner::tables;
 
 pub mod inner;
 
@@ -57,18 +48,6 @@ fn row(kind: u8, color: u8) -> usize
     }
 }
 
-// What `inner::attacks` gives, where no tables are at hand.
-fn attacks(kind: u8, color: u8, square: u8, occupied: u64) -> u64
-    ensures { λ r. ⌜ r ≡ attacks kind color square occupied ⌝ }
-{
-    match kind {
-        BISHOP => bishop(square, occupied),
-        ROOK => rook(square, occupied),
-        QUEEN => queen(square, occupied),
-        _ => reached(row(kind, color), square),
-    }
-}
-
 // The squares that a piece attacks: SHAPE, SQUARE.
 pub fn piece_attacks(piece: u8, square: u8, occupied: u64) -> Found
     ensures { λ r. ⌜ PieceAttacks piece square occupied r ⌝ }
@@ -82,7 +61,7 @@ pub fn piece_attacks(piece: u8, square: u8, occupied: u64) -> Found
     if square > chess::square::LAST {
         return Found::Refused(Refusal::Square);
     }
-    Found::Squares(attacks(chess::inner::kind(piece), piece % 2, square, occupied))
+    Found::Squares(inner::attacks_from(chess::inner::kind(piece), piece % 2, square, occupied))
 }
 
 // The squares of the pieces of both colours that attack a square, whether they stand in `occupied` or not: SHAPE, BOARD, SQUARE.
@@ -95,8 +74,7 @@ pub fn attacks_to(bitboards: &[u64], board: &[u8], state: State, square: u8, occ
     if square > chess::square::LAST {
         return Found::Refused(Refusal::Square);
     }
-    let tables = tables();
-    Found::Squares(inner::attacks_to(bitboards, square, occupied, &tables))
+    Found::Squares(inner::attacks_to(bitboards, square, occupied))
 }
 
 // Whether a piece of the other colour attacks a square: SHAPE, BOARD, SQUARE.
@@ -112,8 +90,7 @@ pub fn is_attacked(bitboards: &[u64], board: &[u8], state: State, square: u8, co
     if square > chess::square::LAST {
         return Told::Refused(Refusal::Square);
     }
-    let tables = tables();
-    Told::Is(inner::is_attacked(bitboards, square, color, &tables))
+    Told::Is(inner::is_attacked(bitboards, square, color))
 }
 
 // Whether a colour's king is attacked, the lowest if it has several; true if it has none: SHAPE, BOARD.
@@ -126,6 +103,5 @@ pub fn is_check(bitboards: &[u64], board: &[u8], state: State, color: u8) -> Tol
     if let Checked::Refused(refusal) = position::check(bitboards, board, state) {
         return Told::Refused(refusal);
     }
-    let tables = tables();
-    Told::Is(inner::is_check(bitboards, color, &tables))
+    Told::Is(inner::is_check(bitboards, color))
 }

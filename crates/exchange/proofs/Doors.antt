@@ -1,6 +1,6 @@
 -- What the exchange's door returns once the position has passed its test: one law for each return. Where none of them refuses there are at most 32
 -- pieces, one of them on the start, so that the code's room is enough. Assumes nothing.
-use mathlib.Core.Path.{_≡_, refl, sym, ap, ap₂, fun-ext, _∙_}
+use mathlib.Core.Path.{_≡_, refl, sym, ap, ap₂, _∙_}
 use mathlib.Core.Bool.{Bool, true, false, _||_, _&&_, and-false, or-true}
 use mathlib.Core.List.{List}
 use Prim.Native.Nat.{ℕ, zero, suc, _≤_, _<_}
@@ -16,10 +16,7 @@ use Rattle.bits.specs.Bitboard.{has, those}
 use Rattle.bits.proofs.Counts.{many-le}
 use Rattle.bits.proofs.Those.{has-those}
 use Rattle.position.specs.Consistent.{on}
-use Rattle.steps.specs.Steps.{stepTables}
 use Rattle.attack.specs.Attacks.{occupied, attackers}
-use Rattle.attack.specs.Lent.{attackersWith}
-use Rattle.attack.proofs.Doors.{told-attackers}
 use Rattle.exchange.specs.Least.{order}
 use Rattle.exchange.specs.Exchange.{Capture, kindOn, captures, settled, exchangeOf}
 use Rattle.exchange.specs.Answers.{bothOnBoard, mayCapture, uncrowded}
@@ -47,12 +44,10 @@ module _ (kinds bbs bytes : List ℕ) (side from to : ℕ) where
   unfolding exchangeOf
   exchange-is = refl
 
-  pub room : (tables : List (List ℕ)) → tables ≡ stepTables → from < 64 → side < 2 → mayCapture bbs bytes side from to ≡ true → uncrowded bbs ≡ true
-      → exchangeWith tables kinds bbs bytes side from to ≡ exchangeOf kinds bbs bytes side from to
-  room tables t h l m u =
-      ap (λ (f : ℕ → ℕ). settled (values (captures kinds bbs f 31 side from first target)))
-      (fun-ext (λ occ. told-attackers tables bbs to occ (attackersWith tables bbs to occ) t refl))
-      ∙ ap (λ (cs : List Capture). settled (values cs))
+  pub room : from < 64 → side < 2 → mayCapture bbs bytes side from to ≡ true → uncrowded bbs ≡ true
+      → exchangeWith kinds bbs bytes side from to ≡ exchangeOf kinds bbs bytes side from to
+  room h l m u =
+      ap (λ (cs : List Capture). settled (values cs))
       (never-out kinds bbs (attackers bbs to) 31 64 side from first target h (stands-there bbs side from h l (own-there bbs bytes side from to m))
       (few-pieces bbs u) (omega (arith, many-le 64 (has (occupied bbs)))))
       ∙ sym exchange-is

@@ -9,13 +9,9 @@ use borrow.Author.Tests.{le-leb, lt-leb, leb-true}
 use Rattle.laws.proofs.Truth.{true-T, T-true, and-l, and-r}
 use Rattle.bits.specs.Bitboard.{has, howMany}
 use Rattle.position.specs.Consistent.{on}
-use Rattle.steps.specs.Steps.{stepTables}
 use Rattle.attack.specs.Attacks.{standing, occupied, other, attacks}
-use Rattle.attack.specs.Lent.{attacksWith}
-use Rattle.attack.proofs.Lent.{lent-attacks}
 use Rattle.exchange.specs.Exchange.{kindOn}
 use Rattle.exchange.specs.Answers.{mayCapture, uncrowded}
-use Rattle.exchange.specs.Lent.{mayCaptureWith}
 
 -- ---- three tests in a row
 module _ (a b c : Bool) where
@@ -29,29 +25,24 @@ module _ (a b c : Bool) where
   third-decides e f = sym (ap₂ (λ (t u : Bool). t && u && c) e f)
 
 -- ---- MOVE
-module _ (tables : List (List ℕ)) (bbs bytes : List ℕ) (side from to : ℕ) where
+module _ (bbs bytes : List ℕ) (side from to : ℕ) where
   abbrev attacked : Bool
-  attacked = has (attacksWith tables (kindOn bytes from) side from (occupied bbs)) to
+  attacked = has (attacks (kindOn bytes from) side from (occupied bbs)) to
 
-  pub no-own : on bbs side from ≡ false → false ≡ mayCaptureWith tables bbs bytes side from to
+  pub no-own : on bbs side from ≡ false → false ≡ mayCapture bbs bytes side from to
+  unfolding mayCapture
   no-own = first-fails (on bbs side from) (on bbs (other side) to) attacked
 
-  pub no-other : on bbs side from ≡ true → on bbs (other side) to ≡ false → false ≡ mayCaptureWith tables bbs bytes side from to
+  pub no-other : on bbs side from ≡ true → on bbs (other side) to ≡ false → false ≡ mayCapture bbs bytes side from to
+  unfolding mayCapture
   no-other = second-fails (on bbs side from) (on bbs (other side) to) attacked
 
-  pub attack-only : (kind o b : ℕ) (r : Bool) → r ≡ has b to → b ≡ attacksWith tables kind side from o → kind ≡ kindOn bytes from → o ≡ occupied bbs
-      → on bbs side from ≡ true → on bbs (other side) to ≡ true → r ≡ mayCaptureWith tables bbs bytes side from to
-  attack-only kind o b r er eb ek eo e f =
-      er ∙ ap (λ (x : ℕ). has x to) (eb ∙ ap₂ (λ (x y : ℕ). attacksWith tables x side from y) ek eo)
-      ∙ third-decides (on bbs side from) (on bbs (other side) to) attacked e f
-
-  -- with the paper's tables it is the paper's test
-  pub told-move : (r : Bool) → tables ≡ stepTables → r ≡ mayCaptureWith tables bbs bytes side from to → r ≡ mayCapture bbs bytes side from to
+  pub attack-only : (kind o b : ℕ) (r : Bool) → r ≡ has b to → b ≡ attacks kind side from o → kind ≡ kindOn bytes from → o ≡ occupied bbs
+      → on bbs side from ≡ true → on bbs (other side) to ≡ true → r ≡ mayCapture bbs bytes side from to
   unfolding mayCapture
-  told-move r t e =
-      e
-      ∙ ap (λ (x : ℕ). on bbs side from && on bbs (other side) to && has x to)
-      (ap (λ (x : List (List ℕ)). attacksWith x (kindOn bytes from) side from (occupied bbs)) t ∙ lent-attacks (kindOn bytes from) side from (occupied bbs))
+  attack-only kind o b r er eb ek eo e f =
+      er ∙ ap (λ (x : ℕ). has x to) (eb ∙ ap₂ (λ (x y : ℕ). attacks x side from y) ek eo)
+      ∙ third-decides (on bbs side from) (on bbs (other side) to) attacked e f
 
 -- ---- CROWD
 module _ (bbs : List ℕ) where

@@ -7,10 +7,10 @@ ghost use Rattle.bits.specs.Bitboard.{has};
 ghost use Rattle.position.specs.Consistent.{on};
 ghost use Rattle.exchange.specs.Least.{stillThere, leastOf};
 ghost use Rattle.exchange.specs.Exchange.{kindOn, without, settled};
-ghost use Rattle.exchange.specs.Answers.{uncrowded};
-ghost use Rattle.exchange.specs.Lent.{told, leastWith, mayCaptureWith, exchangeWith};
+ghost use Rattle.exchange.specs.Answers.{mayCapture, uncrowded};
+ghost use Rattle.exchange.specs.Lent.{told, leastWith, exchangeWith};
 ghost use Rattle.exchange.specs.Promises.{Lvp, See};
-use attack::inner::attacks;
+use attack::inner::attacks_from;
 use attack::inner::attacks_to;
 use attack::inner::occupied;
 use attack::inner::other;
@@ -28,7 +28,6 @@ use chess::kind::PAWN;
 use chess::kind::QUEEN;
 use chess::kind::ROOK;
 use chess::refusal::Refusal;
-use chess::square::Square;
 use position::Checked;
 use position::State;
 
@@ -115,17 +114,10 @@ fn pick(bitboards: &[u64], kinds: &[u8], color: u8, attacks: u64, occupied: u64)
 }
 
 // Who captures on `to` next: attacks are found afresh.
-fn capturer(
-    bitboards: &[u64],
-    kinds: &[u8],
-    tables: &[[u64; Square::COUNT]; 4],
-    color: u8,
-    to: u8,
-    occupied: u64,
-) -> Attacker
-    ensures { λ r. ⌜ told r ≡ leastWith (now (tables .entry)) (now (kinds .entry)) (now (bitboards .entry)) color to occupied ⌝ }
+fn capturer(bitboards: &[u64], kinds: &[u8], color: u8, to: u8, occupied: u64) -> Attacker
+    ensures { λ r. ⌜ told r ≡ leastWith (now (kinds .entry)) (now (bitboards .entry)) color to occupied ⌝ }
 {
-    let attacks = attacks_to(bitboards, to, occupied, tables);
+    let attacks = attacks_to(bitboards, to, occupied);
     pick(bitboards, kinds, color, attacks, occupied)
 }
 
@@ -157,16 +149,8 @@ fn settle(taken: &[u8]) -> i16
 }
 
 // The exchange on `to` that the piece on `from` starts, by the kinds in the order given. With 32 pieces it has at most 31 captures.
-fn exchange(
-    bitboards: &[u64],
-    board: &[u8],
-    kinds: &[u8],
-    tables: &[[u64; Square::COUNT]; 4],
-    side: u8,
-    from: u8,
-    to: u8,
-) -> i16
-    ensures { λ r. ⌜ r ≡ exchangeWith (now (tables .entry)) (now (kinds .entry)) (now (bitboards .entry)) (now (board .entry)) side from to ⌝ }
+fn exchange(bitboards: &[u64], board: &[u8], kinds: &[u8], side: u8, from: u8, to: u8) -> i16
+    ensures { λ r. ⌜ r ≡ exchangeWith (now (kinds .entry)) (now (bitboards .entry)) (now (board .entry)) side from to ⌝ }
 {
     let mut taken: [u8; 32] = [0; 32];
     taken[0] = kind_on(board, to);
@@ -175,7 +159,7 @@ fn exchange(
     let mut there = without(occupied(bitboards), from);
     let mut color = other(side);
     while n < 32 {
-        let a = capturer(bitboards, kinds, tables, color, to, there);
+        let a = capturer(bitboards, kinds, color, to, there);
         let Attacker::At(square, kind) = a else {
             return settle(&taken[0..n]);
         };
@@ -189,15 +173,8 @@ fn exchange(
 }
 
 // A piece of the side on the start, one of the other side on the target, and the first attacks the second.
-fn may_capture(
-    bitboards: &[u64],
-    board: &[u8],
-    tables: &[[u64; Square::COUNT]; 4],
-    side: u8,
-    from: u8,
-    to: u8,
-) -> bool
-    ensures { λ r. ⌜ r ≡ mayCaptureWith (now (tables .entry)) (now (bitboards .entry)) (now (board .entry)) side from to ⌝ }
+fn may_capture(bitboards: &[u64], board: &[u8], side: u8, from: u8, to: u8) -> bool
+    ensures { λ r. ⌜ r ≡ mayCapture (now (bitboards .entry)) (now (board .entry)) side from to ⌝ }
 {
     if !stands(bitboards, side, from) {
         return false;
@@ -205,13 +182,7 @@ fn may_capture(
     if !stands(bitboards, other(side), to) {
         return false;
     }
-    let targets = attacks(
-        kind_on(board, from),
-        side,
-        from,
-        occupied(bitboards),
-        tables,
-    );
+    let targets = attacks_from(kind_on(board, from), side, from, occupied(bitboards));
     holds(targets, to)
 }
 
@@ -265,13 +236,12 @@ pub fn see(bitboards: &[u64], board: &[u8], state: State, from: u8, to: u8) -> E
     if to > chess::square::LAST {
         return Exchanged::Refused(Refusal::Square);
     }
-    let tables = steps::inner::tables();
-    if !may_capture(bitboards, board, &tables, state.side, from, to) {
+    if !may_capture(bitboards, board, state.side, from, to) {
         return Exchanged::Refused(Refusal::Move);
     }
     if !uncrowded(bitboards) {
         return Exchanged::Refused(Refusal::Crowd);
     }
     let kinds = ORDER;
-    Exchanged::Worth(exchange(bitboards, board, &kinds, &tables, state.side, from, to))
+    Exchanged::Worth(exchange(bitboards, board, &kinds, state.side, from, to))
 }

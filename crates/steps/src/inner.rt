@@ -40,15 +40,32 @@ pub fn tables() -> [[u64; Square::COUNT]; 4]
     ]
 }
 
-// For a single square, where no tables are at hand.
+// Not off the file beside it, nor off the two: where a shift within a rank may come to.
+const RIGHT_OF: u64 = 0xfefe_fefe_fefe_fefe;
+
+const LEFT_OF: u64 = 0x7f7f_7f7f_7f7f_7f7f;
+
+const TWO_RIGHT_OF: u64 = 0xfcfc_fcfc_fcfc_fcfc;
+
+const TWO_LEFT_OF: u64 = 0x3f3f_3f3f_3f3f_3f3f;
+
+// For a single square, where no tables are at hand: shifts are quicker than a table made for it.
 pub fn reached(row: usize, square: u8) -> u64
     ensures { λ r. ⌜ Reaches row square r ⌝ }
 {
-    let table = table(row);
     if square > chess::square::LAST {
         return 0;
     }
-    table[square as usize]
+    let own: u64 = 1 << square;
+    let beside = ((own << 1) & RIGHT_OF) | ((own >> 1) & LEFT_OF);
+    let two_beside = ((own << 2) & TWO_RIGHT_OF) | ((own >> 2) & TWO_LEFT_OF);
+    match row {
+        WHITE_PAWN_ROW => beside << 8,
+        BLACK_PAWN_ROW => beside >> 8,
+        KNIGHT_ROW => ((beside << 16) | (beside >> 16)) | ((two_beside << 8) | (two_beside >> 8)),
+        KING_ROW => beside | (((own | beside) << 8) | ((own | beside) >> 8)),
+        _ => 0,
+    }
 }
 
 // The squares that the steps of a row reach from a square; none past the tables.

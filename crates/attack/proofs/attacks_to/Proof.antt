@@ -4,7 +4,7 @@ use mathlib.Core.Path.{_∙_}
 use Rattle.bits.specs.Answers.{onBoard}
 use Rattle.position.proofs.Doors.{pass-on, fit-rest}
 use Rattle.attack.specs.Attacks.{attackers}
-use Rattle.attack.proofs.Doors.{off-board, on-board, told-attackers}
+use Rattle.attack.proofs.Doors.{off-board, on-board}
 use borrow.Author.Needs.{needs}
 use Rattle.attack.proofs.attacks_to.Statement.{statement}
 use Rattle.attack.proofs.attacks_to.Tie as tie
@@ -34,19 +34,16 @@ returns-2 c =
     ∙ fit-rest (a .bitboards .now) (a .board .now) (a .state) (k .check .result) (k .check .ensures)
     (onBoard (a .square) (attackers (a .bitboards .now) (a .square) (a .occupied))) (e .enum-told .given .1)
 
-tables-requires : tie.Need-tables-requires
-tables-requires c κs = search needs
-
 attacks-to-requires : tie.Need-attacks-to-requires
 attacks-to-requires c κs = search needs
 
 returns-3 : tie.Need-returns-3
 returns-3 c =
-    let e = c .before .before .before .before in
+    let e = c .before .before in
     let k = e .before .before in
     let a = k .before .before .before .args in
     on-board (a .square) (attackers (a .bitboards .now) (a .square) (a .occupied)) (c .attacks-to .result) (omega arith)
-    (told-attackers _ (a .bitboards .now) (a .square) (a .occupied) (c .attacks-to .result) (c .before .before .tables .ensures) (c .attacks-to .ensures))
+    (c .attacks-to .ensures)
     ∙ fit-rest (a .bitboards .now) (a .board .now) (a .state) (k .check .result) (k .check .ensures)
     (onBoard (a .square) (attackers (a .bitboards .now) (a .square) (a .occupied))) (e .enum-told .given .1)
 
@@ -59,6 +56,5 @@ attacks-to-spec =
     returns
     enum-told
     returns-2
-    tables-requires
     attacks-to-requires
     returns-3)

@@ -5,7 +5,7 @@ use Rattle.bits.specs.Answers.{onBoard}
 use Rattle.position.specs.Consistent.{checked}
 use Rattle.position.proofs.Doors.{pass-on, fit-rest}
 use Rattle.attack.specs.Attacks.{isAttacked}
-use Rattle.attack.proofs.Doors.{off-board, on-board, no-colour, a-colour, told-attacked}
+use Rattle.attack.proofs.Doors.{off-board, on-board, no-colour, a-colour}
 use borrow.Author.Needs.{needs}
 use Rattle.attack.proofs.is_attacked.Statement.{statement}
 use Rattle.attack.proofs.is_attacked.Tie as tie
@@ -41,19 +41,16 @@ returns-3 c =
     ∙ fit-rest (a .bitboards .now) (a .board .now) (a .state) (k .check .result) (k .check .ensures) (onBoard (a .square) (isAttacked (a .bitboards .now) (a .square) (a .color))) (e .enum-told .given .1)
     ∙ a-colour (a .color) (checked (a .bitboards .now) (a .board .now) (a .state .side) (onBoard (a .square) (isAttacked (a .bitboards .now) (a .square) (a .color)))) (omega arith)
 
-tables-requires : tie.Need-tables-requires
-tables-requires c κs = search needs
-
 is-attacked-requires : tie.Need-is-attacked-requires
 is-attacked-requires c κs = search needs
 
 returns-4 : tie.Need-returns-4
 returns-4 c =
-    let e = c .before .before .before .before in
+    let e = c .before .before in
     let k = e .before .before in
     let a = k .before .before .before .before .args in
     on-board (a .square) (isAttacked (a .bitboards .now) (a .square) (a .color)) (c .is-attacked .result) (omega arith)
-    (told-attacked _ (a .bitboards .now) (a .square) (a .color) (c .is-attacked .result) (c .before .before .tables .ensures) (c .is-attacked .ensures))
+    (c .is-attacked .ensures)
     ∙ fit-rest (a .bitboards .now) (a .board .now) (a .state) (k .check .result) (k .check .ensures) (onBoard (a .square) (isAttacked (a .bitboards .now) (a .square) (a .color))) (e .enum-told .given .1)
     ∙ a-colour (a .color) (checked (a .bitboards .now) (a .board .now) (a .state .side) (onBoard (a .square) (isAttacked (a .bitboards .now) (a .square) (a .color)))) (omega arith)
 
@@ -67,6 +64,5 @@ is-attacked-spec =
     returns-2
     enum-told
     returns-3
-    tables-requires
     is-attacked-requires
     returns-4)

@@ -5,7 +5,7 @@ use Rattle.chess.specs.Answer.{given}
 use Rattle.position.specs.Consistent.{checked}
 use Rattle.position.proofs.Doors.{pass-on, fit-rest}
 use Rattle.attack.specs.Attacks.{isCheck}
-use Rattle.attack.proofs.Doors.{no-colour, a-colour, told-check}
+use Rattle.attack.proofs.Doors.{no-colour, a-colour}
 use borrow.Author.Needs.{needs}
 use Rattle.attack.proofs.is_check.Statement.{statement}
 use Rattle.attack.proofs.is_check.Tie as tie
@@ -32,18 +32,15 @@ returns-2 c =
 enum-told : tie.Need-enum-told
 enum-told c = search needs
 
-tables-requires : tie.Need-tables-requires
-tables-requires c κs = search needs
-
 is-check-requires : tie.Need-is-check-requires
 is-check-requires c κs = search needs
 
 returns-3 : tie.Need-returns-3
 returns-3 c =
-    let e = c .before .before .before in
+    let e = c .before in
     let k = e .before .before in
     let a = k .before .before .before .before .args in
-    ap given (told-check _ (a .bitboards .now) (a .color) (c .is-check .result) (c .before .before .tables .ensures) (c .is-check .ensures))
+    ap given (c .is-check .ensures)
     ∙ fit-rest (a .bitboards .now) (a .board .now) (a .state) (k .check .result) (k .check .ensures) (given (isCheck (a .bitboards .now) (a .color))) (e .enum-told .given .1)
     ∙ a-colour (a .color) (checked (a .bitboards .now) (a .board .now) (a .state .side) (given (isCheck (a .bitboards .now) (a .color)))) (omega arith)
 
@@ -56,6 +53,5 @@ is-check-spec =
     enum-known-refusal
     returns-2
     enum-told
-    tables-requires
     is-check-requires
     returns-3)

@@ -17,15 +17,15 @@ returns-3 c = let a = c .before .before .before .args in piece-off (a .piece) (a
 kind-requires : tie.Need-kind-requires
 kind-requires c κs = search needs
 
-attacks-requires : tie.Need-attacks-requires
-attacks-requires c κs = search needs
+attacks-from-requires : tie.Need-attacks-from-requires
+attacks-from-requires c κs = search needs
 
 returns-4 : tie.Need-returns-4
 returns-4 c =
     let a = c .before .before .before .before .before .args in
-    piece-on (a .piece) (a .square) (a .occupied) (c .before .kind .result) (c .attacks .result) (omega arith) (omega arith) (omega arith)
-    (c .before .kind .ensures) (c .attacks .ensures)
+    piece-on (a .piece) (a .square) (a .occupied) (c .before .kind .result) (c .attacks-from .result) (omega arith) (omega arith) (omega arith)
+    (c .before .kind .ensures) (c .attacks-from .ensures)
 
 pub piece-attacks-spec : {M : Type 1} → statement M
 piece-attacks-spec =
-    tie.close (tie.spec returns returns-2 returns-3 kind-requires attacks-requires returns-4)
+    tie.close (tie.spec returns returns-2 returns-3 kind-requires attacks-from-requires returns-4)

@@ -6,7 +6,7 @@ use native.Mathlib.Omega.{arith}
 use lib.ListN.{length, length-set}
 use mir.Syntax.{w16}
 use mir.Facts.{toZ-ofZ}
-use Rattle.attack.specs.Lent.{attackersWith}
+use Rattle.attack.specs.Attacks.{attackers}
 use Rattle.exchange.specs.Exchange.{kindOn}
 use Rattle.exchange.specs.Lent.{told, capturesWith}
 use Rattle.exchange.proofs.Forward.{values, all, begins, turn, stops, spent, ended}
@@ -15,13 +15,13 @@ use Rattle.exchange.proofs.exchange.Statement.{statement}
 use Rattle.exchange.proofs.exchange.Tie as tie
 
 abbrev Inv-loop : tie.InvT-loop
-Inv-loop bitboards board kinds tables side from to taken₀ n₀ last₀ there₀ color₀ taken n last there color =
+Inv-loop bitboards board kinds side from to taken₀ n₀ last₀ there₀ color₀ taken n last there color =
     (n ≤ 32)
     × (length taken ≡ 32)
-    × (all kinds bitboards (attackersWith tables bitboards to) taken n there color last ≡ values (capturesWith tables kinds bitboards board side from to))
+    × (all kinds bitboards (attackers bitboards to) taken n there color last ≡ values (capturesWith kinds bitboards board side from to))
 
 abbrev μ-loop : tie.MeasureT-loop
-μ-loop bitboards board kinds tables side from to taken₀ n₀ last₀ there₀ color₀ taken n last there color = 32 - n
+μ-loop bitboards board kinds side from to taken₀ n₀ last₀ there₀ color₀ taken n last there color = 32 - n
 
 kind-on-requires : tie.Need-kind-on-requires Inv-loop μ-loop
 kind-on-requires c κs = search needs
@@ -50,7 +50,7 @@ loop-holds c =
     let w = c .before .without in (
       omega arith,
       refl,
-      begins (a .kinds .now) (a .bitboards .now) (attackersWith (a .tables .now) (a .bitboards .now) (a .to)) (a .side) (a .from)
+      begins (a .kinds .now) (a .bitboards .now) (attackers (a .bitboards .now) (a .to)) (a .side) (a .from)
           (first .result) (second .result) (o .result) (w .result) (c .other .result) (kindOn (a .board .now) (a .from)) (kindOn (a .board .now) (a .to))
           (first .ensures) (second .ensures) (o .ensures) (w .ensures) (c .other .ensures),
     )
@@ -80,10 +80,10 @@ returns : tie.Need-returns Inv-loop μ-loop
 returns c =
     let l = c .before .before .before .before .before .before .before .loop in
     let a = c .before .before .before .before .before .before .before .before .before .before .before .before .before .before .before .before .args in
-    let afresh = attackersWith (a .tables .now) (a .bitboards .now) (a .to) in
+    let afresh = attackers (a .bitboards .now) (a .to) in
     toZ-ofZ {w = w16} {z = c .settle .result} (sfits-of (c .settle .ok))
     ∙ ended (a .kinds .now) (a .bitboards .now) afresh (l .taken) (l .n) (l .there) (l .color) (l .last)
-    (values (capturesWith (a .tables .now) (a .kinds .now) (a .bitboards .now) (a .board .now) (a .side) (a .from) (a .to))) (c .settle .result) (c .settle .ensures)
+    (values (capturesWith (a .kinds .now) (a .bitboards .now) (a .board .now) (a .side) (a .from) (a .to))) (c .settle .result) (c .settle .ensures)
     (stops (a .kinds .now) (a .bitboards .now) afresh (32 - l .n) (l .there) (l .color) _
     (sym (c .before .before .before .before .before .capturer .ensures) ∙ ap told (c .before .before .before .enum-told .given .1)))
     (l .inv .2)
@@ -110,7 +110,7 @@ loop-again c =
     let g = c .before .before .before .a .given in (
       omega arith,
       length-set (l .taken) (l .n) (l .last) ∙ l .inv .1,
-      turn (a .kinds .now) (a .bitboards .now) (attackersWith (a .tables .now) (a .bitboards .now) (a .to)) (l .taken) (l .n) (l .there) (l .color) (l .last)
+      turn (a .kinds .now) (a .bitboards .now) (attackers (a .bitboards .now) (a .to)) (l .taken) (l .n) (l .there) (l .color) (l .last)
           (g .0 .0) (g .0 .1 .0) (c .before .without2 .result) (c .other2 .result) (omega arith) (omega arith)
           (sym (c .before .before .before .before .before .capturer .ensures) ∙ ap told (g .1)) (c .before .without2 .ensures) (c .other2 .ensures)
           ∙ l .inv .2,
@@ -132,10 +132,10 @@ returns-2 : tie.Need-returns-2 Inv-loop μ-loop
 returns-2 c =
     let l = c .before .before .before .before .loop in
     let a = c .before .before .before .before .before .before .before .before .before .before .before .before .before .args in
-    let afresh = attackersWith (a .tables .now) (a .bitboards .now) (a .to) in
+    let afresh = attackers (a .bitboards .now) (a .to) in
     toZ-ofZ {w = w16} {z = c .settle2 .result} (sfits-of (c .settle2 .ok))
     ∙ ended (a .kinds .now) (a .bitboards .now) afresh (l .taken) (l .n) (l .there) (l .color) (l .last)
-    (values (capturesWith (a .tables .now) (a .kinds .now) (a .bitboards .now) (a .board .now) (a .side) (a .from) (a .to))) (c .settle2 .result) (c .settle2 .ensures)
+    (values (capturesWith (a .kinds .now) (a .bitboards .now) (a .board .now) (a .side) (a .from) (a .to))) (c .settle2 .result) (c .settle2 .ensures)
     (spent (a .kinds .now) (a .bitboards .now) afresh (32 - l .n) (l .there) (l .color) _ (omega arith))
     (l .inv .2)
 

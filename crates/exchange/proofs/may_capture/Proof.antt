@@ -17,7 +17,7 @@ returns : tie.Need-returns
 returns c =
     let k = c .before in
     let a = k .before .before .before .args in
-    no-own (a .tables .now) (a .bitboards .now) (a .board .now) (a .side) (a .from) (a .to) (sym (k .stands .ensures) ∙ not-true (k .stands .result) (c .if1 .taken))
+    no-own (a .bitboards .now) (a .board .now) (a .side) (a .from) (a .to) (sym (k .stands .ensures) ∙ not-true (k .stands .result) (c .if1 .taken))
 
 other-requires : tie.Need-other-requires
 other-requires c κs = search needs
@@ -37,7 +37,7 @@ returns-2 : tie.Need-returns-2
 returns-2 c =
     let k = c .before in
     let a = k .before .before .before .before .before .before .args in
-    no-other (a .tables .now) (a .bitboards .now) (a .board .now) (a .side) (a .from) (a .to) (own (k .before .before)) (sym (their k) ∙ not-true (k .stands2 .result) (c .if2 .taken))
+    no-other (a .bitboards .now) (a .board .now) (a .side) (a .from) (a .to) (own (k .before .before)) (sym (their k) ∙ not-true (k .stands2 .result) (c .if2 .taken))
 
 kind-on-requires : tie.Need-kind-on-requires
 kind-on-requires c κs = search needs
@@ -45,8 +45,8 @@ kind-on-requires c κs = search needs
 occupied-requires : tie.Need-occupied-requires
 occupied-requires c κs = search needs
 
-attacks-requires : tie.Need-attacks-requires
-attacks-requires c κs = search needs
+attacks-from-requires : tie.Need-attacks-from-requires
+attacks-from-requires c κs = search needs
 
 holds-requires : tie.Need-holds-requires
 holds-requires c κs = search needs
@@ -56,9 +56,9 @@ returns-3 c =
     let e = c .before .before .before .before in
     let k = e .before in
     let a = k .before .before .before .before .before .before .args in
-    attack-only (a .tables .now) (a .bitboards .now) (a .board .now) (a .side) (a .from) (a .to)
-    (c .before .before .before .kind-on .result) (c .before .before .occupied .result) (c .before .attacks .result) (c .holds .result)
-    (c .holds .ensures) (c .before .attacks .ensures) (c .before .before .before .kind-on .ensures) (c .before .before .occupied .ensures)
+    attack-only (a .bitboards .now) (a .board .now) (a .side) (a .from) (a .to)
+    (c .before .before .before .kind-on .result) (c .before .before .occupied .result) (c .before .attacks-from .result) (c .holds .result)
+    (c .holds .ensures) (c .before .attacks-from .ensures) (c .before .before .before .kind-on .ensures) (c .before .before .occupied .ensures)
     (own (k .before .before)) (sym (their k) ∙ not-false (k .stands2 .result) (e .if2 .left))
 
 pub may-capture-spec : {M : Type 1} → statement M
@@ -72,6 +72,6 @@ may-capture-spec =
     returns-2
     kind-on-requires
     occupied-requires
-    attacks-requires
+    attacks-from-requires
     holds-requires
     returns-3)

@@ -8,7 +8,6 @@ use borrow.Author.Tests.{not-true, not-false}
 use Rattle.position.proofs.Doors.{pass-on, fit-rest, fit-shaped, side-below-2}
 use Rattle.exchange.specs.Least.{order}
 use Rattle.exchange.specs.Answers.{mayCapture, uncrowded}
-use Rattle.exchange.proofs.Tested.{told-move}
 use Rattle.exchange.proofs.Doors.{room, rest, from-off, to-off, no-move, crowd, worth}
 use borrow.Author.Needs.{needs, sfits-of}
 use Rattle.exchange.proofs.see.Statement.{statement}
@@ -48,19 +47,16 @@ returns-3 c =
     ∙ fit-rest (a .bitboards .now) (a .board .now) (a .state) (k .check .result) (k .check .ensures)
     (rest (a .bitboards .now) (a .board .now) (a .state .side) (a .from) (a .to)) (e .enum-told .given .1)
 
-tables-requires : tie.Need-tables-requires
-tables-requires c κs = search needs
-
 may-capture-requires : tie.Need-may-capture-requires
 may-capture-requires c κs = search needs
 
 returns-4 : tie.Need-returns-4
 returns-4 c =
     let m = c .before in
-    let e = m .before .before .before .before .before in
+    let e = m .before .before .before in
     let k = e .before .before in
     let a = k .before .before .before .args in
-    let t = told-move _ (a .bitboards .now) (a .board .now) (a .state .side) (a .from) (a .to) (m .may-capture .result) (m .before .before .tables .ensures) (m .may-capture .ensures) in
+    let t = m .may-capture .ensures in
     no-move (a .bitboards .now) (a .board .now) (a .state .side) (a .from) (a .to) (omega arith) (omega arith) (sym t ∙ not-true (m .may-capture .result) (c .if3 .taken))
     ∙ fit-rest (a .bitboards .now) (a .board .now) (a .state) (k .check .result) (k .check .ensures)
     (rest (a .bitboards .now) (a .board .now) (a .state .side) (a .from) (a .to)) (e .enum-told .given .1)
@@ -72,10 +68,10 @@ returns-5 : tie.Need-returns-5
 returns-5 c =
     let u = c .before in
     let m = u .before .before in
-    let e = m .before .before .before .before .before in
+    let e = m .before .before .before in
     let k = e .before .before in
     let a = k .before .before .before .args in
-    let t = told-move _ (a .bitboards .now) (a .board .now) (a .state .side) (a .from) (a .to) (m .may-capture .result) (m .before .before .tables .ensures) (m .may-capture .ensures) in
+    let t = m .may-capture .ensures in
     crowd (a .bitboards .now) (a .board .now) (a .state .side) (a .from) (a .to) (omega arith) (omega arith) (sym t ∙ not-false (m .may-capture .result) (u .before .if3 .left))
     (sym (u .uncrowded .ensures) ∙ not-true (u .uncrowded .result) (c .if4 .taken))
     ∙ fit-rest (a .bitboards .now) (a .board .now) (a .state) (k .check .result) (k .check .ensures)
@@ -89,19 +85,19 @@ exchange-requires c κs = search needs
 
 returns-6 : tie.Need-returns-6
 returns-6 c =
-    let f = c .before .before .before in
+    let f = c .before .before in
     let u = f .before in
     let m = u .before .before in
-    let e = m .before .before .before .before .before in
+    let e = m .before .before .before in
     let k = e .before .before in
     let a = k .before .before .before .args in
-    let t = told-move _ (a .bitboards .now) (a .board .now) (a .state .side) (a .from) (a .to) (m .may-capture .result) (m .before .before .tables .ensures) (m .may-capture .ensures) in
+    let t = m .may-capture .ensures in
     let may = sym t ∙ not-false (m .may-capture .result) (u .before .if3 .left) in
     let few = sym (u .uncrowded .ensures) ∙ not-false (u .uncrowded .result) (f .if4 .left) in
     let side = side-below-2 (a .bitboards .now) (a .board .now) (a .state .side) (fit-shaped (a .bitboards .now) (a .board .now) (a .state) (k .check .result) (k .check .ensures) (e .enum-told .given .1)) in
     worth (a .bitboards .now) (a .board .now) (a .state .side) (a .from) (a .to) _ (omega arith) (omega arith) may few
     (toZ-ofZ {w = w16} {z = c .exchange .result} (sfits-of (c .exchange .ok))
-    ∙ c .exchange .ensures ∙ room order (a .bitboards .now) (a .board .now) (a .state .side) (a .from) (a .to) _ (m .before .before .tables .ensures) (omega arith) side may few)
+    ∙ c .exchange .ensures ∙ room order (a .bitboards .now) (a .board .now) (a .state .side) (a .from) (a .to) (omega arith) side may few)
     ∙ fit-rest (a .bitboards .now) (a .board .now) (a .state) (k .check .result) (k .check .ensures)
     (rest (a .bitboards .now) (a .board .now) (a .state .side) (a .from) (a .to)) (e .enum-told .given .1)
 
@@ -115,7 +111,6 @@ see-spec =
     enum-told
     returns-2
     returns-3
-    tables-requires
     may-capture-requires
     returns-4
     uncrowded-requires

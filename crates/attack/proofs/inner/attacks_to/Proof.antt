@@ -7,26 +7,26 @@ use Rattle.attack.proofs.inner.attacks_to.Tie as tie
 standing-requires : tie.Need-standing-requires
 standing-requires c κs = search needs
 
-step-requires : tie.Need-step-requires
-step-requires c κs = search needs
+reached-requires : tie.Need-reached-requires
+reached-requires c κs = search needs
 
 standing-requires-2 : tie.Need-standing-requires-2
 standing-requires-2 c κs = search needs
 
-step-requires-2 : tie.Need-step-requires-2
-step-requires-2 c κs = search needs
+reached-requires-2 : tie.Need-reached-requires-2
+reached-requires-2 c κs = search needs
 
 both-requires : tie.Need-both-requires
 both-requires c κs = search needs
 
-step-requires-3 : tie.Need-step-requires-3
-step-requires-3 c κs = search needs
+reached-requires-3 : tie.Need-reached-requires-3
+reached-requires-3 c κs = search needs
 
 both-requires-2 : tie.Need-both-requires-2
 both-requires-2 c κs = search needs
 
-step-requires-4 : tie.Need-step-requires-4
-step-requires-4 c κs = search needs
+reached-requires-4 : tie.Need-reached-requires-4
+reached-requires-4 c κs = search needs
 
 both-requires-3 : tie.Need-both-requires-3
 both-requires-3 c κs = search needs
@@ -46,19 +46,19 @@ rook-requires c κs = search needs
 returns : tie.Need-returns
 returns c =
     let a = c .before .before .before .before .before .before .before .before .before .before .before .before .before .before .args in
-    gathered (a .tables .now) (a .bitboards .now) (a .square) (a .occupied) _ _ _ _ _ _ _ _ _ _ _ _ _
-    (c .before .before .before .before .before .before .before .before .before .before .before .step .ok)
-    (c .before .before .before .before .before .before .before .before .before .step2 .ok)
-    (c .before .before .before .before .before .before .before .step3 .ok)
-    (c .before .before .before .before .before .step4 .ok)
+    gathered (a .bitboards .now) (a .square) (a .occupied) _ _ _ _ _ _ _ _ _ _ _ _ _
+    (c .before .before .before .before .before .before .before .before .before .before .before .reached .ok)
+    (c .before .before .before .before .before .before .before .before .before .reached2 .ok)
+    (c .before .before .before .before .before .before .before .reached3 .ok)
+    (c .before .before .before .before .before .reached4 .ok)
     (c .before .before .before .before .before .before .before .before .before .before .before .before .standing .ensures)
-    (c .before .before .before .before .before .before .before .before .before .before .before .step .ensures)
+    (c .before .before .before .before .before .before .before .before .before .before .before .reached .ensures)
     (c .before .before .before .before .before .before .before .before .before .before .standing2 .ensures)
-    (c .before .before .before .before .before .before .before .before .before .step2 .ensures)
+    (c .before .before .before .before .before .before .before .before .before .reached2 .ensures)
     (c .before .before .before .before .before .before .before .before .both .ensures)
-    (c .before .before .before .before .before .before .before .step3 .ensures)
+    (c .before .before .before .before .before .before .before .reached3 .ensures)
     (c .before .before .before .before .before .before .both2 .ensures)
-    (c .before .before .before .before .before .step4 .ensures)
+    (c .before .before .before .before .before .reached4 .ensures)
     (c .before .before .before .before .both3 .ensures)
     (c .before .before .before .both4 .ensures)
     (c .before .before .bishop .ensures)
@@ -70,13 +70,13 @@ attacks-to-spec =
     tie.close
     (tie.spec
     standing-requires
-    step-requires
+    reached-requires
     standing-requires-2
-    step-requires-2
+    reached-requires-2
     both-requires
-    step-requires-3
+    reached-requires-3
     both-requires-2
-    step-requires-4
+    reached-requires-4
     both-requires-3
     both-requires-4
     bishop-requires

@@ -14,7 +14,7 @@ returns : tie.Need-returns
 returns c =
     let k = c .before in
     let a = k .before .before .args in
-    no-king (a .tables .now) (a .bitboards .now) (a .color) (k .standing .result) (k .standing .ensures) (c .if1 .taken)
+    no-king (a .bitboards .now) (a .color) (k .standing .result) (k .standing .ensures) (c .if1 .taken)
 
 scan-requires : tie.Need-scan-requires
 scan-requires c κs = search needs
@@ -31,7 +31,7 @@ returns-2 : tie.Need-returns-2
 returns-2 c =
     let k = c .before .before .before in
     let a = k .before .before .args in
-    a-king (a .tables .now) (a .bitboards .now) (a .color) (k .standing .result) (k .standing .ensures)
+    a-king (a .bitboards .now) (a .color) (k .standing .result) (k .standing .ensures)
     (c .before .scan .result) (c .is-attacked .result) (c .before .before .if1 .left) (c .before .scan .ensures) (c .is-attacked .ensures)
 
 pub is-check-spec : {M : Type 1} → statement M

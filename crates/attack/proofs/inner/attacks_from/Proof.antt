@@ -1,8 +1,8 @@
--- `attack::attacks` meets its contract. Assumes nothing.
+-- `attack::inner::attacks_from` meets its contract. Assumes nothing.
 use Rattle.attack.proofs.ByKind.{bishop, rook, queen, other-kind}
 use borrow.Author.Needs.{needs}
-use Rattle.attack.proofs.attacks.Statement.{statement}
-use Rattle.attack.proofs.attacks.Tie as tie
+use Rattle.attack.proofs.inner.attacks_from.Statement.{statement}
+use Rattle.attack.proofs.inner.attacks_from.Tie as tie
 
 bishop-requires : tie.Need-bishop-requires
 bishop-requires c κs = search needs
@@ -41,8 +41,8 @@ returns-4 c =
     let r = m .match .rest in
     other-kind (a .kind) (a .color) (a .square) (a .occupied) (c .reached .result) (c .before .row .result) (r .0 .0 .1) (r .0 .1) (r .1) (c .before .row .ensures) (c .reached .ensures)
 
-pub attacks-spec : {M : Type 1} → statement M
-attacks-spec =
+pub attacks-from-spec : {M : Type 1} → statement M
+attacks-from-spec =
     tie.close
     (tie.spec
     bishop-requires

@@ -44,7 +44,7 @@ loop-again c =
     let a = c .before .before .before .before .before .args in (
       omega arith,
       rw add-one (more-amiss (right-on (a .board .now) (a .ones) (a .twos) (a .fours) (a .eights)) (l .file) (l .amiss) (c .file-amiss .result) (l .inv .1)
-      (c .file-amiss .ensures ∙ ap (λ (codes : ℕ). fileRight (a .board .now) codes (l .file)) (c .before .file-codes .ensures))),
+          (c .file-amiss .ensures ∙ ap (λ (codes : ℕ). fileRight (a .board .now) codes (l .file)) (c .before .file-codes .ensures))),
     )
 
 returns : tie.Need-returns Inv-loop μ-loop

@@ -11,7 +11,7 @@ use Rattle.laws.specs.Tables.{tabulate}
 use Rattle.laws.proofs.Tables.{tabulate-same, tabulate-set}
 use Rattle.laws.proofs.Truth.{T-true}
 use Rattle.chess.specs.Codes.{isPiece}
-use Rattle.position.specs.Tested.{standing, rightAt, rightPlaces, boardsBy}
+use Rattle.position.specs.Tested.{standing, boardsBy}
 use Rattle.position.proofs.Apart.{code-is}
 
 abbrev pub copiedTo : ℕ → (ℕ → ℕ) → ℕ → List ℕ
@@ -37,19 +37,6 @@ module _ (size : ℕ) (f : ℕ → ℕ) where
       go : (b : ℕ) → b < size → (t : Bool) → ltb b bound ≡ t → cond t (f b) 0 ≡ f b
       go b h true q = refl
       go b h false q = rest b (ltb-false b bound q) h
-
--- ---- the table of right places
-module _ (bbs : List ℕ) (taken : ℕ) where
-  pub places-more : (code : ℕ) → 2 ≤ code → code < 14 → set (copiedTo 15 (rightAt bbs taken) code) code (getD bbs code 0) ≡ copiedTo 15 (rightAt bbs taken) (suc code)
-  places-more code l h =
-      copied-more 15 (rightAt bbs taken) code (getD bbs code 0) (omega arith)
-      (sym (ap₂ (λ (z p : Bool). cond z (2 ^ 64 - 1 - taken) (cond p (getD bbs code 0) 0)) (ne-eqb code 0 (omega arith)) (T-true (isPiece code) (code-is code l (omega arith)))))
-
-  pub places-all : (code : ℕ) → code ≡ 14 → copiedTo 15 (rightAt bbs taken) code ≡ rightPlaces bbs taken
-  unfolding rightPlaces
-  places-all code e =
-      ap (copiedTo 15 (rightAt bbs taken)) e
-      ∙ copied-all 15 (rightAt bbs taken) 14 (λ b l h. let q : 14 ≡ b = omega arith in ap (rightAt bbs taken) q)
 
 -- ---- the boards of the sorted bytes
 module _ (squares : List ℕ) where

@@ -6,6 +6,7 @@ pub mod Words
 pub mod Crowded
 pub mod Places
 pub mod Copied
+pub mod Planes
 pub mod Tested
 pub mod Sorting
 pub mod Made

@@ -10,7 +10,7 @@ use borrow.Author.Tests.{ne-eqb, lt-leb, lt-ltb, le-ltb, ltb-true, ltb-false}
 use Rattle.laws.specs.Tables.{tabulate}
 use Rattle.laws.proofs.Tables.{entry}
 use Rattle.chess.specs.Codes.{isPiece}
-use Rattle.position.specs.Tested.{placeOf, rightAt, rightPlaces}
+use Rattle.position.specs.Tested.{placeOf}
 
 pub place-code : (byte : ℕ) → byte < 14 → byte ≡ placeOf byte
 place-code byte h = sym (ap (λ (t : Bool). cond t byte 14) (lt-ltb byte 14 h))
@@ -31,14 +31,3 @@ place-lt = by-place (λ b p. p < 15) (λ b h. omega arith) (λ b h. omega arith)
 
 pub no-piece : (byte : ℕ) → 14 ≤ byte → isPiece byte ≡ false
 no-piece byte h = ap (λ (t : Bool). leb 2 byte && t) (lt-leb byte 13 (omega arith)) ∙ and-false (leb 2 byte)
-
--- what stands there is where the byte is right
-pub right-there : (bbs : List ℕ) (taken byte : ℕ) → getD (rightPlaces bbs taken) (placeOf byte) 0 ≡ rightAt bbs taken byte
-unfolding rightPlaces
-right-there bbs taken =
-    by-place (λ b p. getD (tabulate 15 (rightAt bbs taken)) p 0 ≡ rightAt bbs taken b)
-    (λ b h. entry 15 (rightAt bbs taken) 0 b (omega arith))
-    (λ b h. entry 15 (rightAt bbs taken) 0 14 (omega arith) ∙ sym (nowhere b h))
-  where
-    nowhere : (b : ℕ) → 14 ≤ b → rightAt bbs taken b ≡ 0
-    nowhere b h = ap₂ (λ (z p : Bool). cond z (2 ^ 64 - 1 - taken) (cond p (getD bbs b 0) 0)) (ne-eqb b 0 (omega arith)) (no-piece b h)

@@ -1,22 +1,20 @@
--- The definition of consistency as the code tests it: whole bitboards for the first two tests, the table of right places for the third.
+-- The definition of consistency as the code tests it: whole bitboards for the first two tests, the codes file by file for the third.
 -- Assumes nothing.
 use mathlib.Core.Path.{_≡_, refl, sym, ap, ap₂, _∙_}
-use mathlib.Core.Bool.{Bool, true, false, not, cond, _&&_, and-false, Bool·beq}
+use mathlib.Core.Bool.{Bool, false, not, _&&_, and-false, Bool·beq}
 use mathlib.Core.List.{List}
-use Prim.Native.Nat.{ℕ, zero, suc, _-_, _^_, _<_}
+use Prim.Native.Nat.{ℕ, zero, suc, _^_, _<_}
 use native.Mathlib.Omega.{arith}
-use lib.Dec.{eqb, leb, eqb·suc-zero}
+use lib.Dec.{eqb, leb}
 use lib.ListN.{getD}
 use borrow.Author.Tests.{eq-eqb, ne-eqb, le-leb, lt-leb}
 use Rattle.laws.specs.Tests.{allBelow}
 use Rattle.laws.proofs.Tests.{all-and, all-same}
-use Rattle.chess.specs.Codes.{isPiece}
-use Rattle.bits.specs.Bitboard.{has, those}
-use Rattle.bits.proofs.Digits.{has-not, has-zero}
-use Rattle.bits.proofs.Those.{has-those, those-lt, those-none, those-all, is-those-test}
+use Rattle.laws.proofs.Truth.{true-T}
+use Rattle.bits.proofs.Those.{those-none, is-those-test}
 use Rattle.position.specs.Consistent.{on, crowd, apart, ofColour, united, agrees, consistent}
-use Rattle.position.specs.Tested.{crowded, standing, placeOf, rightAt, rightPlaces, rightBy}
-use Rattle.position.proofs.Places.{right-there}
+use Rattle.position.specs.Tested.{crowded, standing, planeOf, filesRight}
+use Rattle.position.proofs.Planes.{files-agree}
 
 -- ---- "don't overlap": no square that two boards have
 at-most-one : (x : ℕ) → not (leb 2 x) ≡ leb x 1
@@ -35,35 +33,6 @@ united-is bbs f0 f1 =
     ap₂ _&&_ (is-those-test (getD bbs 0 0) (ofColour bbs 0) f0) (is-those-test (getD bbs 1 0) (ofColour bbs 1) f1)
     ∙ sym (all-and 64 (λ k. Bool·beq (on bbs 0 k) (ofColour bbs 0 k)) (λ k. Bool·beq (on bbs 1 k) (ofColour bbs 1 k)))
 
--- ---- "each board byte is the code whose bit is set there, or 0": each byte looked up
-none-there : (x : ℕ) → not (leb 1 x) ≡ eqb x 0
-none-there zero = refl
-none-there (suc x) = ap not (le-leb 1 (suc x) (omega arith)) ∙ sym (eqb·suc-zero x)
-
-empty-is : (bbs : List ℕ) (k : ℕ) → k < 64 → has (2 ^ 64 - 1 - crowded bbs 1) k ≡ eqb (crowd bbs k) 0
-empty-is bbs k h =
-    let f : ℕ → Bool = λ j. leb 1 (crowd bbs j) in
-    has-not (those 64 f) k (those-lt 64 f) h ∙ ap not (has-those 64 f k h) ∙ none-there (crowd bbs k)
-
-right-is : (bbs : List ℕ) (byte k : ℕ) → k < 64 → has (rightAt bbs (crowded bbs 1) byte) k ≡ cond (eqb byte 0) (eqb (crowd bbs k) 0) (isPiece byte && on bbs byte k)
-right-is bbs byte k h = zero? (eqb byte 0)
-  where
-    piece? : (t : Bool) → has (cond t (getD bbs byte 0) 0) k ≡ (t && on bbs byte k)
-    piece? true = refl
-    piece? false = has-zero k
-
-    zero? : (t : Bool) → has (cond t (2 ^ 64 - 1 - crowded bbs 1) (cond (isPiece byte) (getD bbs byte 0) 0)) k ≡ cond t (eqb (crowd bbs k) 0) (isPiece byte && on bbs byte k)
-    zero? true = empty-is bbs k h
-    zero? false = piece? (isPiece byte)
-
-pub agrees-is : (bbs bytes : List ℕ) → eqb (2 ^ 64 - 1 - rightBy bytes (rightPlaces bbs (crowded bbs 1))) 0 ≡ allBelow 64 (agrees bbs bytes)
-agrees-is bbs bytes =
-    let places : List ℕ = rightPlaces bbs (crowded bbs 1) in
-    let found : ℕ → Bool = λ k. has (getD places (placeOf (getD bytes k 0)) 0) k in
-    those-all found
-    ∙ all-same 64 found (agrees bbs bytes)
-    (λ k h. ap (λ (b : ℕ). has b k) (right-there bbs (crowded bbs 1) (getD bytes k 0)) ∙ right-is bbs (getD bytes k 0) k h)
-
 -- ---- the three in the code's order: what each of its returns gives
 module _ (bbs bytes : List ℕ) (f0 : getD bbs 0 0 < 2 ^ 64) (f1 : getD bbs 1 0 < 2 ^ 64) where
   -- nothing overlaps, white and black are united, the bytes are right
@@ -77,11 +46,11 @@ module _ (bbs bytes : List ℕ) (f0 : getD bbs 0 0 < 2 ^ 64) (f1 : getD bbs 1 0 
   B = eqb (getD bbs 1 0) (standing bbs 1)
 
   abbrev R : Bool
-  R = eqb (2 ^ 64 - 1 - rightBy bytes (rightPlaces bbs (crowded bbs 1))) 0
+  R = allBelow 64 (agrees bbs bytes)
 
   the-three : consistent bbs bytes ≡ ((O && (W && B)) && R)
   unfolding consistent
-  the-three = sym (ap₂ _&&_ (ap₂ _&&_ (apart-is bbs) (united-is bbs f0 f1)) (agrees-is bbs bytes))
+  the-three = sym (ap₂ _&&_ (ap₂ _&&_ (apart-is bbs) (united-is bbs f0 f1)) refl)
 
   pub overlapping : (t : ℕ) → t ≡ crowded bbs 2 → (t ≡ 0 → ⊥) → false ≡ consistent bbs bytes
   overlapping t e n =
@@ -97,9 +66,10 @@ module _ (bbs bytes : List ℕ) (f0 : getD bbs 0 0 < 2 ^ 64) (f1 : getD bbs 1 0 
       sym (the-three ∙ ap (λ (a : Bool). (O && (W && a)) && R) (ap (λ (x : ℕ). eqb (getD bbs 1 0) x) (sym e) ∙ ne-eqb (getD bbs 1 0) t n)
       ∙ ap (λ (a : Bool). (O && a) && R) (and-false W) ∙ ap (λ (a : Bool). a && R) (and-false O))
 
-  pub bytes-decide : (t u v : ℕ) → t ≡ crowded bbs 2 → t ≡ 0 → u ≡ standing bbs 0 → getD bbs 0 0 ≡ u → v ≡ standing bbs 1 → getD bbs 1 0 ≡ v → R ≡ consistent bbs bytes
+  pub bytes-decide : (t u v : ℕ) → t ≡ crowded bbs 2 → t ≡ 0 → u ≡ standing bbs 0 → getD bbs 0 0 ≡ u → v ≡ standing bbs 1 → getD bbs 1 0 ≡ v → filesRight bytes (planeOf bbs 0) (planeOf bbs 1) (planeOf bbs 2) (planeOf bbs 3) ≡ consistent bbs bytes
   bytes-decide t u v e z eu w ev b =
-      sym (the-three
+      files-agree bbs bytes (true-T (sym (apart-is bbs) ∙ eq-eqb (crowded bbs 2) 0 (sym e ∙ z)))
+      ∙ sym (the-three
       ∙ ap (λ (a : Bool). (a && (W && B)) && R) (eq-eqb (crowded bbs 2) 0 (sym e ∙ z))
       ∙ ap (λ (a : Bool). (a && B) && R) (eq-eqb (getD bbs 0 0) (standing bbs 0) (w ∙ eu))
       ∙ ap (λ (a : Bool). a && R) (eq-eqb (getD bbs 1 0) (standing bbs 1) (b ∙ ev)))

@@ -1,13 +1,14 @@
 -- What the private functions give: whole bitboards and tables, where the definitions go square by square. Definitions only.
-use mathlib.Core.Bool.{cond}
+use mathlib.Core.Bool.{Bool, cond, _&&_}
 use mathlib.Core.List.{List}
-use Prim.Native.Nat.{ℕ, _-_, _^_}
+use Prim.Native.Nat.{ℕ, _+_, _*_, _/_, _%_, _^_}
 use lib.Dec.{eqb, leb, ltb}
 use lib.ListN.{getD}
+use lib.Bits.{bitAnd, bitOr}
+use Rattle.laws.specs.Tests.{allBelow}
 use Rattle.laws.specs.Tables.{tabulate}
-use Rattle.chess.specs.Codes.{isPiece}
-use Rattle.bits.specs.Bitboard.{has, those}
-use Rattle.position.specs.Consistent.{crowd, ofColour}
+use Rattle.bits.specs.Bitboard.{has, those, some}
+use Rattle.position.specs.Consistent.{on, crowd, ofColour}
 
 -- the squares that so many piece boards have, or more
 abbrev pub crowded : List ℕ → ℕ → ℕ
@@ -17,21 +18,43 @@ crowded bbs many = those 64 (λ k. leb many (crowd bbs k))
 abbrev pub standing : List ℕ → ℕ → ℕ
 standing bbs colour = those 64 (ofColour bbs colour)
 
--- the squares where a byte is right, `taken` being those of the piece boards: 0 elsewhere, a piece's code on its board
-abbrev pub rightAt : List ℕ → ℕ → ℕ → ℕ
-rightAt bbs taken byte = cond (eqb byte 0) (2 ^ 64 - 1 - taken) (cond (isPiece byte) (getD bbs byte 0) 0)
+-- a board where its code has a binary digit, and the empty one where it hasn't
+abbrev pub chosenBy : ℕ → ℕ → ℕ → ℕ
+chosenBy board code digit = cond (has code digit) board 0
+
+-- a piece stands on square k whose code has a binary digit
+unfoldable pub digitThere : List ℕ → ℕ → ℕ → Bool
+digitThere bbs digit k = some 12 (λ n. has (2 + n) digit && on bbs (2 + n) k)
+
+-- the squares of such pieces
+abbrev pub planeOf : List ℕ → ℕ → ℕ
+planeOf bbs digit = those 64 (digitThere bbs digit)
+
+-- the squares of a file, moved to the first
+abbrev pub firstFile : ℕ → ℕ → ℕ
+firstFile b file = bitAnd (b / 2 ^ file) 0x0101010101010101
+
+-- four bitboards on a file as the binary digits of a number to each rank, in a byte of its own
+unfoldable pub fileCodes : ℕ → ℕ → ℕ → ℕ → ℕ → ℕ
+fileCodes ones twos fours eights file =
+    bitOr
+    (bitOr (firstFile ones file) (firstFile twos file * 2 ^ 1 % 2 ^ 64))
+    (bitOr (firstFile fours file * 2 ^ 2 % 2 ^ 64) (firstFile eights file * 2 ^ 3 % 2 ^ 64))
+
+-- the byte of a rank on a file is the number that the word has for the rank
+abbrev pub rankRight : List ℕ → ℕ → ℕ → ℕ → Bool
+rankRight bytes codes file rank = eqb (getD bytes (8 * rank + file) 0) (codes / 2 ^ (8 * rank) % 16)
+
+abbrev pub fileRight : List ℕ → ℕ → ℕ → Bool
+fileRight bytes codes file = allBelow 8 (rankRight bytes codes file)
+
+-- and so on each file
+abbrev pub filesRight : List ℕ → ℕ → ℕ → ℕ → ℕ → Bool
+filesRight bytes ones twos fours eights = allBelow 8 (λ file. fileRight bytes (fileCodes ones twos fours eights file) file)
 
 -- where a table of 15 has a byte: any byte past the codes is at 14
 abbrev pub placeOf : ℕ → ℕ
 placeOf byte = cond (ltb byte 14) byte 14
-
--- the squares where each byte is right, by its place
-unfoldable pub rightPlaces : List ℕ → ℕ → List ℕ
-rightPlaces bbs taken = tabulate 15 (rightAt bbs taken)
-
--- the squares whose byte is right by such a table
-abbrev pub rightBy : List ℕ → List ℕ → ℕ
-rightBy bytes places = those 64 (λ k. has (getD places (placeOf (getD bytes k 0)) 0) k)
 
 -- the squares of each place of a byte
 unfoldable pub sortedBy : List ℕ → List ℕ

@@ -1,9 +1,10 @@
 // A position: 14 bitboards, 64 board bytes, and a state by value. Its shape, its consistency, and bytes to bitboards.
 ghost use mathlib.Core.Path.{_≡_};
-ghost use Prim.Native.Nat.{_≤_, _<_};
+ghost use Prim.Native.Nat.{_≤_, _<_, _*_, _/_, _%_, _^_};
+ghost use lib.Dec.{eqb};
 ghost use lib.ListN.{length};
 ghost use Rattle.position.specs.Consistent.{consistent};
-ghost use Rattle.position.specs.Tested.{crowded, standing, placeOf, rightPlaces, rightBy, sortedBy, boardsBy};
+ghost use Rattle.position.specs.Tested.{crowded, standing, chosenBy, planeOf, fileCodes, fileRight, filesRight, placeOf, sortedBy, boardsBy};
 ghost use Rattle.position.specs.Promises.{Checks, Makes};
 use chess::color::Color;
 use chess::inner::index;
@@ -36,16 +37,10 @@ const BLACK: usize = 1;
 
 const PIECES: usize = Color::COUNT;
 
-// The squares that a piece board has, and those that two or more have.
-struct Taken {
-    once: u64,
-    twice: u64,
-}
-
-// The piece boards, one after the other.
-fn look(bitboards: &[u64]) -> Taken
+// The squares that two or more piece boards have, the boards one after the other.
+fn shared(bitboards: &[u64]) -> u64
     requires { ⌜ length (now bitboards) ≡ 14 ⌝ }
-    ensures { λ r. ⌜ (r .once ≡ crowded (now (bitboards .entry)) 1) × (r .twice ≡ crowded (now (bitboards .entry)) 2) ⌝ }
+    ensures { λ r. ⌜ r ≡ crowded (now (bitboards .entry)) 2 ⌝ }
 {
     let mut once: u64 = 0;
     let mut twice: u64 = 0;
@@ -56,7 +51,7 @@ fn look(bitboards: &[u64]) -> Taken
         once = b | once;
         n += 1;
     }
-    Taken { once, twice }
+    twice
 }
 
 // A colour's piece boards together.
@@ -76,8 +71,6 @@ fn unite(bitboards: &[u64], color: usize) -> u64
 // In a table by bytes: a place for each below 14, among them 1, which is no code, and one for all others.
 const PLACES: usize = Piece::BOARDS + 1;
 
-const EMPTY: usize = Piece::EMPTY as usize;
-
 const ONE: usize = 1;
 
 const OTHERS: usize = Piece::BOARDS;
@@ -93,36 +86,85 @@ fn place(byte: u8) -> usize
     OTHERS
 }
 
-// The squares where each byte is right: 0 where no piece stands, a code on its board, any other nowhere.
-fn right_places(bitboards: &[u64], taken: u64) -> [u64; PLACES]
-    requires { ⌜ length (now bitboards) ≡ 14 ⌝ }
-    ensures { λ r. ⌜ r ≡ rightPlaces (now (bitboards .entry)) taken ⌝ }
+// A board where its code has a binary digit; the empty one where it hasn't.
+fn chosen(board: u64, code: usize, digit: usize) -> u64
+    requires { ⌜ digit < 4 ⌝ }
+    ensures { λ r. ⌜ r ≡ chosenBy board code digit ⌝ }
 {
-    let mut places: [u64; PLACES] = [0; PLACES];
-    places[EMPTY] = !taken;
-    let mut code: usize = PIECES;
-    while code < Piece::BOARDS {
-        places[code] = bitboards[code];
-        code += 1;
+    if (code >> digit) & 1 != 0 {
+        return board;
     }
-    places
+    0
 }
 
-// The squares whose byte is right, in one pass without a branch.
-fn right_squares(board: &[u8], places: &[u64; PLACES]) -> u64
-    requires { ⌜ length (now board) ≡ 64 ⌝ }
-    ensures { λ r. ⌜ r ≡ rightBy (now (board .entry)) (now (places .entry)) ⌝ }
+// The squares of the pieces whose code has a binary digit.
+fn plane(bitboards: &[u64], digit: usize) -> u64
+    requires { ⌜ (length (now bitboards) ≡ 14) × (digit < 4) ⌝ }
+    ensures { λ r. ⌜ r ≡ planeOf (now (bitboards .entry)) digit ⌝ }
 {
-    let mut right: u64 = 0;
-    let mut square: u64 = 1;
-    let mut k: usize = 0;
-    while k < Square::COUNT {
-        let at = place(board[k]);
-        right = places[at] & square | right;
-        square = square << 1;
-        k += 1;
+    let mut all: u64 = 0;
+    let mut n: usize = 0;
+    while n < Piece::COUNT {
+        let code = PIECES + n;
+        all = chosen(bitboards[code], code, digit) | all;
+        n += 1;
     }
-    right
+    all
+}
+
+// A file has a square in each rank, 8 apart.
+const FILES: usize = 8;
+
+const RANKS: usize = 8;
+
+const A_FILE: u64 = 0x0101_0101_0101_0101;
+
+// The codes on a file by their four digits: a byte for each rank.
+fn file_codes(ones: u64, twos: u64, fours: u64, eights: u64, file: usize) -> u64
+    requires { ⌜ file < 8 ⌝ }
+    ensures { λ r. ⌜ r ≡ fileCodes ones twos fours eights file ⌝ }
+{
+    let low = (ones >> file) & A_FILE | ((twos >> file) & A_FILE) << 1;
+    let high = ((fours >> file) & A_FILE) << 2 | ((eights >> file) & A_FILE) << 3;
+    low | high
+}
+
+// The code of a rank among those of a file.
+fn code_at(codes: u64, rank: usize) -> u8
+    requires { ⌜ rank < 8 ⌝ }
+    ensures { λ r. ⌜ r ≡ codes / 2 ^ (8 * rank) % 16 ⌝ }
+{
+    ((codes >> (RANKS * rank)) & 15) as u8
+}
+
+// 0 where each byte of a file is the code there. No branch, and no table, so that the ranks go side by side.
+fn file_amiss(codes: u64, board: &[u8], file: usize) -> u8
+    requires { ⌜ (length (now board) ≡ 64) × (file < 8) ⌝ }
+    ensures { λ r. ⌜ eqb r 0 ≡ fileRight (now (board .entry)) codes file ⌝ }
+{
+    let mut amiss: u8 = 0;
+    let mut rank: usize = 0;
+    while rank < RANKS {
+        let code = code_at(codes, rank);
+        amiss = board[RANKS * rank + file] ^ code | amiss;
+        rank += 1;
+    }
+    amiss
+}
+
+// 0 where each byte is the code whose binary digits the four planes have there.
+fn bytes_amiss(board: &[u8], ones: u64, twos: u64, fours: u64, eights: u64) -> u8
+    requires { ⌜ length (now board) ≡ 64 ⌝ }
+    ensures { λ r. ⌜ eqb r 0 ≡ filesRight (now (board .entry)) ones twos fours eights ⌝ }
+{
+    let mut amiss: u8 = 0;
+    let mut file: usize = 0;
+    while file < FILES {
+        let codes = file_codes(ones, twos, fours, eights, file);
+        amiss = file_amiss(codes, board, file) | amiss;
+        file += 1;
+    }
+    amiss
 }
 
 // Whether a position of the right shape is consistent.
@@ -130,8 +172,7 @@ fn fits(bitboards: &[u64], board: &[u8]) -> bool
     requires { ⌜ (length (now bitboards) ≡ 14) × (length (now board) ≡ 64) ⌝ }
     ensures { λ r. ⌜ r ≡ consistent (now (bitboards .entry)) (now (board .entry)) ⌝ }
 {
-    let taken = look(bitboards);
-    if taken.twice != 0 {
+    if shared(bitboards) != 0 {
         return false;
     }
     let white = unite(bitboards, WHITE);
@@ -142,9 +183,11 @@ fn fits(bitboards: &[u64], board: &[u8]) -> bool
     if bitboards[BLACK] != black {
         return false;
     }
-    let places = right_places(bitboards, taken.once);
-    let wrong = !right_squares(board, &places);
-    wrong == 0
+    let ones = plane(bitboards, 0);
+    let twos = plane(bitboards, 1);
+    let fours = plane(bitboards, 2);
+    let eights = plane(bitboards, 3);
+    bytes_amiss(board, ones, twos, fours, eights) == 0
 }
 
 // SHAPE, then BOARD: the test that every call on a position begins with.

@@ -1,23 +1,21 @@
 -- `position::fits` meets its contract: each return is one of the three tests of consistency. Assumes nothing.
-use mathlib.Core.Path.{ap, _∙_}
-use mathlib.Core.List.{List}
-use Prim.Native.Nat.{ℕ, _-_, _^_}
+use mathlib.Core.Path.{ap₂, _∙_}
+use Prim.Native.Nat.{ℕ}
 use borrow.Author.Needs.{needs}
-use lib.Dec.{eqb}
-use Rattle.position.specs.Tested.{rightPlaces, rightBy}
+use Rattle.position.specs.Tested.{planeOf, filesRight}
 use Rattle.position.proofs.Tested.{overlapping, white-amiss, black-amiss, bytes-decide}
 use Rattle.position.proofs.fits.Statement.{statement}
 use Rattle.position.proofs.fits.Tie as tie
 
-look-requires : tie.Need-look-requires
-look-requires c κs = search needs
+shared-requires : tie.Need-shared-requires
+shared-requires c κs = search needs
 
 returns : tie.Need-returns
 returns c =
-    let l = c .before .before in
+    let l = c .before in
     let known = l .before .before .shared-slice-known in
     let a = l .before .before .before .args in
-    overlapping (a .bitboards .now) (a .board .now) (known .given 0 .fits) (known .given 1 .fits) (l .look .result .twice) (l .look .ensures .1) (c .if1 .taken)
+    overlapping (a .bitboards .now) (a .board .now) (known .given 0 .fits) (known .given 1 .fits) (l .shared .result) (l .shared .ensures) (c .if1 .taken)
 
 unite-requires : tie.Need-unite-requires
 unite-requires c κs = search needs
@@ -28,7 +26,7 @@ shared-slice-read-if2 c = search needs
 returns-2 : tie.Need-returns-2
 returns-2 c =
     let w = c .before .before in
-    let l = w .before .before .before in
+    let l = w .before .before in
     let known = l .before .before .shared-slice-known in
     let a = l .before .before .before .args in
     white-amiss (a .bitboards .now) (a .board .now) (known .given 0 .fits) (known .given 1 .fits) (w .unite .result) (w .unite .ensures) (c .if2 .taken)
@@ -42,39 +40,51 @@ shared-slice-read-if3 c = search needs
 returns-3 : tie.Need-returns-3
 returns-3 c =
     let b = c .before .before in
-    let l = b .before .before .before .before .before .before in
+    let l = b .before .before .before .before .before in
     let known = l .before .before .shared-slice-known in
     let a = l .before .before .before .args in
     black-amiss (a .bitboards .now) (a .board .now) (known .given 0 .fits) (known .given 1 .fits) (b .unite2 .result) (b .unite2 .ensures) (c .if3 .taken)
 
-right-places-requires : tie.Need-right-places-requires
-right-places-requires c κs = search needs
+plane-requires : tie.Need-plane-requires
+plane-requires c κs = search needs
 
-right-squares-requires : tie.Need-right-squares-requires
-right-squares-requires c κs = search needs
+plane-requires-2 : tie.Need-plane-requires-2
+plane-requires-2 c κs = search needs
+
+plane-requires-3 : tie.Need-plane-requires-3
+plane-requires-3 c κs = search needs
+
+plane-requires-4 : tie.Need-plane-requires-4
+plane-requires-4 c κs = search needs
+
+bytes-amiss-requires : tie.Need-bytes-amiss-requires
+bytes-amiss-requires c κs = search needs
 
 returns-4 : tie.Need-returns-4
 returns-4 c =
-    let p = c .before .before in
-    let e3 = p .before in
+    let p4 = c .before in
+    let p3 = p4 .before in
+    let p2 = p3 .before in
+    let p1 = p2 .before in
+    let e3 = p1 .before in
     let b = e3 .before .before in
     let e2 = b .before in
     let w = e2 .before .before in
     let e1 = w .before in
-    let l = e1 .before .before in
+    let l = e1 .before in
     let known = l .before .before .shared-slice-known in
     let a = l .before .before .before .args in
-    ap (λ (right : ℕ). eqb (2 ^ 64 - 1 - right) 0)
-    (c .right-squares .ensures
-    ∙ ap (λ (places : List ℕ). rightBy (a .board .now) places) (p .right-places .ensures ∙ ap (λ (taken : ℕ). rightPlaces (a .bitboards .now) taken) (l .look .ensures .0)))
-    ∙ bytes-decide (a .bitboards .now) (a .board .now) (known .given 0 .fits) (known .given 1 .fits) (l .look .result .twice) (w .unite .result) (b .unite2 .result)
-    (l .look .ensures .1) (e1 .if1 .left) (w .unite .ensures) (e2 .if2 .left) (b .unite2 .ensures) (e3 .if3 .left)
+    c .bytes-amiss .ensures
+    ∙ ap₂ (λ (ones twos : ℕ). filesRight (a .board .now) ones twos (p3 .plane3 .result) (p4 .plane4 .result)) (p1 .plane .ensures) (p2 .plane2 .ensures)
+    ∙ ap₂ (λ (fours eights : ℕ). filesRight (a .board .now) (planeOf (a .bitboards .now) 0) (planeOf (a .bitboards .now) 1) fours eights) (p3 .plane3 .ensures) (p4 .plane4 .ensures)
+    ∙ bytes-decide (a .bitboards .now) (a .board .now) (known .given 0 .fits) (known .given 1 .fits) (l .shared .result) (w .unite .result) (b .unite2 .result)
+    (l .shared .ensures) (e1 .if1 .left) (w .unite .ensures) (e2 .if2 .left) (b .unite2 .ensures) (e3 .if3 .left)
 
 pub fits-spec : {M : Type 1} → statement M
 fits-spec =
     tie.close
     (tie.spec
-    look-requires
+    shared-requires
     returns
     unite-requires
     shared-slice-read-if2
@@ -82,6 +92,9 @@ fits-spec =
     unite-requires-2
     shared-slice-read-if3
     returns-3
-    right-places-requires
-    right-squares-requires
+    plane-requires
+    plane-requires-2
+    plane-requires-3
+    plane-requires-4
+    bytes-amiss-requires
     returns-4)

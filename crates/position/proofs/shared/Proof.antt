@@ -1,4 +1,4 @@
--- `position::look` meets its contract: after n boards, `once` and `twice` are the squares that one of them has, and that two have.
+-- `position::shared` meets its contract: after n boards, `once` and `twice` are the squares that one of them has, and that two have.
 -- Assumes nothing.
 use mathlib.Core.Path.{_≡_, _∙_}
 use Prim.Native.Nat.{_≤_, _-_, _+_}
@@ -8,8 +8,8 @@ use borrow.Author.Needs.{needs}
 use lib.Dec.{leb}
 use Rattle.bits.specs.Bitboard.{those}
 use Rattle.position.proofs.Crowded.{among, none-yet, once-more, twice-more, all-twelve}
-use Rattle.position.proofs.look.Statement.{statement}
-use Rattle.position.proofs.look.Tie as tie
+use Rattle.position.proofs.shared.Statement.{statement}
+use Rattle.position.proofs.shared.Tie as tie
 
 abbrev Inv-loop : tie.InvT-loop
 Inv-loop bitboards once₀ twice₀ n₀ once twice n =
@@ -48,7 +48,7 @@ returns c =
     let l = c .before .loop in
     let bbs = c .before .before .args .bitboards .now in
     let e : l .n ≡ 12 = omega arith in
-    (l .inv .1 ∙ all-twelve bbs (l .n) 1 e, l .inv .2 ∙ all-twelve bbs (l .n) 2 e)
+    l .inv .2 ∙ all-twelve bbs (l .n) 2 e
 
-pub look-spec : {M : Type 1} → statement M
-look-spec = tie.close (tie.spec Inv-loop μ-loop loop-holds add-b mul-b shared-slice-read-b add-n loop-less loop-again returns)
+pub shared-spec : {M : Type 1} → statement M
+shared-spec = tie.close (tie.spec Inv-loop μ-loop loop-holds add-b mul-b shared-slice-read-b add-n loop-less loop-again returns)

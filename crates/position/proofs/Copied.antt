@@ -1,18 +1,15 @@
 -- A table filled by a loop, one entry a turn: it has the entries below a bound, and 0 from there on. Assumes nothing.
-use mathlib.Core.Path.{_≡_, refl, sym, ap, ap₂, _∙_}
+use mathlib.Core.Path.{_≡_, refl, sym, ap, _∙_}
 use mathlib.Core.Bool.{Bool, true, false, cond}
 use mathlib.Core.List.{List}
-use Prim.Native.Nat.{ℕ, suc, _-_, _^_, _≤_, _<_}
+use Prim.Native.Nat.{ℕ, suc, _≤_, _<_}
 use native.Mathlib.Omega.{arith}
 use lib.Dec.{ltb}
 use lib.ListN.{getD, set}
-use borrow.Author.Tests.{lt-ltb, le-ltb, ltb-true, ltb-false, ne-eqb}
+use borrow.Author.Tests.{lt-ltb, le-ltb, ltb-true, ltb-false}
 use Rattle.laws.specs.Tables.{tabulate}
 use Rattle.laws.proofs.Tables.{tabulate-same, tabulate-set}
-use Rattle.laws.proofs.Truth.{T-true}
-use Rattle.chess.specs.Codes.{isPiece}
 use Rattle.position.specs.Tested.{standing, boardsBy}
-use Rattle.position.proofs.Apart.{code-is}
 
 abbrev pub copiedTo : ℕ → (ℕ → ℕ) → ℕ → List ℕ
 copiedTo size f bound = tabulate size (λ b. cond (ltb b bound) (f b) 0)

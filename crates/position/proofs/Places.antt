@@ -1,14 +1,10 @@
 -- The table of 15: where it has a byte, and what stands there. Assumes nothing.
-use mathlib.Core.Path.{_≡_, refl, sym, ap, ap₂, _∙_}
+use mathlib.Core.Path.{_≡_, refl, sym, ap, _∙_}
 use mathlib.Core.Bool.{Bool, true, false, cond, _&&_, and-false}
-use mathlib.Core.List.{List}
-use Prim.Native.Nat.{ℕ, _-_, _^_, _≤_, _<_}
+use Prim.Native.Nat.{ℕ, _≤_, _<_}
 use native.Mathlib.Omega.{arith}
 use lib.Dec.{leb, ltb}
-use lib.ListN.{getD}
-use borrow.Author.Tests.{ne-eqb, lt-leb, lt-ltb, le-ltb, ltb-true, ltb-false}
-use Rattle.laws.specs.Tables.{tabulate}
-use Rattle.laws.proofs.Tables.{entry}
+use borrow.Author.Tests.{lt-leb, lt-ltb, le-ltb, ltb-true, ltb-false}
 use Rattle.chess.specs.Codes.{isPiece}
 use Rattle.position.specs.Tested.{placeOf}
 

@@ -7,24 +7,23 @@ use mathlib.Core.List.{List}
 use Prim.Native.Nat.{ℕ, zero, suc, _+_, _*_, _-_, _/_, _%_, _^_, _<_}
 use native.Mathlib.Nat.{mod-lt, mod-eq-of-lt, mul-one, lt-of-le-of-lt}
 use native.Mathlib.Omega.{arith}
-use lib.Bits.{bitAnd, bitOr, bitXor, and-le-l, and-le-r, or-add-and, xor-add-and, xor-self, or-zero-l}
+use lib.Bits.{bitOr, bitXor, and-le-l, and-le-r, or-add-and, xor-add-and, xor-self, or-zero-l}
 use lib.Dec.{T, eqb, leb}
 use lib.ListN.{getD}
-use lib.Pow.{pow-pos}
 use borrow.Author.Tests.{eqb-true, eq-eqb, leb-true}
 use Rattle.laws.specs.Tests.{allBelow, allBelow2}
-use Rattle.laws.proofs.Tests.{all-at, all-of, all-same, all2-at}
+use Rattle.laws.proofs.Tests.{all-at, all-of, all2-at}
 use Rattle.laws.proofs.Truth.{true-T, T-true, T-false, and-l, and-r, and-i, iff, is-beq}
 use Rattle.chess.specs.Codes.{isPiece}
 use Rattle.bits.specs.Bitboard.{has, those, some}
 use Rattle.bits.proofs.Counts.{one-alone}
 use Rattle.bits.proofs.Digits.{has-or, has-and, has-shr, has-shl, has-mod, has-zero, ext}
 use Rattle.bits.proofs.Some.{some-at, some-none, some-where, Somewhere}
-use Rattle.bits.proofs.Those.{has-those, those-lt, those-of, those-or, those-same, is-those}
+use Rattle.bits.proofs.Those.{has-those, those-lt, those-of, those-or, is-those}
 use Rattle.position.specs.Consistent.{on, crowd, apart, agrees}
-use Rattle.position.specs.Tested.{chosenBy, digitThere, planeOf, firstFile, fileCodes, rankRight, fileRight, filesRight}
+use Rattle.position.specs.Tested.{chosenBy, digitThere, planeOf, firstFile, fileCodes, rankRight, filesRight}
 use Rattle.position.proofs.Apart.{code-from, code-to, code-is, apart-one}
-use Rattle.position.proofs.Bytes.{Empty, Vacant, Occupied, agrees-either, vacant-agrees, occupied-agrees}
+use Rattle.position.proofs.Bytes.{Empty, agrees-either, vacant-agrees, occupied-agrees}
 
 -- ---- what a loop gathers: 0 as long as all were 0, and two bytes that are the same
 or-none : (a b : ℕ) → eqb (bitOr a b) 0 ≡ (eqb a 0 && eqb b 0)

@@ -68,24 +68,6 @@ fn unite(bitboards: &[u64], color: usize) -> u64
     all
 }
 
-// In a table by bytes: a place for each below 14, among them 1, which is no code, and one for all others.
-const PLACES: usize = Piece::BOARDS + 1;
-
-const ONE: usize = 1;
-
-const OTHERS: usize = Piece::BOARDS;
-
-// Where a table of 15 has a byte: its code, and the last place for all that are none.
-fn place(byte: u8) -> usize
-    ensures { λ r. ⌜ (r ≡ placeOf byte) × (r < 15) ⌝ }
-{
-    let at = index(byte);
-    if at < Piece::BOARDS {
-        return at;
-    }
-    OTHERS
-}
-
 // A board where its code has a binary digit; the empty one where it hasn't.
 fn chosen(board: u64, code: usize, digit: usize) -> u64
     requires { ⌜ digit < 4 ⌝ }
@@ -112,7 +94,7 @@ fn plane(bitboards: &[u64], digit: usize) -> u64
     all
 }
 
-// A file has a square in each rank, 8 apart.
+// A file has a square in each of the 8 ranks, and they are 8 apart.
 const FILES: usize = 8;
 
 const RANKS: usize = 8;
@@ -207,6 +189,24 @@ pub fn check(bitboards: &[u64], board: &[u8], state: State) -> Checked
         return Checked::Refused(Refusal::Board);
     }
     Checked::Fit
+}
+
+// In a table by bytes: a place for each below 14, among them 1, which is no code, and one for all others.
+const PLACES: usize = Piece::BOARDS + 1;
+
+const ONE: usize = 1;
+
+const OTHERS: usize = Piece::BOARDS;
+
+// Where a table of 15 has a byte: its code, and the last place for all that are none.
+fn place(byte: u8) -> usize
+    ensures { λ r. ⌜ (r ≡ placeOf byte) × (r < 15) ⌝ }
+{
+    let at = index(byte);
+    if at < Piece::BOARDS {
+        return at;
+    }
+    OTHERS
 }
 
 // The squares of each byte: at a piece's code where it stands, at 1 and at 14 the bytes that are no code.

@@ -3,6 +3,10 @@ ghost use mathlib.Core.Path.{_≡_};
 ghost use Rattle.abi.specs.Records.{countsOf, traceOf, namedOf, weightsOf};
 ghost use Rattle.abi.specs.Promises.{ComputesTrace, EvalsTrace, Ships};
 use crate::GIVEN;
+use chess::color::Color;
+use chess::kind::Kind;
+use chess::piece::Piece;
+use chess::weight::Weight;
 use double::Doubled;
 use double::Trace;
 use double::Weights;
@@ -11,11 +15,11 @@ use position::State;
 use trace::shipped::Written;
 
 // Six pairs of counts, White's and Black's; the numbers of mobility; the weights that have a name.
-const COUNTS: usize = 12;
+const COUNTS: usize = Kind::COUNT * Color::COUNT;
 
-const MOBILITY: usize = 12;
+const MOBILITY: usize = Piece::COUNT;
 
-const NAMED: usize = 11;
+const NAMED: usize = Weight::NAMED;
 
 // A trace's counts and pair flags, in the order of its fields.
 fn counts_of(trace: Trace) -> [i32; COUNTS]

@@ -1,5 +1,6 @@
 // Weights and traces from a seed, by the rule in oracle/README.md, "Seeds".
 ghost use Prim.Native.Nat.{_<_};
+use chess::piece::Piece;
 use double::Trace;
 use double::Weights;
 
@@ -7,7 +8,7 @@ use double::Weights;
 pub(crate) const NUMBERS: usize = 26;
 
 // Attacked squares of six kinds and two colours, and where they begin among the numbers.
-const MOBILITY: usize = 12;
+const MOBILITY: usize = Piece::COUNT;
 
 const FIRST_MOBILITY: usize = 12;
 

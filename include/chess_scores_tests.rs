@@ -1,0 +1,97 @@
+// The tests of the Rust wrapper.
+use super::*;
+
+fn position(line: &str) -> Position {
+    read_line(format!("{line};1-0").as_bytes()).expect("a good line").0
+}
+
+const START: &str = "rnbqkbnr/pppppppp/8/8/8/8/PPPPPPPP/RNBQKBNR w";
+
+#[test]
+fn scores_of_document_01() {
+    assert_eq!(position("4k3/8/8/8/8/8/4P3/4K3 w").eval(), Ok(Outcome::Score(117)));
+    assert_eq!(position("4k3/8/8/8/8/8/4P3/4K3 b").eval(), Ok(Outcome::Score(-95)));
+    assert_eq!(position("4k3/8/8/8/8/8/8/R3K3 w").eval(), Ok(Outcome::Score(535)));
+    assert_eq!(position(START).eval(), Ok(Outcome::Score(11)));
+    assert_eq!(position("8/8/8/8/8/8/8/8 w").eval(), Ok(Outcome::Verdict(Verdict::Lost)));
+    assert_eq!(position("8/8/8/8/8/8/8/4K3 w").eval(), Ok(Outcome::Verdict(Verdict::Won)));
+    assert_eq!(position("8/8/8/8/8/8/8/4KK2 w").eval_ending(), Ok(Some(Verdict::Drawn)));
+    assert_eq!(position(START).eval_ending(), Ok(None));
+    assert_eq!(position(START).eval_material(WHITE), Ok(10000 + 1013 + 2 * (487 + 292 + 304) + 800));
+}
+
+#[test]
+fn exchanges_of_document_01() {
+    assert_eq!(position("8/8/8/4p3/8/8/8/4R3 w").see(4, 36), Ok(100));
+    assert_eq!(position("8/8/3p4/4p3/8/8/8/4R3 w").see(4, 36), Ok(-387));
+    assert_eq!(position("6k1/1b6/5n2/3p4/4P3/8/8/3Q2K1 w").see(3, 35), Ok(-709));
+    assert_eq!(position(START).see(3, 35), Err(Refusal::Move));
+    assert_eq!(position(START).see(3, 64), Err(Refusal::Square));
+}
+
+#[test]
+fn attacks() {
+    let start = position(START);
+    assert_eq!(piece_attacks(KNIGHT, 0, 0), Ok(1 << 10 | 1 << 17));
+    assert_eq!(piece_attacks(14, 0, 0), Err(Refusal::Shape));
+    assert_eq!(start.is_check(WHITE), Ok(false));
+    assert_eq!(start.is_attacked(16, BLACK), Ok(true));
+    assert_eq!(start.is_attacked(16, WHITE), Ok(false));
+    let attackers = start.attacks_to(18, start.bitboards[0] | start.bitboards[1]).unwrap();
+    assert_eq!(attackers, 1 << 1 | 1 << 9 | 1 << 11);
+    assert_eq!(start.lvp(WHITE, attackers, u64::MAX), Ok(Some(9)));
+    assert_eq!(start.lvp(BLACK, attackers, u64::MAX), Ok(None));
+}
+
+#[test]
+fn refusals_of_a_position() {
+    let mut bent = position(START);
+    bent.board[0] = 0;
+    assert_eq!(bent.eval(), Err(Refusal::Board));
+    assert_eq!(bent.trace(), Err(Refusal::Board));
+    bent.side = 2;
+    assert_eq!(bent.eval(), Err(Refusal::Shape));
+}
+
+#[test]
+fn lines() {
+    for (line, refusal) in [
+        ("x".repeat(257), Refusal::Long),
+        ("8/8/8/8/8/8/8/8 w;1-0\u{7f}".to_string(), Refusal::Byte),
+        (String::new(), Refusal::Field),
+        ("8/8/8/8/8/8/8 w;1-0".to_string(), Refusal::Place),
+        ("8/8/8/8/8/8/8/8 x;1-0".to_string(), Refusal::Side),
+        ("8/8/8/8/8/8/8/8 w;2-0".to_string(), Refusal::Result),
+    ] {
+        assert_eq!(read_line(line.as_bytes()).err(), Some(refusal), "{line}");
+        assert_eq!(position_field(line.as_bytes()), b"", "{line}");
+    }
+    assert_eq!(position_field(b"\t8/8/8/8/8/8/8/8 b - -\r;0-1"), b"8/8/8/8/8/8/8/8 b - -");
+}
+
+#[test]
+fn ledger_however_it_is_cut() {
+    let input = b"4k3/8/8/8/8/8/4P3/4K3 w - - 0 1;1-0\r\n\n8/8/8/8/8/8/8/8 w;1/2-1/2\n4k3/8/8/8/8/8/4P3/4K3 b;1/2";
+    let ledger = |size: usize| {
+        let (mut ledger, mut rows) = (Ledger::new(), Vec::new());
+        input.chunks(size).for_each(|piece| ledger.feed(piece, &mut rows));
+        ledger.finish(&mut rows);
+        String::from_utf8(rows).unwrap()
+    };
+    let whole = "1 2 117\n2 refused 10\n3 1 lost\n4 refused 13\nlines 4 loaded 2 refused 2\n";
+    assert!((1..=input.len()).all(|size| ledger(size) == whole));
+}
+
+#[test]
+fn traces() {
+    let trace = position(START).trace().unwrap();
+    assert_eq!(trace.counts, [8, 8, 2, 2, 2, 2, 2, 2, 1, 1, 1, 1]);
+    assert_eq!((trace.sign, trace.piece_count), (1, 32));
+    assert_eq!(trace.entries.iter().sum::<i32>(), 32);
+    let weights = Weights::shipped();
+    assert_eq!(weights.named, [100.0, 304.0, 292.0, 487.0, 1013.0, 33.0, 24.0, 47.0, 39.0, 21.0, 11.0]);
+    assert_eq!(trace.eval(&weights), Ok(11.0));
+    let mut odd = trace;
+    odd.sign = 0;
+    assert_eq!(odd.eval(&weights), Err(Refusal::Trace));
+}

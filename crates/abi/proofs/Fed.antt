@@ -5,10 +5,11 @@ use Prim.Native.Nat.{ℕ}
 use lib.ListN.{length}
 use Rattle.rows.specs.Machine.{Machine}
 use Rattle.rows.specs.Promises as Rows
-use Rattle.rows.specs.Promises.{Came, turned, many, full, came, Feeds, Finishes, fed, feedOf, finishPaper, finishOf}
+use Rattle.rows.specs.Promises.{Came, turned, many, full, came, Feeds, fed, feedOf}
 use Rattle.rows.specs.declared.State.{State}
 use Rattle.rows.specs.declared.Fed.{Fed}
-use Rattle.rows.specs.declared.Finished.{Finished}
+use Rattle.last.specs.Promises.{Finishes, finishPaper, finishOf, lengthOf}
+use Rattle.last.specs.declared.Finished.{Finished}
 use Rattle.abi.specs.Ledger.{stateOf, numbersOf, codeOf, after}
 use Rattle.abi.specs.Promises.{FeedsLedger, FinishesLedger}
 
@@ -49,13 +50,13 @@ fed-through state line chunk out wrote {r = r} {line′ = line′} {out′ = out
     }
 
 -- ---- the last rows
-length-code : (a : Came (List ℕ)) → codeOf (Rows.lengthOf a) ≡ codeOf a
+length-code : (a : Came (List ℕ)) → codeOf (lengthOf a) ≡ codeOf a
 length-code (came t) = refl
 length-code (turned n) = refl
 length-code many = refl
 length-code full = refl
 
-length-after : (old : ℕ) (a : Came (List ℕ)) → after (λ (n : ℕ). n) old (Rows.lengthOf a) ≡ after length old a
+length-after : (old : ℕ) (a : Came (List ℕ)) → after (λ (n : ℕ). n) old (lengthOf a) ≡ after length old a
 length-after old (came t) = refl
 length-after old (turned n) = refl
 length-after old many = refl

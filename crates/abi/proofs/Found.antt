@@ -5,7 +5,7 @@ use Prim.Native.Nat.{ℕ}
 use native.Mathlib.Omega.{arith}
 use lib.ListN.{length, getD}
 use Rattle.fields.specs.Text.{before}
-use Rattle.line.specs.Line.{fieldOf}
+use Rattle.line.specs.Field.{fieldOf}
 use Rattle.abi.specs.Part.{startIn, startOf}
 
 empty-in : (f line : List ℕ) → length f ≡ 0 → 0 ≡ startIn f line

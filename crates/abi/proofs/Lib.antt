@@ -1,5 +1,5 @@
 pub mod Passed
-pub mod Read
 pub mod Found
+pub mod Cut
 pub mod Fed
 pub mod Determined

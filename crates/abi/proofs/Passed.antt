@@ -6,15 +6,17 @@ use lib.Ieee.{Float}
 use lib.IntN.{ℤ}
 use Rattle.chess.specs.Answer.{Answer, given, refused}
 use Rattle.position.specs.declared.State.{State}
-use Rattle.double.specs.declared.Trace.{Trace}
-use Rattle.line.specs.Line.{Line}
+use Rattle.record.specs.declared.Trace.{Trace}
+use Rattle.said.specs.Line.{Line}
+use Rattle.said.specs.Promises as S
 use Rattle.line.specs.Promises as L
-use Rattle.trace.specs.Promises.{tracedOf, entriesAfter, writtenOf, squaresAfter}
-use Rattle.trace.specs.Weights.{shipped}
+use Rattle.trace.specs.Promises.{tracedOf, entriesAfter}
+use Rattle.shipped.specs.Promises.{writtenOf, squaresAfter}
+use Rattle.shipped.specs.Weights.{shipped}
 use Rattle.abi.specs.Doors.{codeOf, after}
-use Rattle.abi.specs.Records.{countsOf, namedOf}
+use Rattle.flat.specs.Records.{countsOf, namedOf}
 use Rattle.abi.specs.Promises.{Door, Doors, ComputesTrace, Ships, ReadsLine}
-use Rattle.line.specs.declared.Read.{Read}
+use Rattle.said.specs.declared.Read.{Read}
 
 -- what the case that was met reads, the call's answer is
 pub met : {A X : Type 0} (paper : X → Answer A) {a : Answer A} {r x : X} → paper r ≡ a → r ≡ x → paper x ≡ a
@@ -52,25 +54,25 @@ ships {weights = weights} e h g k =
     record { code = h ∙ ap codeOf e; lent = g ∙ ap (after (λ (u : Unit). namedOf shipped) weights) e; written = k }
 
 -- ---- a line: what comes back by value is a part of what the line says
-value-code : (a : Answer Line) → codeOf (L.valueOf a) ≡ codeOf a
+value-code : (a : Answer Line) → codeOf (S.valueOf a) ≡ codeOf a
 value-code (given l) = refl
 value-code (refused n v) = refl
 
-side-after : (old : ℕ) (a : Answer Line) → after (λ (p : State × ℕ). p .0 .side) old (L.valueOf a) ≡ after (λ (l : Line). l .state .side) old a
+side-after : (old : ℕ) (a : Answer Line) → after (λ (p : State × ℕ). p .0 .side) old (S.valueOf a) ≡ after (λ (l : Line). l .state .side) old a
 side-after old (given l) = refl
 side-after old (refused n v) = refl
 
-half-after : (old : ℕ) (a : Answer Line) → after (λ (p : State × ℕ). p .1) old (L.valueOf a) ≡ after (λ (l : Line). l .half) old a
+half-after : (old : ℕ) (a : Answer Line) → after (λ (p : State × ℕ). p .1) old (S.valueOf a) ≡ after (λ (l : Line). l .half) old a
 half-after old (given l) = refl
 half-after old (refused n v) = refl
 
 pub line-read : {line bitboards board : List ℕ} {side half : ℕ} {r x : Read} {bitboards′ board′ : List ℕ} {n side′ half′ : ℕ}
-    → L.ReadsLine line bitboards board r bitboards′ board′ → r ≡ x → n ≡ codeOf (L.paper x)
-    → side′ ≡ after (λ (p : State × ℕ). p .0 .side) side (L.paper x) → half′ ≡ after (λ (p : State × ℕ). p .1) half (L.paper x)
+    → L.ReadsLine line bitboards board r bitboards′ board′ → r ≡ x → n ≡ codeOf (S.paper x)
+    → side′ ≡ after (λ (p : State × ℕ). p .0 .side) side (S.paper x) → half′ ≡ after (λ (p : State × ℕ). p .1) half (S.paper x)
     → ReadsLine line bitboards board side half n bitboards′ board′ side′ half′
 line-read {line = line} {bitboards = bitboards} {board = board} {side = side} {half = half} p m h g k =
     let a : Answer Line = L.readOf line bitboards board in
-    let e = met L.paper (p .answer) m in
+    let e = met S.paper (p .answer) m in
     record {
       code = h ∙ ap codeOf e ∙ value-code a;
       boards = p .boards;

@@ -1,5 +1,4 @@
 pub mod Doors
 pub mod Part
-pub mod Records
 pub mod Ledger
 pub mod Promises

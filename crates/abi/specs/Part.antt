@@ -3,7 +3,7 @@ use mathlib.Core.List.{List, [], _∷_}
 use Prim.Native.Nat.{ℕ}
 use lib.ListN.{length}
 use Rattle.fields.specs.Text.{before}
-use Rattle.line.specs.Line.{fieldOf}
+use Rattle.line.specs.Field.{fieldOf}
 
 -- where the first byte of a part stands first; an empty part at 0
 abbrev pub startIn : List ℕ → List ℕ → ℕ

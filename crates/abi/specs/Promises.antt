@@ -7,23 +7,31 @@ use lib.Ieee.{Float}
 use lib.IntN.{ℤ}
 use lib.ListN.{length}
 use Rattle.chess.specs.Answer.{Answer}
-use Rattle.attack.specs.Answers.{pieceAttacksOf, attacksToOf, isAttackedOf, isCheckOf}
-use Rattle.exchange.specs.Answers.{lvpOf, seeOf}
-use Rattle.line.specs.Line.{Line, fieldOf}
-use Rattle.line.specs.Promises.{readOf, bitboardsAfter, boardAfter}
-use Rattle.score.specs.Score.{evalOf, endingOf, materialOf}
-use Rattle.double.specs.declared.Trace.{Trace}
+use Rattle.attack.specs.Answers.{pieceAttacksOf}
+use Rattle.attackers.specs.Answers.{attacksToOf, isAttackedOf, isCheckOf}
+use Rattle.least.specs.Answers.{lvpOf}
+use Rattle.exchange.specs.Answers.{seeOf}
+use Rattle.said.specs.Line.{Line}
+use Rattle.line.specs.Field.{fieldOf}
+use Rattle.said.specs.Promises.{boardAfter}
+use Rattle.line.specs.Promises.{readOf, bitboardsAfter}
+use Rattle.score.specs.Score.{evalOf}
+use Rattle.verdict.specs.Verdict.{endingOf}
+use Rattle.material.specs.Material.{materialOf}
+use Rattle.record.specs.declared.Trace.{Trace}
 use Rattle.double.specs.Promises.{doubleOf}
-use Rattle.trace.specs.Promises.{tracedOf, entriesAfter, writtenOf, squaresAfter}
-use Rattle.trace.specs.Weights.{shipped}
+use Rattle.trace.specs.Promises.{tracedOf, entriesAfter}
+use Rattle.shipped.specs.Promises.{writtenOf, squaresAfter}
+use Rattle.shipped.specs.Weights.{shipped}
 use Rattle.abi.specs.Doors.{codeOf, after, verdictCode, outcomeVerdict, outcomeScore, anyone, squareOr}
 use Rattle.abi.specs.Part.{startOf}
-use Rattle.abi.specs.Records.{countsOf, traceOf, namedOf, weightsOf}
+use Rattle.flat.specs.Records.{countsOf, traceOf, namedOf, weightsOf}
 use Rattle.abi.specs.declared.lines.Part.{Part}
 use Rattle.text.specs.Text.{writtenOf as bufferOf}
 use Rattle.rows.specs.Machine.{Machine}
 use Rattle.rows.specs.Promises as Rows
-use Rattle.rows.specs.Promises.{feedOf, finishOf, lineAfter, textAfter, lastText}
+use Rattle.rows.specs.Promises.{feedOf, lineAfter, textAfter}
+use Rattle.last.specs.Promises.{finishOf, lastText}
 use Rattle.abi.specs.Ledger as Ledger
 use Rattle.abi.specs.Ledger.{stateOf, numbersOf}
 

@@ -3,8 +3,8 @@ ghost use mathlib.Core.Path.{_≡_};
 ghost use Rattle.abi.specs.Ledger.{stateOf, numbersOf, flagOf};
 ghost use Rattle.abi.specs.Promises.{FeedsLedger, FinishesLedger};
 use crate::GIVEN;
+use last::Finished;
 use rows::Fed;
-use rows::Finished;
 use rows::State;
 
 // Bytes held of the line that has not ended, whether the last was a CR, loaded rows, refused rows.
@@ -77,7 +77,7 @@ pub extern "C" fn chess_ledger_finish(
 ) -> u8
     ensures { λ r. ⌜ FinishesLedger (now (state .entry)) (now (line .entry)) (now (out .entry)) (now (wrote .entry)) r (now (out .exit)) (now (wrote .exit)) ⌝ }
 {
-    let finished = rows::finish(state_of(state), line, out);
+    let finished = last::finish(state_of(state), line, out);
     match finished {
         Finished::Rows(n) => {
             *wrote = n;

@@ -2,7 +2,7 @@
 ghost use Rattle.abi.specs.Promises.{ReadsLine, GivesPart};
 use crate::GIVEN;
 use fields::inner::find;
-use line::Read;
+use said::Read;
 
 // A part of the caller's line.
 #[repr(C)]

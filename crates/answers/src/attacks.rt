@@ -1,12 +1,13 @@
-// Questions of attacks: a piece's, those on a square, check, and the step tables, which are a piece's attacks too.
-use crate::said::Said;
-use crate::said::byte;
-use crate::said::yes_or_no;
+// Questions of attacks: a piece's, those on a square, the least attacker, check, and the step tables, which are a piece's attacks too.
+use crate::reply::Reply;
+use crate::reply::byte;
+use crate::reply::yes_or_no;
 use asked::NUMBERS;
 use attack::Found;
-use attack::Told;
+use attackers::Told;
 use chess::piece::Piece;
 use fields::inner::is;
+use least::Least;
 use position::State;
 
 pub(crate) fn answer(
@@ -15,20 +16,23 @@ pub(crate) fn answer(
     bitboards: &[u64],
     board: &[u8],
     state: State,
-) -> Said {
+) -> Reply {
     if is(word, b"attacks_to") {
-        return found(attack::attacks_to(bitboards, board, state, byte(n[0]), n[1]));
+        return found(attackers::attacks_to(bitboards, board, state, byte(n[0]), n[1]));
     }
     if is(word, b"attacked") {
-        return told(attack::is_attacked(bitboards, board, state, byte(n[0]), byte(n[1])));
+        return told(attackers::is_attacked(bitboards, board, state, byte(n[0]), byte(n[1])));
     }
     if is(word, b"check") {
-        return told(attack::is_check(bitboards, board, state, byte(n[0])));
+        return told(attackers::is_check(bitboards, board, state, byte(n[0])));
+    }
+    if is(word, b"lvp") {
+        return least(least::lvp(bitboards, board, state, byte(n[0]), n[1], n[2]));
     }
     of_piece(word, byte(n[0]), byte(n[1]), n[2])
 }
 
-fn of_piece(word: &[u8], first: u8, second: u8, occupied: u64) -> Said {
+fn of_piece(word: &[u8], first: u8, second: u8, occupied: u64) -> Reply {
     if is(word, b"knight") {
         return found(attack::piece_attacks(Piece::WHITE_KNIGHT.code(), first, 0));
     }
@@ -41,7 +45,7 @@ fn of_piece(word: &[u8], first: u8, second: u8, occupied: u64) -> Said {
     if is(word, b"piece_attacks") {
         return found(attack::piece_attacks(first, second, occupied));
     }
-    Said::Nothing
+    Reply::Nothing
 }
 
 fn pawn(color: u8) -> u8 {
@@ -51,16 +55,24 @@ fn pawn(color: u8) -> u8 {
     Piece::BLACK_PAWN.code()
 }
 
-fn found(found: Found) -> Said {
+fn found(found: Found) -> Reply {
     match found {
-        Found::Squares(b) => Said::Natural(b),
-        Found::Refused(r) => Said::Refused(r),
+        Found::Squares(b) => Reply::Natural(b),
+        Found::Refused(r) => Reply::Refused(r),
     }
 }
 
-fn told(told: Told) -> Said {
+fn told(told: Told) -> Reply {
     match told {
         Told::Is(t) => yes_or_no(t),
-        Told::Refused(r) => Said::Refused(r),
+        Told::Refused(r) => Reply::Refused(r),
+    }
+}
+
+fn least(least: Least) -> Reply {
+    match least {
+        Least::At(square) => Reply::Natural(square as u64),
+        Least::Nobody => Reply::Nobody,
+        Least::Refused(r) => Reply::Refused(r),
     }
 }

@@ -1,20 +1,19 @@
 // Questions of bitboards: count, scan, next, shift and one square.
-use crate::said::Said;
-use crate::said::byte;
-use crate::said::yes_or_no;
+use crate::reply::Reply;
+use crate::reply::byte;
+use crate::reply::yes_or_no;
 use asked::NUMBERS;
 use bits::Changed;
 use bits::Got;
 use bits::Lowest;
 use fields::inner::is;
-use score::Verdict;
 
-pub(crate) fn answer(word: &[u8], n: [u64; NUMBERS]) -> Said {
+pub(crate) fn answer(word: &[u8], n: [u64; NUMBERS]) -> Reply {
     if is(word, b"count") {
-        return Said::Natural(bits::count(n[0]) as u64);
+        return Reply::Natural(bits::count(n[0]) as u64);
     }
     if is(word, b"scan") {
-        return Said::Natural(bits::scan(n[0]) as u64);
+        return Reply::Natural(bits::scan(n[0]) as u64);
     }
     if is(word, b"next") {
         return next(bits::next(n[0]));
@@ -25,7 +24,7 @@ pub(crate) fn answer(word: &[u8], n: [u64; NUMBERS]) -> Said {
     of_square(word, byte(n[0]), n[1])
 }
 
-fn of_square(word: &[u8], square: u8, b: u64) -> Said {
+fn of_square(word: &[u8], square: u8, b: u64) -> Reply {
     if is(word, b"from_square") {
         return changed(bits::from_square(square));
     }
@@ -41,7 +40,7 @@ fn of_square(word: &[u8], square: u8, b: u64) -> Said {
     if is(word, b"reset") {
         return changed(bits::reset(b, square));
     }
-    Said::Nothing
+    Reply::Nothing
 }
 
 // A shift from its 64 bits; 64 where it is farther than that.
@@ -56,23 +55,23 @@ fn by(n: u64) -> i8 {
     64
 }
 
-fn next(next: Lowest) -> Said {
+fn next(next: Lowest) -> Reply {
     match next {
-        Lowest::At(square, rest) => Said::Two(square as u64, rest),
-        Lowest::Done => Said::Word(Verdict::None),
+        Lowest::At(square, rest) => Reply::Two(square as u64, rest),
+        Lowest::Done => Reply::Nobody,
     }
 }
 
-fn changed(changed: Changed) -> Said {
+fn changed(changed: Changed) -> Reply {
     match changed {
-        Changed::Bitboard(b) => Said::Natural(b),
-        Changed::Refused(r) => Said::Refused(r),
+        Changed::Bitboard(b) => Reply::Natural(b),
+        Changed::Refused(r) => Reply::Refused(r),
     }
 }
 
-fn got(got: Got) -> Said {
+fn got(got: Got) -> Reply {
     match got {
         Got::Is(t) => yes_or_no(t),
-        Got::Refused(r) => Said::Refused(r),
+        Got::Refused(r) => Reply::Refused(r),
     }
 }

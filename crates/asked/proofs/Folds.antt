@@ -1,4 +1,4 @@
--- One turn of each loop over a question, and what comes after its first space. Assumes nothing.
+-- One turn of each loop over a question, and its numbers. Assumes nothing.
 use mathlib.Core.Path.{_≡_, refl, sym, ap, _∙_}
 use mathlib.Core.Bool.{Bool, true, false, cond}
 use mathlib.Core.List.{List, [], _∷_}
@@ -10,7 +10,7 @@ use lib.ListN.{length, take, drop, getD, drop-of-length-le}
 use lib.Seq.{drop-cons}
 use borrow.Author.Tests.{eq-eqb, ne-eqb}
 use Rattle.fields.specs.Text.{space, before, after}
-use Rattle.fields.proofs.Parts.{rest, before-take, after-drop}
+use Rattle.fields.proofs.Parts.{rest}
 use Rattle.asked.specs.Question.{withDigit, digits, turned, numberOf, later, numbersOf, slashed}
 
 -- ---- a number's digits
@@ -41,21 +41,10 @@ module _ (s whole part : List ℕ) (i : ℕ) (e : whole ≡ slashed part (drop i
   unfolding slashed
   slashed-end h = sym (e ∙ rw (drop-of-length-le s h))
 
--- ---- what comes after the first space, as a program cuts it
-module _ (s : List ℕ) (end : ℕ) (e : end ≡ length (before space s)) where
-  pub no-next : end ≡ length s → take (length s - end) (drop end s) ≡ after space s
-  no-next h =
-      let past : length s ≤ end = omega arith in
-      let over : length s ≤ suc (length (before space s)) = omega arith in
-      rest end s ∙ drop-of-length-le s past ∙ sym (drop-of-length-le s over) ∙ after-drop space s
-
-  pub the-next : take (length s - (end + 1)) (drop (end + 1) s) ≡ after space s
-  the-next = rest (end + 1) s ∙ ap (λ (k : ℕ). drop k s) (add-one end ∙ ap suc e) ∙ after-drop space s
-
 -- ---- the number that a text begins with
-module _ (s : List ℕ) (end n m : ℕ) (e : end ≡ length (before space s)) (d : n ≡ digits 0 (take end s)) (f : m ≡ length (before 45 s)) where
+module _ (s front : List ℕ) (n m : ℕ) (e : front ≡ before space s) (d : n ≡ digits 0 front) (f : m ≡ length (before 45 s)) where
   read : n ≡ digits 0 (before space s)
-  read = d ∙ ap (digits 0) (ap (λ (k : ℕ). take k s) e ∙ before-take space s)
+  read = d ∙ ap (digits 0) e
 
   picked : (t : Bool) → eqb m 0 ≡ t → cond t (turned n) n ≡ numberOf s
   unfolding numberOf

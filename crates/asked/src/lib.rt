@@ -1,10 +1,11 @@
 // A question of the oracle taken apart: its word, its numbers and its position (oracle/README.md). Total, and no door.
 ghost use mathlib.Core.Path.{_≡_};
 ghost use Prim.Native.Nat.{_≤_};
-ghost use Rattle.fields.specs.Text.{space, after};
 ghost use Rattle.asked.specs.Question.{grown, withDigit, digits, turned, numberOf};
 ghost use Rattle.asked.specs.Promises.{GivesWord, GivesNumbers, GivesPosition};
 use fields::inner::find;
+use fields::inner::text_after;
+use fields::inner::text_before;
 
 // How many numbers a question has at most.
 pub const NUMBERS: usize = 5;
@@ -61,34 +62,22 @@ fn turned(n: u64) -> u64
 fn number(s: &[u8]) -> u64
     ensures { λ r. ⌜ r ≡ numberOf (now (s .entry)) ⌝ }
 {
-    let end = find(s, b' ');
-    let n = digits(&s[..end]);
+    let n = digits(text_before(s, b' '));
     if find(s, b'-') == 0 {
         return turned(n);
     }
     n
 }
 
-// What comes after the first space.
-fn next(s: &[u8]) -> &[u8]
-    ensures { λ r. ⌜ now r ≡ after space (now (s .entry)) ⌝ }
-{
-    let end = find(s, b' ');
-    if end == s.len() {
-        return &s[end..];
-    }
-    &s[end + 1..]
-}
-
 // The numbers of a question, in order; where there is none, 0.
 pub fn numbers(question: &[u8]) -> [u64; NUMBERS]
     ensures { λ r. ⌜ GivesNumbers (now (question .entry)) r ⌝ }
 {
-    let a = next(question);
-    let b = next(a);
-    let c = next(b);
-    let d = next(c);
-    let e = next(d);
+    let a = text_after(question, b' ');
+    let b = text_after(a, b' ');
+    let c = text_after(b, b' ');
+    let d = text_after(c, b' ');
+    let e = text_after(d, b' ');
     [number(a), number(b), number(c), number(d), number(e)]
 }
 
@@ -96,8 +85,7 @@ pub fn numbers(question: &[u8]) -> [u64; NUMBERS]
 pub fn word(question: &[u8]) -> &[u8]
     ensures { λ r. ⌜ GivesWord (now (question .entry)) (now r) ⌝ }
 {
-    let end = find(question, b' ');
-    &question[..end]
+    text_before(question, b' ')
 }
 
 // The part that the first slash stands in, with all that follows: a question's position, if it has one.

@@ -1,4 +1,4 @@
--- What a door returns once the position has passed its test, and what it refuses before: one law for each return. Assumes nothing.
+-- What a door returns for a square, a colour and a piece, and what it refuses: one law for each return. Assumes nothing.
 use mathlib.Core.Path.{_≡_, refl, sym, ap, ap₂, _∙_}
 use mathlib.Core.Bool.{Bool, true, false, cond, and-false}
 use mathlib.Core.List.{List, []}

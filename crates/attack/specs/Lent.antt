@@ -1,18 +1,17 @@
 -- What a piece attacks with the four step tables lent, whatever they hold. Where the tables are `stepTables`, it is the definition of Attacks.
 -- Definitions only.
-use mathlib.Core.Bool.{cond}
 use mathlib.Core.List.{List, [], _∷_}
 use Prim.Native.Nat.{ℕ}
-use lib.Dec.{eqb}
 use lib.ListN.{getD}
+use Rattle.chess.specs.Codes.{asColour}
 use Rattle.bits.specs.Bitboard.{board}
 use Rattle.steps.specs.Steps.{stepIn}
 use Rattle.rays.specs.Rays.{seen}
 use Rattle.attack.specs.Attacks.{attacksBy}
 
--- a pawn's row of the tables
+-- a pawn's row of the tables: White's first
 abbrev pub pawnRow : ℕ → ℕ
-pawnRow colour = cond (eqb colour 0) 0 1
+pawnRow = asColour
 
 -- the row of a kind that steps; past the four for one that doesn't, and for a number that is no kind
 abbrev pub rowOf : ℕ → ℕ → ℕ

@@ -1,28 +1,20 @@
 // The same for the crates above, on a position that their own doors have found consistent: total, no door. `attacks`, which is asked of many
 // pieces, has the step tables lent (`steps::inner::tables`, made once for a call); the others find the steps of the one square that they need.
-ghost use mathlib.Core.Path.{_≡_};
-ghost use lib.Bits.{bitOr};
-ghost use Rattle.attack.specs.Attacks.{standing};
-ghost use Rattle.attack.specs.Promises.{Other, Standing, Occupied, AttacksWith, AttacksFrom, Attackers, Attacked, InCheck};
+ghost use Rattle.attack.specs.Promises.{Other, Standing, Occupied, AttacksWith, AttacksFrom};
 use bits::inner::at;
 use chess::color::BLACK;
+use chess::color::BLACK_BOARD;
 use chess::color::WHITE;
+use chess::color::WHITE_BOARD;
 use chess::inner::code;
-use chess::inner::index;
 use chess::kind::BISHOP;
-use chess::kind::KING;
-use chess::kind::KNIGHT;
-use chess::kind::PAWN;
 use chess::kind::QUEEN;
 use chess::kind::ROOK;
 use chess::square::Square;
 use rays::inner::bishop;
 use rays::inner::queen;
 use rays::inner::rook;
-use steps::inner::BLACK_PAWN_ROW;
-use steps::inner::KING_ROW;
-use steps::inner::KNIGHT_ROW;
-use steps::inner::WHITE_PAWN_ROW;
+use steps::inner::ROWS;
 use steps::inner::reached;
 use steps::inner::step;
 
@@ -47,7 +39,7 @@ pub fn standing(bitboards: &[u64], kind: u8, color: u8) -> u64
 pub fn occupied(bitboards: &[u64]) -> u64
     ensures { λ r. ⌜ Occupied (now (bitboards .entry)) r ⌝ }
 {
-    bits::inner::union(at(bitboards, 0), at(bitboards, 1))
+    bits::inner::union(at(bitboards, WHITE_BOARD), at(bitboards, BLACK_BOARD))
 }
 
 // The squares that a piece of a kind and a colour attacks; none from a square above 63, and none for a number that is no kind.
@@ -56,7 +48,7 @@ pub fn attacks(
     color: u8,
     square: u8,
     occupied: u64,
-    tables: &[[u64; Square::COUNT]; 4],
+    tables: &[[u64; Square::COUNT]; ROWS],
 ) -> u64
     ensures { λ r. ⌜ AttacksWith (now (tables .entry)) kind color square occupied r ⌝ }
 {
@@ -78,44 +70,4 @@ pub fn attacks_from(kind: u8, color: u8, square: u8, occupied: u64) -> u64
         QUEEN => queen(square, occupied),
         _ => reached(crate::row(kind, color), square),
     }
-}
-
-// The pieces of a kind, of both colours.
-fn both(bitboards: &[u64], kind: u8) -> u64
-    ensures { λ r. ⌜ r ≡ bitOr (standing (now (bitboards .entry)) kind 0) (standing (now (bitboards .entry)) kind 1) ⌝ }
-{
-    standing(bitboards, kind, WHITE) | standing(bitboards, kind, BLACK)
-}
-
-// The squares of the pieces of both colours that attack a square: none attacks a square above 63.
-pub fn attacks_to(bitboards: &[u64], square: u8, occupied: u64) -> u64
-    ensures { λ r. ⌜ Attackers (now (bitboards .entry)) square occupied r ⌝ }
-{
-    let white_pawns = standing(bitboards, PAWN, WHITE) & reached(BLACK_PAWN_ROW, square);
-    let black_pawns = standing(bitboards, PAWN, BLACK) & reached(WHITE_PAWN_ROW, square);
-    let knights = both(bitboards, KNIGHT) & reached(KNIGHT_ROW, square);
-    let kings = both(bitboards, KING) & reached(KING_ROW, square);
-    let queens = both(bitboards, QUEEN);
-    let slanted = (both(bitboards, BISHOP) | queens) & bishop(square, occupied);
-    let straight = (both(bitboards, ROOK) | queens) & rook(square, occupied);
-    white_pawns | (black_pawns | (knights | (kings | (slanted | straight))))
-}
-
-// Whether a piece of the other colour attacks a square.
-pub fn is_attacked(bitboards: &[u64], square: u8, color: u8) -> bool
-    ensures { λ r. ⌜ Attacked (now (bitboards .entry)) square color r ⌝ }
-{
-    let attackers = attacks_to(bitboards, square, occupied(bitboards));
-    attackers & at(bitboards, index(other(color))) != 0
-}
-
-// Whether a colour's king is attacked, the lowest if it has several; true if it has none.
-pub fn is_check(bitboards: &[u64], color: u8) -> bool
-    ensures { λ r. ⌜ InCheck (now (bitboards .entry)) color r ⌝ }
-{
-    let king = standing(bitboards, KING, color);
-    if king == 0 {
-        return true;
-    }
-    is_attacked(bitboards, bits::scan(king) as u8, color)
 }

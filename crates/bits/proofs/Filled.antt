@@ -1,36 +1,18 @@
 -- A bitboard filled from a1 upward, one square a turn: what a loop over the 64 squares holds, and what a turn adds. Assumes nothing.
 use mathlib.Core.Path.{_≡_, sym, ap, _∙_}
 use mathlib.Core.Bool.{Bool, true, false}
-use Prim.Native.Nat.{ℕ, suc, _+_, _*_, _-_, _/_, _%_, _^_, _<_}
-use native.Mathlib.Nat.{mod-lt, mod-eq-of-lt, one-mul, zero-mul, zero-add, pow-suc}
-use native.Mathlib.Numerals.{one-add}
-use native.Mathlib.Omega.{arith}
-use lib.Bits.{bitAnd, bitOr, and-high, or-shifted, or-shifted-r}
+use Prim.Native.Nat.{ℕ, suc, _+_, _*_, _-_, _%_, _^_, _<_}
+use native.Mathlib.Nat.{mod-eq-of-lt, one-mul, zero-mul, zero-add, pow-suc}
+use lib.Bits.{bitOr, or-shifted, or-shifted-r}
 use lib.Pow.{pow-lt}
-use Rattle.bits.specs.Bitboard.{has, digit, those}
-use Rattle.bits.proofs.Counts.{digit-of}
-use Rattle.bits.proofs.Digits.{two-pos}
+use Rattle.bits.specs.Bitboard.{digit, those}
 use Rattle.bits.proofs.Those.{those-lt}
 
 -- ---- the square of a turn, doubled each time: after h8 it is 0
 pub rising : (k : ℕ) → k < 64 → 2 ^ k % 2 ^ 64 * 2 ^ 1 % 2 ^ 64 ≡ 2 ^ suc k % 2 ^ 64
 rising k h = ap (λ (x : ℕ). x * 2 % 2 ^ 64) (mod-eq-of-lt (pow-lt h)) ∙ ap (λ (x : ℕ). x % 2 ^ 64) (sym (pow-suc 2 k))
 
--- `b & square` is the square where b has it
-and-square : (b k : ℕ) → bitAnd b (2 ^ k) ≡ digit (has b k) * 2 ^ k
-unfolding has
-and-square b k =
-    let e : 2 ^ (1 + k) - 2 ^ k ≡ 2 ^ k = omega (arith, ap (λ (n : ℕ). 2 ^ n) (one-add k), pow-suc 2 k) in
-    ap (bitAnd b) (sym e) ∙ and-high b 1 k ∙ ap (λ (d : ℕ). d * 2 ^ k) (sym (digit-of (b / 2 ^ k % 2) (mod-lt (b / 2 ^ k) two-pos)))
-
 module _ (f : ℕ → Bool) (k : ℕ) (h : k < 64) where
-  -- the square is put where another bitboard has it
-  pub filled-by : (b : ℕ) → has b k ≡ f k → bitOr (bitAnd b (2 ^ k % 2 ^ 64)) (those k f) ≡ those (suc k) f
-  unfolding those
-  filled-by b e =
-      ap (λ (x : ℕ). bitOr x (those k f)) (ap (bitAnd b) (mod-eq-of-lt (pow-lt h)) ∙ and-square b k ∙ ap (λ (t : Bool). digit t * 2 ^ k) e)
-      ∙ or-shifted (digit (f k)) k (those k f) (those-lt k f)
-
   -- the square is put
   pub filled-at : f k ≡ true → bitOr (those k f) (2 ^ k % 2 ^ 64) ≡ those (suc k) f
   unfolding those

@@ -8,6 +8,7 @@ pub mod Filled
 pub mod Scanned
 pub mod Squares
 pub mod Each
+pub mod Still
 pub mod Determined
 pub mod Examples
 pub mod Sums

@@ -9,7 +9,7 @@ use lib.Dec.{T, eqb, leb, eqb→eq, eqb-refl}
 use lib.Bits.{or-shifted, bitOr, bitAnd, or-lt, and-lt}
 use borrow.Author.Tests.{le-leb, lt-leb}
 use Rattle.laws.specs.Tests.{allBelow}
-use Rattle.laws.proofs.Tests.{all-at, all-of, all-same}
+use Rattle.laws.proofs.Tests.{all-at, all-of}
 use Rattle.laws.proofs.Truth.{iff, is-beq, beq-is, not-i, not-e}
 use Rattle.bits.specs.Bitboard.{has, digit, those}
 use Rattle.bits.proofs.Digits.{has-or, has-and, has-not, has-up, has-high, has-zero, ext}
@@ -114,11 +114,3 @@ those-none f = iff (eqb (those 64 f) 0) (allBelow 64 (λ k. not (f k))) there ba
         subst (λ (x : ℕ). T (eqb x 0))
         (is-those 0 f (omega arith) (λ k l. has-zero k ∙ sym (not-e (f k) (all-at 64 (λ j. not (f j)) t k l))))
         (eqb-refl 0)
-
--- all pass it
-pub those-all : (f : ℕ → Bool) → eqb (2 ^ 64 - 1 - those 64 f) 0 ≡ allBelow 64 f
-those-all f = ap (λ (x : ℕ). eqb x 0) (those-not f) ∙ those-none (λ k. not (f k)) ∙ all-same 64 (λ k. not (not (f k))) f (λ k h. twice (f k))
-  where
-    twice : (t : Bool) → not (not t) ≡ t
-    twice true = refl
-    twice false = refl

@@ -1,7 +1,7 @@
 // Collections one after another on standard input, each ended by RS and fed byte by byte: the ledger of each. GS stands for a million
 // spaces. So ends of input, and lines longer than a file here should hold, are tried too.
+use last::Finished;
 use rows::Fed;
-use rows::Finished;
 use rows::State;
 
 const RS: u8 = 0x1e;
@@ -77,7 +77,7 @@ fn feed(state: State, line: &mut [u8], chunk: &[u8]) -> State {
 
 fn finish(state: State, line: &[u8]) {
     let mut out = [0u8; 116];
-    if let Finished::Rows(wrote) = rows::finish(state, line, &mut out) {
+    if let Finished::Rows(wrote) = last::finish(state, line, &mut out) {
         put(&out, wrote);
     }
 }

@@ -5,8 +5,8 @@ use lib.IntN.{ℤ}
 use lib.Ieee.{Float}
 use Rattle.chess.proofs.Paper.{one, retract, readBack, number-back}
 use Rattle.double.specs.Promises.{paper, Doubles}
-use Rattle.double.specs.declared.Weights.{Weights}
-use Rattle.double.specs.declared.Trace.{Trace}
+use Rattle.record.specs.declared.Weights.{Weights}
+use Rattle.record.specs.declared.Trace.{Trace}
 use Rattle.double.specs.declared.Doubled.{Doubled}
 use Rattle.double.specs.declared.Doubled.the-variants as D
 
@@ -19,5 +19,5 @@ pub paper-one : (r s : Doubled) → paper r ≡ paper s → r ≡ s
 paper-one = retract paper (readBack D.Is D.Refused) paper-back
 
 -- ---- the function
-pub trace-eval : (t : Trace) (entries : List ℤ) (w : Weights) (squares : List Float) (r s : Doubled) → Doubles t entries w squares r → Doubles t entries w squares s → r ≡ s
-trace-eval t entries w squares r s p q = paper-one r s (one p q)
+pub eval : (t : Trace) (entries : List ℤ) (w : Weights) (squares : List Float) (r s : Doubled) → Doubles t entries w squares r → Doubles t entries w squares s → r ≡ s
+eval t entries w squares r s p q = paper-one r s (one p q)

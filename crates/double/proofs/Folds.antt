@@ -10,7 +10,7 @@ use lib.Ieee.{Float}
 use mir.Syntax.{w32}
 use Rattle.laws.proofs.Words.{held}
 use Rattle.double.specs.Double.{added, folded}
-use Rattle.double.proofs.Held.{read}
+use Rattle.record.proofs.Held.{read}
 
 module _ (squares : List Float) (x : Float) (entries : List ℤ) (start : Float) where
   -- the entry at k, read back from its bits, makes the score of the first k that of the first j

@@ -1,3 +1,2 @@
-pub mod Ranges
 pub mod Double
 pub mod Promises

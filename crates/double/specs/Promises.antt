@@ -10,10 +10,10 @@ use lib.Ieee.{Float}
 use Rattle.chess.specs.Answer.{Answer, given, orRefuse}
 use Rattle.chess.specs.Refusals.{numberOf, refusalOf}
 use Rattle.chess.specs.declared.refusal.Refusal.the-variants as R
-use Rattle.double.specs.Ranges.{inRanges, areEntries}
+use Rattle.record.specs.Ranges.{inRanges, areEntries}
 use Rattle.double.specs.Double.{double}
-use Rattle.double.specs.declared.Weights.{Weights}
-use Rattle.double.specs.declared.Trace.{Trace}
+use Rattle.record.specs.declared.Weights.{Weights}
+use Rattle.record.specs.declared.Trace.{Trace}
 use Rattle.double.specs.declared.Doubled.{Doubled}
 use Rattle.double.specs.declared.Doubled.the-variants.{Is, Refused}
 

@@ -1,14 +1,10 @@
--- What each function promises, for all inputs. Definitions only.
+-- What the function promises, for all inputs. Definitions only.
 use mathlib.Core.Path.{_≡_}
 use mathlib.Core.List.{List}
 use Prim.Native.Nat.{ℕ}
 use Rattle.position.specs.declared.State.{State}
-use Rattle.exchange.specs.Answers.{lvpOf, seeOf, least, exchanged}
-use Rattle.exchange.specs.declared.Least.{Least}
+use Rattle.exchange.specs.Answers.{seeOf, exchanged}
 use Rattle.exchange.specs.declared.Exchanged.{Exchanged}
-
-abbrev pub Lvp : List ℕ → List ℕ → State → ℕ → ℕ → ℕ → Least → Type 0
-Lvp bitboards board state colour attacks occ r = least r ≡ lvpOf bitboards board (state .side) colour attacks occ
 
 abbrev pub See : List ℕ → List ℕ → State → ℕ → ℕ → Exchanged → Type 0
 See bitboards board state from to r = exchanged r ≡ seeOf bitboards board (state .side) from to

@@ -2,10 +2,11 @@
 -- Definitions only.
 use mathlib.Core.Bool.{Bool, true, false, cond, _||_, _&&_}
 use mathlib.Core.List.{List, [], _∷_, reverse}
-use Prim.Native.Nat.{ℕ, zero, suc}
+use Prim.Native.Nat.{ℕ, zero, suc, _+_}
 use Prim.Native.Char.{code}
 use Prim.Native.String.{String, [] as end, _∷_ as _then_}
 use lib.Dec.{eqb, leb}
+use lib.ListN.{length}
 use Rattle.laws.specs.Tests.{same}
 
 -- the bytes of a quoted text
@@ -55,6 +56,11 @@ holds mark (b ∷ s) = eqb b mark || holds mark s
 unfoldable pub before : ℕ → List ℕ → List ℕ
 before mark [] = []
 before mark (b ∷ s) = let rest : List ℕ = before mark s in cond (eqb b mark) [] (b ∷ rest)
+
+-- where the text after it begins; its length where there is none
+unfoldable pub pastOf : ℕ → List ℕ → ℕ
+unfolding holds before
+pastOf mark s = cond (holds mark s) (length (before mark s) + 1) (length s)
 
 -- the text after it; nothing where there is none
 unfoldable pub after : ℕ → List ℕ → List ℕ

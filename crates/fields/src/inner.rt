@@ -1,7 +1,7 @@
 // The parts of a text: total, and no door.
 ghost use mathlib.Core.Path.{_≡_};
 ghost use Rattle.fields.specs.Text.{isText, isBlank};
-ghost use Rattle.fields.specs.Promises.{IsText, Finds, Trims, SkipsSpaces, Is, SkipsBlanks, DropsBlanks};
+ghost use Rattle.fields.specs.Promises.{IsText, Finds, Before, Past, After, Trims, SkipsSpaces, Is, SkipsBlanks, DropsBlanks};
 
 fn plain(b: u8) -> bool
     ensures { λ r. ⌜ r ≡ isText b ⌝ }
@@ -37,6 +37,33 @@ pub fn find(s: &[u8], mark: u8) -> usize
         i += 1;
     }
     i
+}
+
+// What comes before the first such byte; all where there is none.
+pub fn text_before(s: &[u8], mark: u8) -> &[u8]
+    ensures { λ r. ⌜ Before (now (s .entry)) mark (now r) ⌝ }
+{
+    let end = find(s, mark);
+    &s[..end]
+}
+
+// Where what comes after it begins; the length where there is none.
+pub fn past(s: &[u8], mark: u8) -> usize
+    ensures { λ r. ⌜ Past (now (s .entry)) mark r ⌝ }
+{
+    let end = find(s, mark);
+    if end == s.len() {
+        return end;
+    }
+    end + 1
+}
+
+// What comes after it; nothing where there is none.
+pub fn text_after(s: &[u8], mark: u8) -> &[u8]
+    ensures { λ r. ⌜ After (now (s .entry)) mark (now r) ⌝ }
+{
+    let begin = past(s, mark);
+    &s[begin..]
 }
 
 fn blank(b: u8) -> bool

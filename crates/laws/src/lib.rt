@@ -1,1 +1,1 @@
-// What every proof above cites and no chess knows. Definitions in specs/, laws in proofs/; no code.
+// Laws that know no chess, for every proof above to cite. Definitions in specs/, laws in proofs/; no code.

@@ -4,8 +4,8 @@
 // row follows them, and the reason goes to standard error.
 ghost use Prim.Native.Nat.{_≤_};
 ghost use lib.ListN.{length};
+use last::Finished;
 use rows::Fed;
-use rows::Finished;
 use rows::State;
 
 // A proved loop has to end: more reads or writes than any run makes.
@@ -80,7 +80,7 @@ fn try_again(state: State) -> Turn {
 }
 
 fn finish(state: State, line: &[u8], out: &mut [u8]) {
-    match rows::finish(state, line, out) {
+    match last::finish(state, line, out) {
         Finished::Rows(wrote) => {
             write(&out[..wrote]);
         }

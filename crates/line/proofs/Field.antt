@@ -13,8 +13,9 @@ use Rattle.fields.specs.Text.{semicolon, space, isText, every, holds, before, p
 use Rattle.fields.proofs.Within.{Within, Part, inner, cut, before-within, trim-within}
 use Rattle.ranks.specs.Ranks.{areEightRanks, boardOf}
 use Rattle.ranks.proofs.Placing.{none-left}
-use Rattle.line.specs.Line.{Line, sides, results, isOneOf, ranksOf, sideWord, positionField, resultField, unlessRefused, fieldsSay, lineOf, fieldOf}
-use Rattle.line.proofs.Given.{given-spells}
+use Rattle.said.specs.Line.{Line, sides, results, isOneOf, ranksOf, sideWord, positionField, resultField, fieldsSay, lineOf}
+use Rattle.line.specs.Field.{unlessRefused, fieldOf}
+use Rattle.said.proofs.Given.{given-spells}
 
 -- ---- always a part of the line
 field-within : (line : List ℕ) → Within line (positionField line)

@@ -11,15 +11,16 @@ use Rattle.laws.proofs.Tests.{all-of}
 use Rattle.laws.proofs.Truth.{T-true, or-r}
 use Rattle.chess.specs.Codes.{isPiece}
 use Rattle.chess.specs.Answer.{Answer, given}
-use Rattle.position.specs.Consistent.{consistent, checked}
-use Rattle.position.specs.Boards.{isByte, coded, bitboardsOf}
-use Rattle.position.proofs.Only.{made-consistent, made-length, only-made}
+use Rattle.consistent.specs.Consistent.{consistent}
+use Rattle.position.specs.Checked.{checked}
+use Rattle.boards.specs.Boards.{isByte, coded, bitboardsOf}
+use Rattle.consistent.proofs.Only.{made-consistent, made-length, only-made}
 use Rattle.position.proofs.Doors.{in-shape, sound}
 use Rattle.fields.proofs.Every.{every-at}
 use Rattle.ranks.specs.Ranks.{areEightRanks, boardOf}
 use Rattle.ranks.proofs.Board.{board-64, board-passes}
-use Rattle.line.specs.Line.{Line, ranksOf, positionField, lineOf}
-use Rattle.line.proofs.Given.{given-spells}
+use Rattle.said.specs.Line.{Line, ranksOf, positionField, lineOf}
+use Rattle.said.proofs.Given.{given-spells}
 
 all-coded : (s : List ℕ) → coded (boardOf s) ≡ true
 unfolding coded

@@ -1,88 +1,49 @@
 // Reads a collection on standard input and says of each line what the reader makes of it: the file stdout holds what document 01
 // makes of it (oracle/README.md, lines.answers).
 ghost use Prim.Native.Nat.{_≤_};
+ghost use lib.ListN.{length};
 use chess::piece::Piece;
 use chess::refusal::Refusal;
 use chess::square::Square;
-use line::Read;
+use fields::inner::past;
+use fields::inner::text_before;
+use said::Read;
+
+// More than the recorded lines take. One that did not fit would have no row, and the run would fail.
+const ROOM: usize = 0x30000;
 
 fn main() {
-    let mut chunk = io::buffer();
-    read_all(&mut chunk);
+    let mut collection = [0u8; ROOM];
+    let n = io::read_full(libc::STDIN_FILENO, &mut collection);
+    read_all(&collection[..n]);
 }
 
-// Reads to the end. A proved loop has to end: the reads are counted, up to more than any run makes.
-fn read_all(chunk: &mut [u8]) {
-    // longer than any line that is read; what comes after is lost, and the line refused as too long
-    let mut line = [0u8; 512];
-    let mut n = 0;
-    let mut more = true;
-    let mut reads: u32 = 0;
-    while more && reads < 1000000 {
-        reads += 1;
-        let got = libc::read(libc::STDIN_FILENO, chunk);
-        more = got > 0;
-        let k = io::count(got, chunk);
-        n = each(&mut line, n, &chunk[..k]);
-    }
-    // the last line may end without LF, and then keeps its CR
-    if n > 0 {
-        read_part(&line, n);
+// A line ends before LF or the end of the input.
+fn read_all(collection: &[u8]) {
+    let mut rest = collection;
+    while rest.len() > 0 {
+        let line = text_before(rest, b'\n');
+        let next = past(rest, b'\n');
+        read(&line[..size(line, next)]);
+        rest = &rest[next..];
     }
 }
 
-// Reads each line that ends in the chunk; what is left of it waits in the line, and how much that is comes back.
-fn each(line: &mut [u8], waiting: usize, chunk: &[u8]) -> usize {
-    let mut n = waiting;
-    let mut i = 0;
-    while i < chunk.len() {
-        let b = chunk[i];
-        i += 1;
-        if b == b'\n' {
-            read_part(line, without_cr(line, n));
-            n = 0;
-        } else {
-            n = keep(line, n, b);
-        }
-    }
-    n
-}
-
-// One byte more of the line; past its end it is lost.
-fn keep(line: &mut [u8], n: usize, b: u8) -> usize {
-    if n < line.len() {
-        line[n] = b;
-        return n + 1;
-    }
-    n
-}
-
-// One CR before an LF is dropped.
-fn without_cr(line: &[u8], n: usize) -> usize {
+// How many bytes of a line are read: one CR before an LF is dropped. The last line may end without LF, and then keeps its CR.
+fn size(line: &[u8], next: usize) -> usize
+    ensures { λ r. ⌜ r ≤ length (now (line .entry)) ⌝ }
+{
+    let n = line.len();
     if n == 0 {
         return 0;
     }
-    let last = n - 1;
-    if last < line.len() {
-        if line[last] == b'\r' {
-            return last;
-        }
-    }
-    n
-}
-
-fn at_most(n: usize, most: usize) -> usize
-    ensures { λ r. ⌜ r ≤ most ⌝ }
-{
-    if n <= most {
+    if next == n {
         return n;
     }
-    most
-}
-
-fn read_part(line: &[u8], n: usize) {
-    let k = at_most(n, line.len());
-    read(&line[..k]);
+    if line[n - 1] == b'\r' {
+        return n - 1;
+    }
+    n
 }
 
 // A refused line has no field, and one that is read has one: else the row is `field`.

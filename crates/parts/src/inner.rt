@@ -8,6 +8,13 @@ use crate::Points;
 use crate::Side;
 use crate::TEMPO;
 
+// The bounds of 16 bits; a sum of material or mobility is never below zero.
+const SMALLEST: i64 = -32768;
+
+const LARGEST: i64 = 32767;
+
+const LARGEST_SUM: u32 = 32767;
+
 // A side's part, or that a step to it leaves 16 bits.
 enum Part {
     Is(i64),
@@ -18,10 +25,10 @@ enum Part {
 fn short(z: i64) -> bool
     ensures { λ r. ⌜ r ≡ in16 z ⌝ }
 {
-    if z < -32768 {
+    if z < SMALLEST {
         return false;
     }
-    if 32767 < z {
+    if LARGEST < z {
         return false;
     }
     true
@@ -74,10 +81,10 @@ fn divided(opening: i64, ending: i64) -> Part
 fn brought(side: Side, x: u32) -> Part
     ensures { λ r. ⌜ part r ≡ broughtOf side x ⌝ }
 {
-    if 32767 < side.material {
+    if LARGEST_SUM < side.material {
         return Part::Over;
     }
-    if 32767 < side.mobility {
+    if LARGEST_SUM < side.mobility {
         return Part::Over;
     }
     let opening = product(side.opening, 2, x);

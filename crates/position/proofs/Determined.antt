@@ -1,12 +1,10 @@
--- Each public function is determined by its promise: two results that it allows are equal. Assumes nothing.
-use mathlib.Core.Path.{_≡_, refl, ap, ap₂}
-use mathlib.Core.Bool.{Bool}
+-- The public function is determined by its promise: two results that it allows are equal. Assumes nothing.
+use mathlib.Core.Path.{_≡_, refl, ap}
 use mathlib.Core.List.{List}
 use Prim.Native.Nat.{ℕ}
 use Rattle.chess.proofs.Paper.{one, retract, readBack, number-back}
-use Rattle.position.specs.Promises.{paper, Checks, Makes}
+use Rattle.position.specs.Promises.{paper, Checks}
 use Rattle.position.specs.declared.State.{State}
-use Rattle.position.specs.declared.Boards.{Boards}
 use Rattle.position.specs.declared.Checked.{Checked}
 use Rattle.position.specs.declared.Checked.the-variants.{Fit, Refused}
 
@@ -21,12 +19,6 @@ back (Refused q) = ap Refused (number-back q)
 pub paper-one : (r s : Checked) → paper r ≡ paper s → r ≡ s
 paper-one = retract paper (readBack fit Refused) back
 
--- ---- the functions
+-- ---- the function
 pub check : (bitboards board : List ℕ) (state : State) (r s : Checked) → Checks bitboards board state r → Checks bitboards board state s → r ≡ s
 check bitboards board state r s p q = paper-one r s (one p q)
-
-abbrev boards : List ℕ → Bool → Boards
-boards b c = record { bitboards = b; coded = c }
-
-pub bitboards-of : (board : List ℕ) (r s : Boards) → Makes board r → Makes board s → r ≡ s
-bitboards-of board r s p q = ap₂ boards (one (p .0) (q .0)) (one (p .1) (q .1))

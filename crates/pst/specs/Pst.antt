@@ -8,6 +8,7 @@ use lib.IntN.{ℤ, pos}
 use lib.ListN.{getD}
 use Rattle.laws.specs.Tables.{tabulate}
 use Rattle.chess.specs.Codes.{isPiece, kindOf, colourOf}
+use Rattle.places.specs.Places.{entryPlace}
 use Rattle.pst.specs.Grids as G
 
 -- "document 003's twelve printed grids": of each phase those of pawn, knight, bishop, rook, queen, king
@@ -26,9 +27,9 @@ unfoldable pub pstOf : ℕ → ℕ → ℕ → ℤ
 pstOf code square phase =
     cond (isPiece code) (getD (getD (getD grids phase []) (kindOf code) []) (gridEntry (colourOf code) square) (pos 0)) (pos 0)
 
--- "14 codes, 64 squares, 2 phases", in this order: where the table has a weight
+-- "14 codes, 64 squares, 2 phases", in this order: where the table has a weight, reckoned as an entry's place is
 abbrev pub pstPlace : ℕ → ℕ → ℕ → ℕ
-pstPlace code square phase = 128 * code + 2 * square + phase
+pstPlace = entryPlace
 
 -- "all 1,792 numbers of PST"
 unfoldable pub pstTable : List ℤ

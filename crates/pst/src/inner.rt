@@ -5,7 +5,7 @@ use crate::COUNT;
 use crate::PER_CODE;
 use crate::PST;
 use chess::inner::index;
-use chess::phase::Phase;
+use places::phase::Phase;
 
 // The whole table. A constant is built anew wherever it is read: who loops makes it once and lends it.
 pub fn table() -> [i8; COUNT]

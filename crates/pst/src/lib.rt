@@ -1,7 +1,7 @@
 // The square weights, as piece_square_table.rs makes them: one constant, from the twelve printed grids.
-use chess::phase::Phase;
 use chess::piece::Piece;
 use chess::square::Square;
+use places::phase::Phase;
 
 pub mod inner;
 

@@ -1,19 +1,19 @@
--- Worked examples of the definitions, by computation: document 01's four rows. Assumes nothing.
+-- Worked examples of the definitions, by computation: document 01's rows of lines. Assumes nothing.
 use mathlib.Core.Path.{_≡_, refl}
-use mathlib.Core.List.{List, [], _∷_, map}
+use mathlib.Core.List.{List, [], _∷_}
 use Prim.Native.Nat.{ℕ}
 use Prim.Native.String.{String}
-use lib.IntN.{pos, negsuc}
+use lib.IntN.{negsuc}
 use Rattle.laws.specs.Tables.{tabulate}
-use Rattle.chess.specs.Answer.{Answer, given, refused}
+use Rattle.chess.specs.Answer.{given, refused}
 use Rattle.fields.specs.Text.{text, every, holds, before, after, without, withoutLast, trim, placeIn}
 use Rattle.ranks.specs.Ranks.{areRanks, stacked}
-use Rattle.line.specs.Line.{Line, fieldsSay, lineOf}
-use Rattle.position.specs.Boards.{bitboardsOf}
-use Rattle.score.specs.Verdict.{won, drawn}
-use Rattle.score.specs.Score.{Outcome, verdict, score, scoreOf}
+use Rattle.said.specs.Line.{fieldsSay, lineOf}
+use Rattle.boards.specs.Boards.{bitboardsOf}
+use Rattle.verdict.specs.Verdict.{won, drawn}
+use Rattle.score.specs.Score.{verdict, score, scoreOf}
 use Rattle.text.specs.Text.{digitsUpTo}
-use Rattle.row.specs.Row.{rowOf, loadedRow, refusedRow, lastRow}
+use Rattle.row.specs.Row.{rowOf, loadedRow, refusedRow}
 
 row : ℕ → String → List ℕ
 unfolding lineOf fieldsSay every holds before after without withoutLast trim placeIn areRanks stacked scoreOf tabulate bitboardsOf loadedRow refusedRow digitsUpTo
@@ -31,7 +31,3 @@ others :
     ≡ text "10 0 -95\n" ∷ text "9 0 won\n" ∷ text "8 1 drawn\n" ∷ text "7 2 over\n" ∷ []
 unfolding loadedRow digitsUpTo
 others = refl
-
-totals : lastRow 3 2 1 ≡ text "lines 3 loaded 2 refused 1\n"
-unfolding lastRow digitsUpTo
-totals = refl

@@ -12,17 +12,17 @@ use borrow.Author.Tests.{ltb-true, lt-ltb}
 use Rattle.chess.specs.Answer.{Answer, given, refused, orRefuse}
 use Rattle.chess.specs.Refusals.{numberOf}
 use Rattle.chess.specs.declared.refusal.Refusal.the-variants as R
-use Rattle.position.specs.Boards.{bitboardsOf}
+use Rattle.boards.specs.Boards.{bitboardsOf}
 use Rattle.fields.specs.Text.{text, semicolon, isText, every, holds}
 use Rattle.ranks.specs.Ranks.{areEightRanks}
-use Rattle.line.specs.Line.{Line, sides, results, isOneOf, ranksOf, sideWord, positionField, resultField, fieldsSay, lineOf}
-use Rattle.line.proofs.Given.{given-spells}
+use Rattle.said.specs.Line.{Line, sides, results, isOneOf, ranksOf, sideWord, positionField, resultField, fieldsSay, lineOf}
+use Rattle.said.proofs.Given.{given-spells}
 use Rattle.parts.specs.Parts.{in16}
-use Rattle.score.specs.Verdict.{lost, won, drawn, none}
+use Rattle.verdict.specs.Verdict.{lost, won, drawn, none}
 use Rattle.score.specs.Score.{Outcome, verdict, score, scoreBy}
 use Rattle.text.specs.Text.{digitsUpTo, decimalOf, signedOf}
 use Rattle.row.specs.Row.{spaced, shownOf, rowBy, loadedRow, refusedRow}
-use Rattle.row.proofs.Added.{length-20, length-spaced}
+use Rattle.row.proofs.Fits.{length-spaced}
 use Rattle.row.proofs.Rows.{score-short}
 
 -- a number below a power of ten has no more digits than the power

@@ -4,10 +4,10 @@ use mathlib.Core.List.{List}
 use Prim.Native.Nat.{ℕ}
 use lib.IntN.{ℤ}
 use Rattle.chess.specs.Answer.{Answer, given, refused}
-use Rattle.position.specs.Boards.{bitboardsOf}
+use Rattle.boards.specs.Boards.{bitboardsOf}
 use Rattle.steps.specs.Steps.{stepTables}
 use Rattle.pst.specs.Pst.{pstTable}
-use Rattle.line.specs.Line.{Line, lineOf}
+use Rattle.said.specs.Line.{Line, lineOf}
 use Rattle.line.proofs.Loaded.{loaded-checked}
 use Rattle.score.specs.Score.{Outcome, scoreOf, evalOf}
 use Rattle.score.proofs.Lent.{lent-score}

@@ -5,6 +5,7 @@ use crate::KING;
 use crate::KNIGHT;
 use crate::WHITE_PAWN;
 use chess::square::Square;
+use chess::square::UP;
 
 // The rows of the tables.
 pub const WHITE_PAWN_ROW: usize = 0;
@@ -14,6 +15,8 @@ pub const BLACK_PAWN_ROW: usize = 1;
 pub const KNIGHT_ROW: usize = 2;
 
 pub const KING_ROW: usize = 3;
+
+pub const ROWS: usize = 4;
 
 // One table; past the four, an empty one.
 pub fn table(row: usize) -> [u64; Square::COUNT]
@@ -29,7 +32,7 @@ pub fn table(row: usize) -> [u64; Square::COUNT]
 }
 
 // A constant array is built anew wherever it is read: make these once, and lend them.
-pub fn tables() -> [[u64; Square::COUNT]; 4]
+pub fn tables() -> [[u64; Square::COUNT]; ROWS]
     ensures { λ r. ⌜ Tables r ⌝ }
 {
     [
@@ -49,6 +52,8 @@ const TWO_RIGHT_OF: u64 = 0xfcfc_fcfc_fcfc_fcfc;
 
 const TWO_LEFT_OF: u64 = 0x3f3f_3f3f_3f3f_3f3f;
 
+const UP_TWO: u64 = 2 * UP;
+
 // For a single square, where no tables are at hand: shifts are quicker than a table made for it.
 pub fn reached(row: usize, square: u8) -> u64
     ensures { λ r. ⌜ Reaches row square r ⌝ }
@@ -60,16 +65,17 @@ pub fn reached(row: usize, square: u8) -> u64
     let beside = ((own << 1) & RIGHT_OF) | ((own >> 1) & LEFT_OF);
     let two_beside = ((own << 2) & TWO_RIGHT_OF) | ((own >> 2) & TWO_LEFT_OF);
     match row {
-        WHITE_PAWN_ROW => beside << 8,
-        BLACK_PAWN_ROW => beside >> 8,
-        KNIGHT_ROW => ((beside << 16) | (beside >> 16)) | ((two_beside << 8) | (two_beside >> 8)),
-        KING_ROW => beside | (((own | beside) << 8) | ((own | beside) >> 8)),
+        WHITE_PAWN_ROW => beside << UP,
+        BLACK_PAWN_ROW => beside >> UP,
+        KNIGHT_ROW => ((beside << UP_TWO) | (beside >> UP_TWO))
+            | ((two_beside << UP) | (two_beside >> UP)),
+        KING_ROW => beside | (((own | beside) << UP) | ((own | beside) >> UP)),
         _ => 0,
     }
 }
 
 // The squares that the steps of a row reach from a square; none past the tables.
-pub fn step(tables: &[[u64; Square::COUNT]; 4], row: usize, square: u8) -> u64
+pub fn step(tables: &[[u64; Square::COUNT]; ROWS], row: usize, square: u8) -> u64
     ensures { λ r. ⌜ Steps (now (tables .entry)) row square r ⌝ }
 {
     if square > chess::square::LAST {

@@ -65,3 +65,8 @@ afterOf (r ∷ l) at = r
 
 abbrev pub After : Placed → ℕ → ℕ → Type 0
 After p at r = r ≡ afterOf (place p) at
+
+-- for who puts one text after another: the text is put where it has room, and the place after it is given, or the one that was asked for
+pub record Adds (old : List ℕ) (at : ℕ) (text new : List ℕ) (r : ℕ) : Type 0 where
+  pub place : r ≡ afterOf (placeOf old at text) at
+  pub buffer : new ≡ writtenOf old at text

@@ -1,28 +1,23 @@
 -- What `compute_trace` returns: one law for each return. Assumes nothing.
-use mathlib.Core.Path.{_≡_, refl, sym, ap, ap₂, _∙_}
-use mathlib.Core.Bool.{Bool, true, false, cond}
-use mathlib.Core.List.{List, []}
+use mathlib.Core.Path.{_≡_, sym, ap, _∙_}
+use mathlib.Core.Bool.{Bool}
+use mathlib.Core.List.{List}
 use Prim.Native.Nat.{ℕ, _<_}
-use lib.Dec.{eqb}
-use lib.Ieee.{Float}
 use lib.IntN.{ℤ, pos}
 use lib.ListN.{length, getD}
 use borrow.Author.Tests.{eq-eqb, ne-eqb}
-use Rattle.chess.specs.Answer.{Answer, given, refused, orRefuse}
+use Rattle.chess.specs.Answer.{Answer, given, orRefuse}
 use Rattle.chess.specs.Refusals.{numberOf, refusalOf}
 use Rattle.chess.specs.declared.refusal.Refusal.{Refusal}
 use Rattle.chess.specs.declared.refusal.Refusal.the-variants as R
-use Rattle.position.specs.Consistent.{checked}
+use Rattle.position.specs.Checked.{checked}
 use Rattle.position.specs.declared.State.{State}
-use Rattle.position.specs.declared.Checked.{Checked}
-use Rattle.position.specs.declared.Checked.the-variants.{Fit, Refused}
-use Rattle.double.specs.declared.Trace.{Trace}
+use Rattle.position.specs.declared.Checked.the-variants.{Fit}
+use Rattle.record.specs.declared.Trace.{Trace}
 use Rattle.trace.specs.Trace.{traceOf}
 use Rattle.steps.specs.Steps.{stepTables}
 use Rattle.trace.specs.Marked.{filledTo, mobilityWith, traceWith, refusedWith}
-use Rattle.trace.specs.Promises.{tracedOf, paper, besideOf, entriesAfter, Traces, written, ShipsSquares}
-use Rattle.trace.specs.Weights.{shippedSquares}
-use Rattle.trace.specs.declared.shipped.Written.{Written}
+use Rattle.trace.specs.Promises.{tracedOf, paper, besideOf, entriesAfter, Traces}
 use Rattle.trace.proofs.Planes.{filled-is}
 use Rattle.trace.proofs.Walks.{lent-mobility}
 use Rattle.trace.specs.declared.Traced.{Traced}
@@ -56,14 +51,3 @@ module _ (bbs bytes : List ℕ) (state : State) (entries : List ℤ) where
       let a : given (traceOf bbs (state .side)) ≡ tracedOf bbs bytes (state .side) entries = p ∙ right e in
       let d : t ≡ traceOf bbs (state .side) = t-is ∙ ap (traceWith bbs (state .side)) (em ∙ ap (λ (x : List (List ℕ)). mobilityWith x bbs) et ∙ lent-mobility bbs) in
       (ap given d ∙ a, d ∙ ap besideOf a, m ∙ filled-is bbs blank l z ∙ ap after a)
-
--- ---- the shipped square weights
-pub no-room : (squares : List Float) (r : Written) → (length squares ≡ 768 → ⊥) → written r ≡ refusalOf R.Shape → ShipsSquares squares r squares
-no-room squares r n e =
-    let t : eqb (length squares) 768 ≡ false = ne-eqb (length squares) 768 n in
-    (e ∙ sym (ap (λ (b : Bool). orRefuse b (numberOf R.Shape) (given tt)) t), sym (ap (λ (b : Bool). cond b shippedSquares squares) t))
-
-pub room : (squares after : List Float) (r : Written) → length squares ≡ 768 → written r ≡ given tt → after ≡ shippedSquares → ShipsSquares squares r after
-room squares after r n e q =
-    let t : eqb (length squares) 768 ≡ true = eq-eqb (length squares) 768 n in
-    (e ∙ sym (ap (λ (b : Bool). orRefuse b (numberOf R.Shape) (given tt)) t), q ∙ sym (ap (λ (b : Bool). cond b shippedSquares squares) t))

@@ -1,27 +1,20 @@
--- What each function answers and promises, for all inputs. Definitions only.
+-- What `compute_trace` answers and promises, for all inputs. Definitions only.
 use mathlib.Core.Path.{_≡_}
-use mathlib.Core.Bool.{cond}
 use mathlib.Core.List.{List}
 use Prim.Native.Nat.{ℕ}
 use lib.Dec.{eqb}
-use lib.Ieee.{Float}
 use lib.IntN.{ℤ}
 use lib.ListN.{length}
 use Rattle.chess.specs.Answer.{Answer, given, refused, orRefuse}
 use Rattle.chess.specs.Refusals.{numberOf, refusalOf}
 use Rattle.chess.specs.declared.refusal.Refusal.the-variants as R
-use Rattle.position.specs.Consistent.{checked}
+use Rattle.position.specs.Checked.{checked}
 use Rattle.position.specs.declared.State.{State}
 use Rattle.position.specs.declared.Checked.{Checked}
 use Rattle.position.specs.declared.Checked.the-variants.{Fit, Refused}
-use Rattle.double.specs.declared.Trace.{Trace}
-use Rattle.double.specs.declared.Weights.{Weights}
+use Rattle.record.specs.declared.Trace.{Trace}
 use Rattle.trace.specs.Trace.{traceOf, entriesOf, noTrace}
-use Rattle.trace.specs.Weights.{shipped, shippedSquares}
 use Rattle.trace.specs.declared.Traced.{Traced}
-use Rattle.trace.specs.declared.shipped.Written.{Written}
-use Rattle.trace.specs.declared.shipped.Written.the-variants.{Done}
-use Rattle.trace.specs.declared.shipped.Written.the-variants as W
 
 -- "trace ..: 1, 2": SHAPE, also if "not .. 768 trace entries", then BOARD
 abbrev pub tracedOf : List ℕ → List ℕ → ℕ → List ℤ → Answer Trace
@@ -51,21 +44,3 @@ Traces bitboards board state before r after =
     (paper r ≡ tracedOf bitboards board (state .side) before)
     × (r .trace ≡ besideOf (tracedOf bitboards board (state .side) before))
     × (after ≡ entriesAfter (tracedOf bitboards board (state .side) before) bitboards before)
-
--- ---- the shipped weights
-abbrev pub Ships : Weights → Type 0
-Ships r = r ≡ shipped
-
--- SHAPE: "not .. 768 weights"
-abbrev pub writtenOf : List Float → Answer Unit
-writtenOf squares = orRefuse (eqb (length squares) 768) (numberOf R.Shape) (given tt)
-
-abbrev pub written : Written → Answer Unit
-written Done = given tt
-written (W.Refused r) = refusalOf r
-
-abbrev pub squaresAfter : List Float → List Float
-squaresAfter squares = cond (eqb (length squares) 768) shippedSquares squares
-
-abbrev pub ShipsSquares : List Float → Written → List Float → Type 0
-ShipsSquares before r after = (written r ≡ writtenOf before) × (after ≡ squaresAfter before)

@@ -1,75 +1,34 @@
 // Answers the oracle's questions of traces and doubles on standard input, one a line: the file stdout holds what the Rust answered,
 // a double as its bits (oracle/README.md).
-ghost use Prim.Native.Nat.{_≤_};
-use chess::entry::Entry;
-use chess::weight::SquareWeight;
 use double::Doubled;
-use double::Trace;
 use fields::inner::is;
-use line::Read;
+use fields::inner::past;
+use fields::inner::text_before;
+use places::entry::Entry;
+use places::weight::SquareWeight;
 use position::State;
+use record::Trace;
+use said::Read;
 
 mod prints;
 mod seeds;
 
+// More than the recorded questions take. One that did not fit would have no answer, and the run would fail.
+const ROOM: usize = 0x18000;
+
 fn main() {
-    let mut chunk = io::buffer();
-    answer_all(&mut chunk);
+    let mut questions = [0u8; ROOM];
+    let n = io::read_full(libc::STDIN_FILENO, &mut questions);
+    answer_all(&questions[..n]);
 }
 
-// Reads to the end. A proved loop has to end: the reads are counted, up to more than any run makes.
-fn answer_all(chunk: &mut [u8]) {
-    let mut line = [0u8; 512];
-    let mut n = 0;
-    let mut more = true;
-    let mut reads: u32 = 0;
-    while more && reads < 1000000 {
-        reads += 1;
-        let got = libc::read(libc::STDIN_FILENO, chunk);
-        more = got > 0;
-        let k = io::count(got, chunk);
-        n = each(&mut line, n, &chunk[..k]);
+fn answer_all(questions: &[u8]) {
+    let mut rest = questions;
+    while rest.len() > 0 {
+        answer(text_before(rest, b'\n'));
+        let next = past(rest, b'\n');
+        rest = &rest[next..];
     }
-}
-
-// Answers each line that ends in the chunk; what is left of it waits in the line, and how much that is comes back.
-fn each(line: &mut [u8], waiting: usize, chunk: &[u8]) -> usize {
-    let mut n = waiting;
-    let mut i = 0;
-    while i < chunk.len() {
-        let b = chunk[i];
-        i += 1;
-        if b == b'\n' {
-            answer_line(line, n);
-            n = 0;
-        } else {
-            n = keep(line, n, b);
-        }
-    }
-    n
-}
-
-// One byte more of the line; past its end it is lost.
-fn keep(line: &mut [u8], n: usize, b: u8) -> usize {
-    if n < line.len() {
-        line[n] = b;
-        return n + 1;
-    }
-    n
-}
-
-fn at_most(n: usize, most: usize) -> usize
-    ensures { λ r. ⌜ r ≤ most ⌝ }
-{
-    if n <= most {
-        return n;
-    }
-    most
-}
-
-fn answer_line(line: &[u8], n: usize) {
-    let k = at_most(n, line.len());
-    answer(&line[..k]);
 }
 
 fn answer(question: &[u8]) {
@@ -122,9 +81,9 @@ fn state(read: Read) -> State {
 fn doubled(t: Trace, entries: &[i32], kind: u64, seed: u64) -> Doubled {
     let mut squares = [0.0f64; SquareWeight::COUNT];
     if kind == 0 {
-        trace::shipped::square_weights(&mut squares);
-        return t.eval(entries, trace::shipped::weights(), &squares);
+        shipped::square_weights(&mut squares);
+        return double::eval(t, entries, shipped::weights(), &squares);
     }
     seeds::squares(kind, seeds::after_named(seed), &mut squares);
-    t.eval(entries, seeds::weights(kind, seed), &squares)
+    double::eval(t, entries, seeds::weights(kind, seed), &squares)
 }

@@ -1,8 +1,8 @@
 // What is said to a question of traces, on standard output.
-use chess::entry::Entry;
 use chess::refusal::Refusal;
 use double::Doubled;
-use double::Trace;
+use places::entry::Entry;
+use record::Trace;
 
 fn write(text: &[u8]) {
     io::write_all(libc::STDOUT_FILENO, text);

@@ -1,8 +1,8 @@
 // Weights and traces from a seed, by the rule in oracle/README.md, "Seeds".
 ghost use Prim.Native.Nat.{_<_};
 use chess::piece::Piece;
-use double::Trace;
-use double::Weights;
+use record::Trace;
+use record::Weights;
 
 // The numbers of a trace beside its entries, and all of its places.
 pub(crate) const NUMBERS: usize = 26;

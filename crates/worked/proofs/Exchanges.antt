@@ -8,18 +8,23 @@ use Rattle.laws.specs.Tests.{allBelow}
 use Rattle.laws.specs.Tables.{tabulate}
 use Rattle.chess.specs.Answer.{Answer, given, refused}
 use Rattle.bits.specs.Bitboard.{has, those, some, howMany, board}
-use Rattle.position.specs.Boards.{bitboardsOf}
-use Rattle.position.specs.Consistent.{crowd, ofColour, consistent, checked}
-use Rattle.attack.specs.Attacks.{attackers, occupied}
+use Rattle.boards.specs.Boards.{bitboardsOf}
+use Rattle.boards.specs.Sound.{boardsWith, ofColour}
+use Rattle.consistent.specs.Consistent.{consistent}
+use Rattle.position.specs.Checked.{checked}
+use Rattle.attack.specs.Attacks.{occupied}
+use Rattle.attackers.specs.Attackers.{attackers}
 use Rattle.worked.specs.Placed.{Placed, on, bytesOf}
-use Rattle.exchange.specs.Least.{leastOf, order}
+use Rattle.least.specs.Least.{leastOf, order}
+use Rattle.least.specs.Answers.{lvpOf}
+use Rattle.capture.specs.Capture.{mayCapture, uncrowded}
 use Rattle.exchange.specs.Exchange.{Capture, capturesOf, exchangeOf}
 use Rattle.exchange.specs.Source.{sourceSee}
-use Rattle.exchange.specs.Answers.{mayCapture, uncrowded, lvpOf, seeOf}
+use Rattle.exchange.specs.Answers.{seeOf}
 
 -- the door's answer with White to move, refusals and all
 unfoldable answered : List Placed → ℕ → ℕ → Answer ℤ
-unfolding bytesOf bitboardsOf tabulate those has some howMany allBelow crowd ofColour consistent checked mayCapture uncrowded exchangeOf
+unfolding bytesOf bitboardsOf tabulate those has some howMany allBelow boardsWith ofColour consistent checked mayCapture uncrowded exchangeOf
 answered ps from to = let bytes : List ℕ = bytesOf ps in let bbs : List ℕ = bitboardsOf bytes in seeOf bbs bytes 0 from to
 
 -- queen d1 takes pawn d5, pawn e4 behind her; knight f6, bishop b7 defend; kings g1, g8
@@ -97,7 +102,7 @@ squares = refl
 
 -- BOARD where a byte is not its board's, before SQUARE; SHAPE where the side is none, before BOARD
 unfoldable amiss : ℕ → ℕ → Answer ℤ
-unfolding bytesOf bitboardsOf tabulate those has some howMany allBelow crowd ofColour consistent checked mayCapture uncrowded exchangeOf
+unfolding bytesOf bitboardsOf tabulate those has some howMany allBelow boardsWith ofColour consistent checked mayCapture uncrowded exchangeOf
 amiss side from = let bbs : List ℕ = bitboardsOf (bytesOf queenCase) in seeOf bbs (bytesOf (on 2 8 ∷ queenCase)) side from 35
 
 amiss-is : amiss 0 3 ∷ amiss 0 64 ∷ amiss 2 3 ∷ [] ≡ refused 2 [] ∷ refused 2 [] ∷ refused 1 [] ∷ []
@@ -106,7 +111,7 @@ amiss-is = refl
 
 -- ---- the least attacker of a colour on d5, where only some squares are still there: the queen's position with black knights on c7 and e7 too
 unfoldable leastOn : ℕ → List ℕ → Answer (List ℕ)
-unfolding bytesOf bitboardsOf tabulate those has some howMany allBelow crowd ofColour consistent checked attackers occupied board leastOf
+unfolding bytesOf bitboardsOf tabulate those has some howMany allBelow boardsWith ofColour consistent checked attackers occupied board leastOf
 leastOn colour still =
     let bytes : List ℕ = bytesOf (on 5 50 ∷ on 5 52 ∷ queenCase) in
     let bbs : List ℕ = bitboardsOf bytes in

@@ -5,20 +5,20 @@ use borrow.Author.Needs.{needs}
 use Rattle.asked.proofs.numbers.Statement.{statement}
 use Rattle.asked.proofs.numbers.Tie as tie
 
-next-requires : tie.Need-next-requires
-next-requires c κs = search needs
+text-after-requires : tie.Need-text-after-requires
+text-after-requires c κs = search needs
 
-next-requires-2 : tie.Need-next-requires-2
-next-requires-2 c κs = search needs
+text-after-requires-2 : tie.Need-text-after-requires-2
+text-after-requires-2 c κs = search needs
 
-next-requires-3 : tie.Need-next-requires-3
-next-requires-3 c κs = search needs
+text-after-requires-3 : tie.Need-text-after-requires-3
+text-after-requires-3 c κs = search needs
 
-next-requires-4 : tie.Need-next-requires-4
-next-requires-4 c κs = search needs
+text-after-requires-4 : tie.Need-text-after-requires-4
+text-after-requires-4 c κs = search needs
 
-next-requires-5 : tie.Need-next-requires-5
-next-requires-5 c κs = search needs
+text-after-requires-5 : tie.Need-text-after-requires-5
+text-after-requires-5 c κs = search needs
 
 number-requires : tie.Need-number-requires
 number-requires c κs = search needs
@@ -44,16 +44,16 @@ returns c =
     let a = b .before in
     five
     (now (a .before .before .args .question))
-    (now (a .next .result))
-    (now (b .next2 .result))
-    (now (k .next3 .result))
-    (now (d .next4 .result))
-    (now (e .next5 .result))
-    (a .next .ensures)
-    (b .next2 .ensures)
-    (k .next3 .ensures)
-    (d .next4 .ensures)
-    (e .next5 .ensures)
+    (now (a .text-after .result))
+    (now (b .text-after2 .result))
+    (now (k .text-after3 .result))
+    (now (d .text-after4 .result))
+    (now (e .text-after5 .result))
+    (a .text-after .ensures)
+    (b .text-after2 .ensures)
+    (k .text-after3 .ensures)
+    (d .text-after4 .ensures)
+    (e .text-after5 .ensures)
     (c .before .before .before .before .number .result)
     (c .before .before .before .number2 .result)
     (c .before .before .number3 .result)
@@ -69,11 +69,11 @@ pub numbers-spec : {M : Type 1} → statement M
 numbers-spec =
     tie.close
     (tie.spec
-    next-requires
-    next-requires-2
-    next-requires-3
-    next-requires-4
-    next-requires-5
+    text-after-requires
+    text-after-requires-2
+    text-after-requires-3
+    text-after-requires-4
+    text-after-requires-5
     number-requires
     number-requires-2
     number-requires-3

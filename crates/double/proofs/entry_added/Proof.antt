@@ -14,8 +14,8 @@ use mir.Val.{SFits}
 use mir.ValLaws.{toZ-ofZ}
 use Rattle.laws.proofs.Words.{held}
 use native.Mathlib.Omega.{arith}
-use Rattle.chess.specs.Places.{weightPlace}
-use Rattle.double.specs.Double.{kindAt, squareAt, weightAt, between, added}
+use Rattle.places.specs.Places.{weightPlace, kindAt, squareAt}
+use Rattle.double.specs.Double.{weightAt, between, added}
 use Rattle.double.proofs.entry_added.Statement.{statement}
 use Rattle.double.proofs.entry_added.Tie as tie
 

@@ -1,66 +1,61 @@
 -- `lines::read_all` is safe and ends. Assumes nothing.
-use Prim.Native.Nat.{_≤_, _<_, _+_, _-_}
+use mathlib.Core.Path.{sym}
 use native.Mathlib.Omega.{arith}
-use mathlib.Core.Path.{_≡_}
+use denote.Ref.{now}
 use lib.ListN.{length}
-use borrow.Author.Tests.{ltb-true}
+use lib.Seq.{length-take-le}
+use Rattle.fields.proofs.Parts.{past-found, left-shorter}
 use borrow.Author.Needs.{needs}
 use Rattle.lines.proofs.read_all.Statement.{statement}
 use Rattle.lines.proofs.read_all.Tie as tie
 
 abbrev Inv-loop : tie.InvT-loop
-Inv-loop chunk₀ line₀ n₀ more₀ reads₀ chunk line n more reads = (reads ≤ 1000000) × (length line ≡ 512) × (length chunk ≡ length chunk₀)
+Inv-loop collection rest₀ rest = Unit {0}
 
 abbrev μ-loop : tie.MeasureT-loop
-μ-loop chunk₀ line₀ n₀ more₀ reads₀ chunk line n more reads = 1000000 - reads
+μ-loop collection rest₀ rest = length rest
 
 loop-holds : tie.Need-loop-holds Inv-loop μ-loop
-loop-holds c = search needs
+loop-holds c = tt
 
-add-reads : tie.Need-add-reads Inv-loop μ-loop
-add-reads c = search needs
+text-before-requires : tie.Need-text-before-requires Inv-loop μ-loop
+text-before-requires c κs = search needs
+
+past-requires : tie.Need-past-requires Inv-loop μ-loop
+past-requires c κs = search needs
+
+size-requires : tie.Need-size-requires Inv-loop μ-loop
+size-requires c κs = search needs
+
+slice-aggregate-read : tie.Need-slice-aggregate-read Inv-loop μ-loop
+slice-aggregate-read c = sym (length-take-le (c .before .size .result) (now (c .before .before .before .text-before .result)) (c .before .size .ensures))
 
 read-requires : tie.Need-read-requires Inv-loop μ-loop
 read-requires c κs = search needs
 
-count-requires : tie.Need-count-requires Inv-loop μ-loop
-count-requires c κs = search needs
+sub-rest : tie.Need-sub-rest Inv-loop μ-loop
+sub-rest c =
+    let p = c .before .before .before in
+    past-found 10 (now (p .before .before .before .loop .rest)) (p .past .ensures)
 
-slice-aggregate-each : tie.Need-slice-aggregate-each Inv-loop μ-loop
-slice-aggregate-each c = search needs
+part-rest-start : tie.Need-part-rest-start Inv-loop μ-loop
+part-rest-start c =
+    let p = c .before .before .before in
+    omega (arith, past-found 10 (now (p .before .before .before .loop .rest)) (p .past .ensures))
 
-slice-reshare-prefix-each : tie.Need-slice-reshare-prefix-each Inv-loop μ-loop
-slice-reshare-prefix-each c = search needs
-
-slice-aggregate-each-2 : tie.Need-slice-aggregate-each-2 Inv-loop μ-loop
-slice-aggregate-each-2 c = search needs
-
-each-requires : tie.Need-each-requires Inv-loop μ-loop
-each-requires c κs = search needs
+part-rest-end : tie.Need-part-rest-end Inv-loop μ-loop
+part-rest-end c = search needs
 
 loop-less : tie.Need-loop-less Inv-loop μ-loop
-loop-less c = omega (arith, ltb-true)
+loop-less c =
+    let p = c .before .before .before .before in
+    left-shorter 10 (now (p .before .before .before .loop .rest)) (search needs) (p .past .ensures)
 
 loop-again : tie.Need-loop-again Inv-loop μ-loop
-loop-again c = (omega (arith, ltb-true), search needs, search needs)
-
-slice-aggregate-read-part : tie.Need-slice-aggregate-read-part Inv-loop μ-loop
-slice-aggregate-read-part c = search needs
-
-read-part-requires : tie.Need-read-part-requires Inv-loop μ-loop
-read-part-requires c κs = search needs
-
-same-length : tie.Need-same-length Inv-loop μ-loop
-same-length c = search needs
+loop-again c = tt
 
 returns : tie.Need-returns Inv-loop μ-loop
 returns c = search needs
-
-same-length-2 : tie.Need-same-length-2 Inv-loop μ-loop
-same-length-2 c = search needs
-
-returns-2 : tie.Need-returns-2 Inv-loop μ-loop
-returns-2 c = search needs
 
 pub read-all-spec : {M : Type 1} → statement M
 read-all-spec =
@@ -69,18 +64,14 @@ read-all-spec =
     Inv-loop
     μ-loop
     loop-holds
-    add-reads
+    text-before-requires
+    past-requires
+    size-requires
+    slice-aggregate-read
     read-requires
-    count-requires
-    slice-aggregate-each
-    slice-reshare-prefix-each
-    slice-aggregate-each-2
-    each-requires
+    sub-rest
+    part-rest-start
+    part-rest-end
     loop-less
     loop-again
-    slice-aggregate-read-part
-    read-part-requires
-    same-length
-    returns
-    same-length-2
-    returns-2)
+    returns)

@@ -1,9 +1,15 @@
 -- `position::check` meets its contract. Assumes nothing.
-use mathlib.Core.Path.{sym, _∙_}
+use mathlib.Core.Path.{_≡_, sym, ap₂, _∙_}
+use mathlib.Core.Bool.{Bool, _&&_}
+use mathlib.Core.List.{List}
+use Prim.Native.Nat.{ℕ}
 use native.Mathlib.Omega.{arith}
+use lib.ListN.{length}
 use borrow.Author.Needs.{needs}
-use borrow.Author.Tests.{not-true, not-false}
+use borrow.Author.Tests.{eq-eqb, not-true, not-false}
 use Rattle.chess.specs.Answer.{given}
+use Rattle.consistent.specs.Consistent.{consistent}
+use Rattle.consistent.specs.Promises.{Fits}
 use Rattle.position.proofs.Doors.{in-shape, no-boards, no-bytes, no-side, misshapen, inconsistent, sound}
 use Rattle.position.proofs.check.Statement.{statement}
 use Rattle.position.proofs.check.Tie as tie
@@ -29,6 +35,10 @@ returns-3 c =
 fits-requires : tie.Need-fits-requires
 fits-requires c κs = search needs
 
+-- where the shape is right, what `fits` says is consistency alone
+decided : (bbs bytes : List ℕ) (r : Bool) → length bbs ≡ 14 → length bytes ≡ 64 → Fits bbs bytes r → consistent bbs bytes ≡ r
+decided bbs bytes r l m e = sym (e ∙ ap₂ (λ (a b : Bool). a && b && consistent bbs bytes) (eq-eqb (length bbs) 14 l) (eq-eqb (length bytes) 64 m))
+
 returns-4 : tie.Need-returns-4
 returns-4 c =
     let s = c .before .before in
@@ -36,7 +46,7 @@ returns-4 c =
     let a = b .before .before .before .before .args in
     inconsistent (a .bitboards .now) (a .board .now) (a .state .side) (given tt)
     (in-shape (a .bitboards .now) (a .board .now) (a .state .side) (b .before .if1 .left) (b .if2 .left) (omega arith))
-    (sym (c .before .fits2 .ensures) ∙ not-true (c .before .fits2 .result) (c .if4 .taken))
+    (decided (a .bitboards .now) (a .board .now) (c .before .fits2 .result) (b .before .if1 .left) (b .if2 .left) (c .before .fits2 .ensures) ∙ not-true (c .before .fits2 .result) (c .if4 .taken))
 
 returns-5 : tie.Need-returns-5
 returns-5 c =
@@ -45,7 +55,7 @@ returns-5 c =
     let a = b .before .before .before .before .args in
     sound (a .bitboards .now) (a .board .now) (a .state .side) (given tt)
     (in-shape (a .bitboards .now) (a .board .now) (a .state .side) (b .before .if1 .left) (b .if2 .left) (omega arith))
-    (sym (c .before .fits2 .ensures) ∙ not-false (c .before .fits2 .result) (c .if4 .left))
+    (decided (a .bitboards .now) (a .board .now) (c .before .fits2 .result) (b .before .if1 .left) (b .if2 .left) (c .before .fits2 .ensures) ∙ not-false (c .before .fits2 .result) (c .if4 .left))
 
 pub check-spec : {M : Type 1} → statement M
 check-spec =

@@ -1,60 +1,49 @@
 -- `traces::answer_all` is safe and ends. Assumes nothing.
-use Prim.Native.Nat.{_≤_, _<_, _+_, _-_}
 use native.Mathlib.Omega.{arith}
-use mathlib.Core.Path.{_≡_}
+use denote.Ref.{now}
 use lib.ListN.{length}
-use borrow.Author.Tests.{ltb-true}
+use Rattle.fields.proofs.Parts.{past-found, left-shorter}
 use borrow.Author.Needs.{needs}
 use Rattle.traces.proofs.answer_all.Statement.{statement}
 use Rattle.traces.proofs.answer_all.Tie as tie
 
 abbrev Inv-loop : tie.InvT-loop
-Inv-loop chunk₀ line₀ n₀ more₀ reads₀ chunk line n more reads = (reads ≤ 1000000) × (length line ≡ 512) × (length chunk ≡ length chunk₀)
+Inv-loop questions rest₀ rest = Unit {0}
 
 abbrev μ-loop : tie.MeasureT-loop
-μ-loop chunk₀ line₀ n₀ more₀ reads₀ chunk line n more reads = 1000000 - reads
+μ-loop questions rest₀ rest = length rest
 
 loop-holds : tie.Need-loop-holds Inv-loop μ-loop
-loop-holds c = search needs
+loop-holds c = tt
 
-add-reads : tie.Need-add-reads Inv-loop μ-loop
-add-reads c = search needs
+text-before-requires : tie.Need-text-before-requires Inv-loop μ-loop
+text-before-requires c κs = search needs
 
-read-requires : tie.Need-read-requires Inv-loop μ-loop
-read-requires c κs = search needs
+answer-requires : tie.Need-answer-requires Inv-loop μ-loop
+answer-requires c κs = search needs
 
-count-requires : tie.Need-count-requires Inv-loop μ-loop
-count-requires c κs = search needs
+past-requires : tie.Need-past-requires Inv-loop μ-loop
+past-requires c κs = search needs
 
-slice-aggregate-each : tie.Need-slice-aggregate-each Inv-loop μ-loop
-slice-aggregate-each c = search needs
+sub-rest : tie.Need-sub-rest Inv-loop μ-loop
+sub-rest c = past-found 10 (now (c .before .before .before .before .loop .rest)) (c .past .ensures)
 
-slice-reshare-prefix-each : tie.Need-slice-reshare-prefix-each Inv-loop μ-loop
-slice-reshare-prefix-each c = search needs
+part-rest-start : tie.Need-part-rest-start Inv-loop μ-loop
+part-rest-start c = omega (arith, past-found 10 (now (c .before .before .before .before .loop .rest)) (c .past .ensures))
 
-slice-aggregate-each-2 : tie.Need-slice-aggregate-each-2 Inv-loop μ-loop
-slice-aggregate-each-2 c = search needs
-
-each-requires : tie.Need-each-requires Inv-loop μ-loop
-each-requires c κs = search needs
+part-rest-end : tie.Need-part-rest-end Inv-loop μ-loop
+part-rest-end c = search needs
 
 loop-less : tie.Need-loop-less Inv-loop μ-loop
-loop-less c = omega (arith, ltb-true)
+loop-less c =
+    let p = c .before in
+    left-shorter 10 (now (p .before .before .before .before .loop .rest)) (search needs) (p .past .ensures)
 
 loop-again : tie.Need-loop-again Inv-loop μ-loop
-loop-again c = (omega (arith, ltb-true), search needs, search needs)
-
-same-length : tie.Need-same-length Inv-loop μ-loop
-same-length c = search needs
+loop-again c = tt
 
 returns : tie.Need-returns Inv-loop μ-loop
 returns c = search needs
-
-same-length-2 : tie.Need-same-length-2 Inv-loop μ-loop
-same-length-2 c = search needs
-
-returns-2 : tie.Need-returns-2 Inv-loop μ-loop
-returns-2 c = search needs
 
 pub answer-all-spec : {M : Type 1} → statement M
 answer-all-spec =
@@ -63,16 +52,12 @@ answer-all-spec =
     Inv-loop
     μ-loop
     loop-holds
-    add-reads
-    read-requires
-    count-requires
-    slice-aggregate-each
-    slice-reshare-prefix-each
-    slice-aggregate-each-2
-    each-requires
+    text-before-requires
+    answer-requires
+    past-requires
+    sub-rest
+    part-rest-start
+    part-rest-end
     loop-less
     loop-again
-    same-length
-    returns
-    same-length-2
-    returns-2)
+    returns)

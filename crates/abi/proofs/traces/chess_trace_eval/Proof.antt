@@ -7,12 +7,12 @@ use lib.IntN.{ℤ}
 use mir.Syntax.{w32}
 use mir.ValLaws.{toZ-ofZ}
 use Rattle.chess.specs.Answer.{Answer}
-use Rattle.double.specs.declared.Trace.{Trace}
-use Rattle.double.specs.declared.Weights.{Weights}
+use Rattle.record.specs.declared.Trace.{Trace}
+use Rattle.record.specs.declared.Weights.{Weights}
 use Rattle.double.specs.Promises.{paper, doubleOf}
-use Rattle.abi.specs.Records.{traceOf, weightsOf}
+use Rattle.flat.specs.Records.{traceOf, weightsOf}
 use Rattle.abi.proofs.Passed.{met, passed}
-use Rattle.abi.proofs.Read.{trace-same}
+use Rattle.flat.proofs.Read.{trace-same}
 use borrow.Author.Needs.{needs}
 use Rattle.abi.proofs.traces.chess_trace_eval.Statement.{statement}
 use Rattle.abi.proofs.traces.chess_trace_eval.Tie as tie

@@ -1,0 +1,10 @@
+pub mod Apart
+pub mod United
+pub mod Crowded
+pub mod Tested
+pub mod Places
+pub mod Copied
+pub mod Sorting
+pub mod Made
+pub mod Determined
+pub mod Examples

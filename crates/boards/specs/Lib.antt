@@ -1,0 +1,4 @@
+pub mod Sound
+pub mod Boards
+pub mod Promises
+pub mod Tested

@@ -1,0 +1,3 @@
+pub mod Consistent
+pub mod Promises
+pub mod Tested

@@ -1,0 +1,4 @@
+pub mod Ranges
+pub mod Entries
+pub mod Exactly
+pub mod Tally

@@ -1,0 +1,1 @@
+// A square attacks another as it is attacked by it: laws. No code.

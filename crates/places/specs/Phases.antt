@@ -1,0 +1,24 @@
+-- Phases (document 01: "2 phases", opening and ending). Definitions only.
+use mathlib.Core.Path.{_≡_}
+use Prim.Native.Nat.{ℕ}
+use Rattle.chess.specs.Answer.{Answer, given, below}
+use Rattle.chess.specs.Codes.{Same}
+use Rattle.chess.specs.Refusals.{numberOf, refusalOf}
+use Rattle.chess.specs.declared.refusal.Refusal.the-variants as R
+use Rattle.places.specs.declared.phase.Phase.{Phase}
+use Rattle.places.specs.declared.phase.Made.{Made}
+use Rattle.places.specs.declared.phase.Made.the-variants.{Is, Refused}
+
+-- a number that is no phase is refused as SHAPE
+abbrev pub madeOf : ℕ → Answer ℕ
+madeOf n = below 2 (numberOf R.Shape) n
+
+abbrev pub paper : Made → Answer ℕ
+paper (Is x) = given (x .0)
+paper (Refused r) = refusalOf r
+
+abbrev pub NewPhase : ℕ → Made → Type 0
+NewPhase n r = paper r ≡ madeOf n
+
+abbrev pub PhaseIndex : Phase → ℕ → Type 0
+PhaseIndex x n = Same (x .0) n

@@ -1,7 +1,7 @@
 /* Chess scores, exchanges and traces, every one proved: the doors for C.
  *
- * Every function returns 0 where it has an answer, and the answer's numbers then stand where the last pointers point; or it returns the
- * number of a refusal, the first in the order that is named with the function, and has written nothing.
+ * Every function but chess_position_field returns 0 where it has an answer, and the answer's numbers then stand where the last pointers
+ * point; or it returns the number of a refusal, the first in the order that is named with the function, and has written nothing.
  *
  * A slice is a pointer and a length. A length that is not the one asked for is refused (SHAPE); what C must see to itself is that the
  * pointers are valid for their lengths, that no pointer is null, not even that of an empty slice, that those written through overlap
@@ -134,7 +134,7 @@ uint8_t chess_shipped_weights(double weights[CHESS_NAMED_WEIGHTS], double *squar
 enum { CHESS_LEDGER_STATE = 4, CHESS_LEDGER_LINE = 256, CHESS_LEDGER_ROW = 32, CHESS_LEDGER_LAST = 116 };
 
 enum {
-    CHESS_FULL = 254, /* too little room for the rows: CHESS_LEDGER_ROW bytes for each LF in the piece, CHESS_LEDGER_LAST at the end */
+    CHESS_FULL = 254, /* too little room for the rows: CHESS_LEDGER_ROW bytes for each LF in the piece; at the end what is written, CHESS_LEDGER_LAST at most */
     CHESS_MANY = 255  /* more lines than 64 bits count */
 };
 

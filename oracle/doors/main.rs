@@ -2,7 +2,11 @@
 // word `ledger`, a collection on standard input and its ledger on standard output.
 #[path = "../../include/chess_scores.rs"]
 mod chess_scores;
+#[path = "../harness/random.rs"]
+mod random;
 mod seeded;
+#[path = "../harness/weight.rs"]
+mod weight;
 
 use chess_scores::{piece_attacks, read_line, Ledger, Outcome, Position, Refusal, Trace, Verdict};
 use std::io::{self, BufRead, BufWriter, Read, Write};

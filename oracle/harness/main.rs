@@ -32,6 +32,7 @@ mod placement;
 mod play;
 mod random;
 mod seeded;
+mod weight;
 mod wide;
 
 use std::io::{self, BufRead, BufWriter, Write};

@@ -9,10 +9,10 @@ use lib.ListN.{length, take, drop, getD, length-take, take-append-drop}
 use lib.Seq.{take-append-seam}
 use borrow.Author.Tests.{eq-eqb, eqb-true}
 use Rattle.chess.specs.Answer.{Answer, given, refused}
-use Rattle.fields.specs.Text.{semicolon, isBlank, before, without, withoutLast, trim}
-use Rattle.fields.proofs.Parts.{before-take}
-use Rattle.fields.proofs.Texts.{last-more, last-stop, last-none}
-use Rattle.said.specs.Line.{Line, positionField, lineOf}
+use Rattle.text_in.specs.Text.{semicolon, isBlank, before, without, withoutLast, trim}
+use Rattle.text_in.proofs.Parts.{before-take}
+use Rattle.text_in.proofs.Texts.{last-more, last-stop, last-none}
+use Rattle.line_parse.specs.Line.{Line, positionField, lineOf}
 use Rattle.line.specs.Field.{unlessRefused, fieldOf}
 use Rattle.abi.specs.Part.{startIn, startOf}
 

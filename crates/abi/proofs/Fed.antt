@@ -3,13 +3,13 @@ use mathlib.Core.Path.{_≡_, refl, sym, ap, subst, _∙_}
 use mathlib.Core.List.{List}
 use Prim.Native.Nat.{ℕ}
 use lib.ListN.{length}
-use Rattle.rows.specs.Machine.{Machine}
-use Rattle.rows.specs.Promises as Rows
-use Rattle.rows.specs.Promises.{Came, turned, many, full, came, Feeds, fed, feedOf}
-use Rattle.rows.specs.declared.State.{State}
-use Rattle.rows.specs.declared.Fed.{Fed}
-use Rattle.last.specs.Promises.{Finishes, finishPaper, finishOf, lengthOf}
-use Rattle.last.specs.declared.Finished.{Finished}
+use Rattle.ledger_feed.specs.Machine.{Machine}
+use Rattle.ledger_feed.specs.Promises as Rows
+use Rattle.ledger_feed.specs.Promises.{Came, turned, many, full, came, Feeds, fed, feedOf}
+use Rattle.ledger_feed.specs.declared.State.{State}
+use Rattle.ledger_feed.specs.declared.Fed.{Fed}
+use Rattle.ledger_finish.specs.Promises.{Finishes, finishPaper, finishOf, lengthOf}
+use Rattle.ledger_finish.specs.declared.Finished.{Finished}
 use Rattle.abi.specs.Ledger.{stateOf, numbersOf, codeOf, after}
 use Rattle.abi.specs.Promises.{FeedsLedger, FinishesLedger}
 

@@ -4,7 +4,7 @@ use mathlib.Core.List.{List, [], _∷_}
 use Prim.Native.Nat.{ℕ}
 use native.Mathlib.Omega.{arith}
 use lib.ListN.{length, getD}
-use Rattle.fields.specs.Text.{before}
+use Rattle.text_in.specs.Text.{before}
 use Rattle.line.specs.Field.{fieldOf}
 use Rattle.abi.specs.Part.{startIn, startOf}
 

@@ -6,17 +6,17 @@ use lib.Ieee.{Float}
 use lib.IntN.{ℤ}
 use Rattle.chess.specs.Answer.{Answer, given, refused}
 use Rattle.position.specs.declared.State.{State}
-use Rattle.record.specs.declared.Trace.{Trace}
-use Rattle.said.specs.Line.{Line}
-use Rattle.said.specs.Promises as S
+use Rattle.trace_counts.specs.declared.Trace.{Trace}
+use Rattle.line_parse.specs.Line.{Line}
+use Rattle.line_parse.specs.Promises as S
 use Rattle.line.specs.Promises as L
 use Rattle.trace.specs.Promises.{tracedOf, entriesAfter}
-use Rattle.shipped.specs.Promises.{writtenOf, squaresAfter}
-use Rattle.shipped.specs.Weights.{shipped}
+use Rattle.trace_shipped.specs.Promises.{writtenOf, squaresAfter}
+use Rattle.trace_shipped.specs.Weights.{shipped}
 use Rattle.abi.specs.Doors.{codeOf, after}
-use Rattle.flat.specs.Records.{countsOf, namedOf}
+use Rattle.abi_records.specs.Records.{countsOf, namedOf}
 use Rattle.abi.specs.Promises.{Door, Doors, ComputesTrace, Ships, ReadsLine}
-use Rattle.said.specs.declared.Read.{Read}
+use Rattle.line_parse.specs.declared.Read.{Read}
 
 -- what the case that was met reads, the call's answer is
 pub met : {A X : Type 0} (paper : X → Answer A) {a : Answer A} {r x : X} → paper r ≡ a → r ≡ x → paper x ≡ a

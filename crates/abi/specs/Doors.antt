@@ -4,7 +4,7 @@ use mathlib.Core.List.{List, [], _∷_}
 use Prim.Native.Nat.{ℕ}
 use lib.IntN.{ℤ, pos}
 use Rattle.chess.specs.Answer.{Answer, given, refused}
-use Rattle.verdict.specs.Verdict as P
+use Rattle.score_verdict.specs.Verdict as P
 use Rattle.score.specs.Score.{Outcome, verdict, score}
 
 -- the refusal's number, and 0 of an answer: no refusal has it

@@ -4,8 +4,8 @@ use mathlib.Core.List.{List, [], _∷_}
 use Prim.Native.Nat.{ℕ}
 use lib.Dec.{eqb}
 use lib.ListN.{getD}
-use Rattle.rows.specs.Promises.{Came, turned, many, full, came}
-use Rattle.rows.specs.declared.State.{State}
+use Rattle.ledger_feed.specs.Promises.{Came, turned, many, full, came}
+use Rattle.ledger_feed.specs.declared.State.{State}
 
 abbrev pub flagOf : Bool → ℕ
 flagOf b = cond b 1 0

@@ -2,7 +2,7 @@
 use mathlib.Core.List.{List, [], _∷_}
 use Prim.Native.Nat.{ℕ}
 use lib.ListN.{length}
-use Rattle.fields.specs.Text.{before}
+use Rattle.text_in.specs.Text.{before}
 use Rattle.line.specs.Field.{fieldOf}
 
 -- where the first byte of a part stands first; an empty part at 0

@@ -8,30 +8,30 @@ use lib.IntN.{ℤ}
 use lib.ListN.{length}
 use Rattle.chess.specs.Answer.{Answer}
 use Rattle.attack.specs.Answers.{pieceAttacksOf}
-use Rattle.attackers.specs.Answers.{attacksToOf, isAttackedOf, isCheckOf}
-use Rattle.least.specs.Answers.{lvpOf}
+use Rattle.attack_to.specs.Answers.{attacksToOf, isAttackedOf, isCheckOf}
+use Rattle.exchange_least.specs.Answers.{lvpOf}
 use Rattle.exchange.specs.Answers.{seeOf}
-use Rattle.said.specs.Line.{Line}
+use Rattle.line_parse.specs.Line.{Line}
 use Rattle.line.specs.Field.{fieldOf}
-use Rattle.said.specs.Promises.{boardAfter}
+use Rattle.line_parse.specs.Promises.{boardAfter}
 use Rattle.line.specs.Promises.{readOf, bitboardsAfter}
 use Rattle.score.specs.Score.{evalOf}
-use Rattle.verdict.specs.Verdict.{endingOf}
-use Rattle.material.specs.Material.{materialOf}
-use Rattle.record.specs.declared.Trace.{Trace}
-use Rattle.double.specs.Promises.{doubleOf}
+use Rattle.score_verdict.specs.Verdict.{endingOf}
+use Rattle.score_material.specs.Material.{materialOf}
+use Rattle.trace_counts.specs.declared.Trace.{Trace}
+use Rattle.trace_double.specs.Promises.{doubleOf}
 use Rattle.trace.specs.Promises.{tracedOf, entriesAfter}
-use Rattle.shipped.specs.Promises.{writtenOf, squaresAfter}
-use Rattle.shipped.specs.Weights.{shipped}
+use Rattle.trace_shipped.specs.Promises.{writtenOf, squaresAfter}
+use Rattle.trace_shipped.specs.Weights.{shipped}
 use Rattle.abi.specs.Doors.{codeOf, after, verdictCode, outcomeVerdict, outcomeScore, anyone, squareOr}
 use Rattle.abi.specs.Part.{startOf}
-use Rattle.flat.specs.Records.{countsOf, traceOf, namedOf, weightsOf}
+use Rattle.abi_records.specs.Records.{countsOf, traceOf, namedOf, weightsOf}
 use Rattle.abi.specs.declared.lines.Part.{Part}
-use Rattle.text.specs.Text.{writtenOf as bufferOf}
-use Rattle.rows.specs.Machine.{Machine}
-use Rattle.rows.specs.Promises as Rows
-use Rattle.rows.specs.Promises.{feedOf, lineAfter, textAfter}
-use Rattle.last.specs.Promises.{finishOf, lastText}
+use Rattle.text_out.specs.Text.{writtenOf as bufferOf}
+use Rattle.ledger_feed.specs.Machine.{Machine}
+use Rattle.ledger_feed.specs.Promises as Rows
+use Rattle.ledger_feed.specs.Promises.{feedOf, lineAfter, textAfter}
+use Rattle.ledger_finish.specs.Promises.{finishOf, lastText}
 use Rattle.abi.specs.Ledger as Ledger
 use Rattle.abi.specs.Ledger.{stateOf, numbersOf}
 

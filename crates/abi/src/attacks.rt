@@ -2,7 +2,7 @@
 ghost use Rattle.abi.specs.Promises.{PieceAttacks, AttacksTo, IsAttacked, IsCheck};
 use crate::GIVEN;
 use attack::Found;
-use attackers::Told;
+use attack_to::Told;
 use position::State;
 
 // The squares that a piece attacks: SHAPE, SQUARE.
@@ -32,7 +32,7 @@ pub extern "C" fn chess_attacks_to(
 ) -> u8
     ensures { λ r. ⌜ AttacksTo (now (bitboards .entry)) (now (board .entry)) side square occupied (now (squares .entry)) r (now (squares .exit)) ⌝ }
 {
-    let answer = attackers::attacks_to(bitboards, board, State { side }, square, occupied);
+    let answer = attack_to::attacks_to(bitboards, board, State { side }, square, occupied);
     match answer {
         Found::Refused(refusal) => refusal.number(),
         Found::Squares(b) => {
@@ -54,7 +54,7 @@ pub extern "C" fn chess_is_attacked(
 ) -> u8
     ensures { λ r. ⌜ IsAttacked (now (bitboards .entry)) (now (board .entry)) side square color (now (attacked .entry)) r (now (attacked .exit)) ⌝ }
 {
-    let answer = attackers::is_attacked(bitboards, board, State { side }, square, color);
+    let answer = attack_to::is_attacked(bitboards, board, State { side }, square, color);
     match answer {
         Told::Refused(refusal) => refusal.number(),
         Told::Is(is) => {
@@ -75,7 +75,7 @@ pub extern "C" fn chess_is_check(
 ) -> u8
     ensures { λ r. ⌜ IsCheck (now (bitboards .entry)) (now (board .entry)) side color (now (check .entry)) r (now (check .exit)) ⌝ }
 {
-    let answer = attackers::is_check(bitboards, board, State { side }, color);
+    let answer = attack_to::is_check(bitboards, board, State { side }, color);
     match answer {
         Told::Refused(refusal) => refusal.number(),
         Told::Is(is) => {

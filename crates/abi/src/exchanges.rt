@@ -2,7 +2,7 @@
 ghost use Rattle.abi.specs.Promises.{Lvp, See};
 use crate::GIVEN;
 use exchange::Exchanged;
-use least::Least;
+use exchange_least::Least;
 use position::State;
 
 // Whether there is an attacker of the colour, in `attacks` and in `occupied`, and the square of the least; 0 beside none: SHAPE, BOARD.
@@ -19,7 +19,7 @@ pub extern "C" fn chess_lvp(
 ) -> u8
     ensures { λ r. ⌜ Lvp (now (bitboards .entry)) (now (board .entry)) side color attacks occupied (now (found .entry)) (now (square .entry)) r (now (found .exit)) (now (square .exit)) ⌝ }
 {
-    let answer = least::lvp(bitboards, board, State { side }, color, attacks, occupied);
+    let answer = exchange_least::lvp(bitboards, board, State { side }, color, attacks, occupied);
     match answer {
         Least::Refused(refusal) => refusal.number(),
         Least::Nobody => {

@@ -3,9 +3,9 @@ ghost use mathlib.Core.Path.{_≡_};
 ghost use Rattle.abi.specs.Ledger.{stateOf, numbersOf, flagOf};
 ghost use Rattle.abi.specs.Promises.{FeedsLedger, FinishesLedger};
 use crate::GIVEN;
-use last::Finished;
-use rows::Fed;
-use rows::State;
+use ledger_feed::Fed;
+use ledger_feed::State;
+use ledger_finish::Finished;
 
 // Bytes held of the line that has not ended, whether the last was a CR, loaded rows, refused rows.
 const NUMBERS: usize = 4;
@@ -54,7 +54,7 @@ pub extern "C" fn chess_ledger_feed(
 ) -> u8
     ensures { λ r. ⌜ FeedsLedger (now (state .entry)) (now (line .entry)) (now (chunk .entry)) (now (out .entry)) (now (wrote .entry)) r (now (state .exit)) (now (line .exit)) (now (out .exit)) (now (wrote .exit)) ⌝ }
 {
-    let fed = rows::feed(state_of(state), line, chunk, out);
+    let fed = ledger_feed::feed(state_of(state), line, chunk, out);
     match fed {
         Fed::Rows(next, n) => {
             *state = numbers_of(next);
@@ -77,7 +77,7 @@ pub extern "C" fn chess_ledger_finish(
 ) -> u8
     ensures { λ r. ⌜ FinishesLedger (now (state .entry)) (now (line .entry)) (now (out .entry)) (now (wrote .entry)) r (now (out .exit)) (now (wrote .exit)) ⌝ }
 {
-    let finished = last::finish(state_of(state), line, out);
+    let finished = ledger_finish::finish(state_of(state), line, out);
     match finished {
         Finished::Rows(n) => {
             *wrote = n;

@@ -1,8 +1,8 @@
 // One line of a collection.
 ghost use Rattle.abi.specs.Promises.{ReadsLine, GivesPart};
 use crate::GIVEN;
-use fields::inner::find;
-use said::Read;
+use line_parse::Read;
+use text_in::inner::find;
 
 // A part of the caller's line.
 #[repr(C)]

@@ -1,11 +1,11 @@
 // Verdict, material and score.
 ghost use Rattle.abi.specs.Promises.{EvalsEnding, EvalsMaterial, Evals};
 use crate::GIVEN;
-use material::Material;
 use position::State;
 use score::Scored;
-use verdict::Ending;
-use verdict::Verdict;
+use score_material::Material;
+use score_verdict::Ending;
+use score_verdict::Verdict;
 
 // Verdicts as numbers; none where there is a score.
 pub const NONE: u8 = 0;
@@ -26,7 +26,7 @@ pub extern "C" fn chess_eval_ending(
 ) -> u8
     ensures { λ r. ⌜ EvalsEnding (now (bitboards .entry)) (now (board .entry)) side (now (verdict .entry)) r (now (verdict .exit)) ⌝ }
 {
-    let answer = verdict::eval_ending(bitboards, board, State { side });
+    let answer = score_verdict::eval_ending(bitboards, board, State { side });
     match answer {
         Ending::Refused(refusal) => refusal.number(),
         Ending::Is(is) => {
@@ -52,7 +52,7 @@ pub extern "C" fn chess_eval_material(
 ) -> u8
     ensures { λ r. ⌜ EvalsMaterial (now (bitboards .entry)) (now (board .entry)) side color (now (material .entry)) r (now (material .exit)) ⌝ }
 {
-    let answer = material::eval_material(bitboards, board, State { side }, color);
+    let answer = score_material::eval_material(bitboards, board, State { side }, color);
     match answer {
         Material::Refused(refusal) => refusal.number(),
         Material::Is(z) => {

@@ -1,13 +1,13 @@
 // The trace, the shipped weights, and the trace's double. The records of counts and of named weights are lent as their numbers, in the order of the fields.
 ghost use Rattle.abi.specs.Promises.{ComputesTrace, EvalsTrace, Ships};
 use crate::GIVEN;
-use double::Doubled;
-use flat::COUNTS;
-use flat::MOBILITY;
-use flat::NAMED;
+use abi_records::COUNTS;
+use abi_records::MOBILITY;
+use abi_records::NAMED;
 use position::Checked;
 use position::State;
-use shipped::Written;
+use trace_double::Doubled;
+use trace_shipped::Written;
 
 // The trace of a position: SHAPE, also where there are not 768 entries, BOARD.
 #[no_mangle]
@@ -29,7 +29,7 @@ pub extern "C" fn chess_compute_trace(
         return refusal.number();
     }
     let trace = traced.trace;
-    *counts = flat::counts_of(trace);
+    *counts = abi_records::counts_of(trace);
     let moved = trace.mobility;
     *mobility = moved;
     let turn = trace.side;
@@ -53,8 +53,8 @@ pub extern "C" fn chess_trace_eval(
 ) -> u8
     ensures { λ r. ⌜ EvalsTrace (now (counts .entry)) (now (mobility .entry)) sign pieces (now (entries .entry)) (now (weights .entry)) (now (squares .entry)) (now (value .entry)) r (now (value .exit)) ⌝ }
 {
-    let trace = flat::trace_of(counts, mobility, sign, pieces);
-    let answer = double::eval(trace, entries, flat::weights_of(weights), squares);
+    let trace = abi_records::trace_of(counts, mobility, sign, pieces);
+    let answer = trace_double::eval(trace, entries, abi_records::weights_of(weights), squares);
     match answer {
         Doubled::Refused(refusal) => refusal.number(),
         Doubled::Is(x) => {
@@ -69,10 +69,10 @@ pub extern "C" fn chess_trace_eval(
 pub extern "C" fn chess_shipped_weights(weights: &mut [f64; NAMED], squares: &mut [f64]) -> u8
     ensures { λ r. ⌜ Ships (now (weights .entry)) (now (squares .entry)) r (now (weights .exit)) (now (squares .exit)) ⌝ }
 {
-    let written = shipped::square_weights(squares);
+    let written = trace_shipped::square_weights(squares);
     if let Written::Refused(refusal) = written {
         return refusal.number();
     }
-    *weights = flat::named_of(shipped::weights());
+    *weights = abi_records::named_of(trace_shipped::weights());
     GIVEN
 }

@@ -6,9 +6,9 @@ use Prim.Native.Nat.{ℕ, zero, suc}
 use lib.Dec.{ltb}
 use lib.ListN.{getD}
 use Rattle.bits.specs.Bitboard.{board}
-use Rattle.rays.specs.Rays.{seen, straight, slanted}
-use Rattle.steps.specs.Steps.{stepIn, stepsOf, reached, pawnSteps, knightSteps, kingSteps}
-use Rattle.steps.proofs.Tables.{reached-none}
+use Rattle.attack_rays.specs.Rays.{seen, straight, slanted}
+use Rattle.attack_steps.specs.Steps.{stepIn, stepsOf, reached, pawnSteps, knightSteps, kingSteps}
+use Rattle.attack_steps.proofs.Tables.{reached-none}
 use Rattle.attack.specs.Attacks.{attacksBy, attacks}
 use Rattle.attack.proofs.Lent.{pawn-steps}
 use Rattle.attack.specs.Lent.{pawnRow, rowOf, attacksWith}

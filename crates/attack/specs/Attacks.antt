@@ -7,8 +7,8 @@ use lib.Dec.{eqb}
 use lib.ListN.{getD}
 use Rattle.chess.specs.Codes.{codeOf}
 use Rattle.bits.specs.Bitboard.{has, those, board}
-use Rattle.steps.specs.Steps.{reached, knightSteps, kingSteps, pawnSteps}
-use Rattle.rays.specs.Rays.{seen, straight, slanted}
+use Rattle.attack_steps.specs.Steps.{reached, knightSteps, kingSteps, pawnSteps}
+use Rattle.attack_rays.specs.Rays.{seen, straight, slanted}
 
 -- ---- what stands where
 -- the bitboard of a kind and a colour

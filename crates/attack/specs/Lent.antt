@@ -5,8 +5,8 @@ use Prim.Native.Nat.{ℕ}
 use lib.ListN.{getD}
 use Rattle.chess.specs.Codes.{asColour}
 use Rattle.bits.specs.Bitboard.{board}
-use Rattle.steps.specs.Steps.{stepIn}
-use Rattle.rays.specs.Rays.{seen}
+use Rattle.attack_steps.specs.Steps.{stepIn}
+use Rattle.attack_rays.specs.Rays.{seen}
 use Rattle.attack.specs.Attacks.{attacksBy}
 
 -- a pawn's row of the tables: White's first

@@ -1,6 +1,12 @@
 // The same for the crates above, on a position that their own doors have found consistent: total, no door. `attacks`, which is asked of many
-// pieces, has the step tables lent (`steps::inner::tables`, made once for a call); the others find the steps of the one square that they need.
+// pieces, has the step tables lent (`attack_steps::inner::tables`, made once for a call); the others find the steps of the one square that they need.
 ghost use Rattle.attack.specs.Promises.{Other, Standing, Occupied, AttacksWith, AttacksFrom};
+use attack_rays::inner::bishop;
+use attack_rays::inner::queen;
+use attack_rays::inner::rook;
+use attack_steps::inner::ROWS;
+use attack_steps::inner::reached;
+use attack_steps::inner::step;
 use bits::inner::at;
 use chess::color::BLACK;
 use chess::color::BLACK_BOARD;
@@ -11,12 +17,6 @@ use chess::kind::BISHOP;
 use chess::kind::QUEEN;
 use chess::kind::ROOK;
 use chess::square::Square;
-use rays::inner::bishop;
-use rays::inner::queen;
-use rays::inner::rook;
-use steps::inner::ROWS;
-use steps::inner::reached;
-use steps::inner::step;
 
 // The colour that is not the one named; any number but White's has White for the other.
 pub fn other(color: u8) -> u8

@@ -2,15 +2,15 @@
 ghost use mathlib.Core.Path.{_≡_};
 ghost use Rattle.attack.specs.Lent.{pawnRow, rowOf};
 ghost use Rattle.attack.specs.Promises.{PieceAttacks};
+use attack_steps::inner::BLACK_PAWN_ROW;
+use attack_steps::inner::KING_ROW;
+use attack_steps::inner::KNIGHT_ROW;
+use attack_steps::inner::WHITE_PAWN_ROW;
 use chess::color::WHITE;
 use chess::kind::KING;
 use chess::kind::KNIGHT;
 use chess::kind::PAWN;
 use chess::refusal::Refusal;
-use steps::inner::BLACK_PAWN_ROW;
-use steps::inner::KING_ROW;
-use steps::inner::KNIGHT_ROW;
-use steps::inner::WHITE_PAWN_ROW;
 
 pub mod inner;
 

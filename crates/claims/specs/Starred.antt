@@ -7,15 +7,15 @@ use Rattle.laws.specs.Tests.{allBelow}
 use Rattle.laws.specs.Tables.{tabulate}
 use Rattle.chess.specs.Answer.{Answer, given, refused}
 use Rattle.bits.specs.Bitboard.{has, those, some, howMany}
-use Rattle.boards.specs.Boards.{bitboardsOf}
-use Rattle.boards.specs.Sound.{boardsWith, ofColour}
-use Rattle.consistent.specs.Consistent.{consistent}
+use Rattle.position_boards.specs.Boards.{bitboardsOf}
+use Rattle.position_boards.specs.Sound.{boardsWith, ofColour}
+use Rattle.position_consistent.specs.Consistent.{consistent}
 use Rattle.position.specs.Checked.{checked}
 use Rattle.exchange.specs.Exchange.{exchangeOf}
-use Rattle.capture.specs.Capture.{mayCapture, uncrowded}
+use Rattle.exchange_start.specs.Capture.{mayCapture, uncrowded}
 use Rattle.exchange.specs.Answers.{seeOf}
-use Rattle.worked.specs.Placed.{Placed, on, bytesOf}
-use Rattle.verdict.specs.Verdict.{lost, won, drawn}
+use Rattle.claims_examples.specs.Placed.{Placed, on, bytesOf}
+use Rattle.score_verdict.specs.Verdict.{lost, won, drawn}
 use Rattle.score.specs.Score.{Outcome, verdict, score, evalOf}
 
 -- ---- what is asked of a position: the score of a side to move, or White's exchange from a square to another

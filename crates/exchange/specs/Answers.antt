@@ -8,8 +8,8 @@ use Rattle.chess.specs.Answer.{Answer, given, orRefuse}
 use Rattle.chess.specs.Refusals.{numberOf, refusalOf}
 use Rattle.chess.specs.declared.refusal.Refusal.the-variants as R
 use Rattle.position.specs.Checked.{checked}
-use Rattle.least.specs.Least.{order}
-use Rattle.capture.specs.Capture.{mayCapture, uncrowded}
+use Rattle.exchange_least.specs.Least.{order}
+use Rattle.exchange_start.specs.Capture.{mayCapture, uncrowded}
 use Rattle.exchange.specs.Exchange.{exchangeOf}
 use Rattle.exchange.specs.declared.Exchanged.{Exchanged}
 use Rattle.exchange.specs.declared.Exchanged.the-variants as E

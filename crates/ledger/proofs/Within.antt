@@ -3,13 +3,13 @@ use mathlib.Core.Path.{_≡_, subst}
 use mathlib.Core.List.{List}
 use Prim.Native.Nat.{ℕ, _≤_}
 use lib.ListN.{length}
-use Rattle.rows.specs.Promises.{fed, wrote, Feeds}
-use Rattle.rows.specs.declared.State.{State}
-use Rattle.rows.specs.declared.Fed.{Fed}
-use Rattle.rows.specs.declared.Fed.the-variants as F
-use Rattle.last.specs.Promises.{finishPaper, lastWrote, Finishes}
-use Rattle.last.specs.declared.Finished.{Finished}
-use Rattle.last.specs.declared.Finished.the-variants as E
+use Rattle.ledger_feed.specs.Promises.{fed, wrote, Feeds}
+use Rattle.ledger_feed.specs.declared.State.{State}
+use Rattle.ledger_feed.specs.declared.Fed.{Fed}
+use Rattle.ledger_feed.specs.declared.Fed.the-variants as F
+use Rattle.ledger_finish.specs.Promises.{finishPaper, lastWrote, Finishes}
+use Rattle.ledger_finish.specs.declared.Finished.{Finished}
+use Rattle.ledger_finish.specs.declared.Finished.the-variants as E
 
 pub fed-within : {state : State} {line chunk out : List ℕ} {r : Fed} {line′ out′ : List ℕ} → Feeds state line chunk out r line′ out′
     → (next : State) (n : ℕ) → r ≡ F.Rows next n → n ≤ length out

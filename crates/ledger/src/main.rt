@@ -4,9 +4,9 @@
 // row follows them, and the reason goes to standard error.
 ghost use Prim.Native.Nat.{_≤_};
 ghost use lib.ListN.{length};
-use last::Finished;
-use rows::Fed;
-use rows::State;
+use ledger_feed::Fed;
+use ledger_feed::State;
+use ledger_finish::Finished;
 
 // A proved loop has to end: more reads or writes than any run makes.
 const TURNS: u64 = 0x4000_0000_0000_0000;
@@ -26,8 +26,8 @@ fn main() {
 
 // All reads, and then the last rows.
 fn write_ledger(chunk: &mut [u8], out: &mut [u8]) {
-    let mut line = [0u8; rows::LINE];
-    let mut state = rows::start();
+    let mut line = [0u8; ledger_feed::LINE];
+    let mut state = ledger_feed::start();
     let mut turns: u64 = 0;
     while turns < TURNS {
         turns += 1;
@@ -57,7 +57,7 @@ fn read_some(state: State, line: &mut [u8], chunk: &mut [u8], out: &mut [u8]) ->
         return try_again(state);
     }
     let n = io::count(got, chunk);
-    match rows::feed(state, line, &chunk[..n], out) {
+    match ledger_feed::feed(state, line, &chunk[..n], out) {
         Fed::Rows(next, wrote) => {
             if write(&out[..wrote]) {
                 return Turn::More(next);
@@ -80,7 +80,7 @@ fn try_again(state: State) -> Turn {
 }
 
 fn finish(state: State, line: &[u8], out: &mut [u8]) {
-    match last::finish(state, line, out) {
+    match ledger_finish::finish(state, line, out) {
         Finished::Rows(wrote) => {
             write(&out[..wrote]);
         }

@@ -3,9 +3,9 @@ use mathlib.Core.Path.{_≡_, refl}
 use mathlib.Core.List.{List, [], _∷_, map}
 use Prim.Native.Nat.{ℕ}
 use Prim.Native.String.{String}
-use Rattle.fields.specs.Text.{text, every, holds, before, after, without, trim, placeIn}
-use Rattle.ranks.specs.Ranks.{areRanks, stacked}
-use Rattle.said.specs.Line.{fieldsSay, lineOf}
+use Rattle.text_in.specs.Text.{text, every, holds, before, after, without, trim, placeIn}
+use Rattle.line_ranks.specs.Ranks.{areRanks, stacked}
+use Rattle.line_parse.specs.Line.{fieldsSay, lineOf}
 use Rattle.line.specs.Field.{fieldOf}
 
 fields : List String → List (List ℕ)

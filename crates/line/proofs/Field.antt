@@ -9,13 +9,13 @@ use Rattle.chess.specs.Answer.{Answer, given, refused, orRefuse}
 use Rattle.chess.proofs.Answers.{given-not}
 use lib.Dec.{leb}
 use lib.ListN.{length}
-use Rattle.fields.specs.Text.{semicolon, space, isText, every, holds, before, placeIn}
-use Rattle.fields.proofs.Within.{Within, Part, inner, cut, before-within, trim-within}
-use Rattle.ranks.specs.Ranks.{areEightRanks, boardOf}
-use Rattle.ranks.proofs.Placing.{none-left}
-use Rattle.said.specs.Line.{Line, sides, results, isOneOf, ranksOf, sideWord, positionField, resultField, fieldsSay, lineOf}
+use Rattle.text_in.specs.Text.{semicolon, space, isText, every, holds, before, placeIn}
+use Rattle.text_in.proofs.Within.{Within, Part, inner, cut, before-within, trim-within}
+use Rattle.line_ranks.specs.Ranks.{areEightRanks, boardOf}
+use Rattle.line_ranks.proofs.Placing.{none-left}
+use Rattle.line_parse.specs.Line.{Line, sides, results, isOneOf, ranksOf, sideWord, positionField, resultField, fieldsSay, lineOf}
 use Rattle.line.specs.Field.{unlessRefused, fieldOf}
-use Rattle.said.proofs.Given.{given-spells}
+use Rattle.line_parse.proofs.Given.{given-spells}
 
 -- ---- always a part of the line
 field-within : (line : List ℕ) → Within line (positionField line)

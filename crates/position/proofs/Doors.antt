@@ -11,7 +11,7 @@ use Rattle.chess.specs.Answer.{Answer, given, refused, orRefuse}
 use Rattle.chess.specs.Refusals.{numberOf, refusalOf}
 use Rattle.chess.specs.declared.refusal.Refusal.{Refusal}
 use Rattle.chess.specs.declared.refusal.Refusal.the-variants as R
-use Rattle.consistent.specs.Consistent.{consistent}
+use Rattle.position_consistent.specs.Consistent.{consistent}
 use Rattle.position.specs.Checked.{shaped, checked}
 use Rattle.position.specs.Promises.{paper, Checks}
 use Rattle.position.specs.declared.State.{State}

@@ -6,9 +6,9 @@ use lib.ListN.{set, take}
 use Rattle.laws.specs.Tests.{allBelow}
 use Rattle.chess.specs.Answer.{Answer, given, refused}
 use Rattle.bits.specs.Bitboard.{has, some, howMany}
-use Rattle.boards.specs.Sound.{boardsWith, ofColour}
-use Rattle.boards.proofs.Examples.{startBoards, startBytes}
-use Rattle.consistent.specs.Consistent.{consistent}
+use Rattle.position_boards.specs.Sound.{boardsWith, ofColour}
+use Rattle.position_boards.proofs.Examples.{startBoards, startBytes}
+use Rattle.position_consistent.specs.Consistent.{consistent}
 use Rattle.position.specs.Checked.{checked}
 
 -- ---- SHAPE, then BOARD, then whatever comes after them

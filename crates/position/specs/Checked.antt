@@ -7,7 +7,7 @@ use lib.ListN.{length}
 use Rattle.chess.specs.Answer.{Answer, orRefuse}
 use Rattle.chess.specs.Refusals.{numberOf}
 use Rattle.chess.specs.declared.refusal.Refusal.the-variants as R
-use Rattle.consistent.specs.Consistent.{consistent}
+use Rattle.position_consistent.specs.Consistent.{consistent}
 
 -- SHAPE: "not 14 bitboards, 64 bytes ..; side .. not 0 or 1"
 abbrev pub shaped : List ℕ → List ℕ → ℕ → Bool

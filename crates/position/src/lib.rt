@@ -30,7 +30,7 @@ pub fn check(bitboards: &[u64], board: &[u8], state: State) -> Checked
     if index(state.side) >= Color::COUNT {
         return Checked::Refused(Refusal::Shape);
     }
-    if !consistent::fits(bitboards, board) {
+    if !position_consistent::fits(bitboards, board) {
         return Checked::Refused(Refusal::Board);
     }
     Checked::Fit

@@ -5,7 +5,7 @@ use Prim.Native.Nat.{ℕ}
 use lib.IntN.{ℤ}
 use Rattle.position.specs.declared.State.{State}
 use Rattle.attack.specs.Lent.{attacksWith}
-use Rattle.pst.specs.Pst.{weightIn}
+use Rattle.score_pst.specs.Pst.{weightIn}
 use Rattle.score.specs.Score.{scoreBy, evalOf}
 use Rattle.score.specs.Answers.{scored}
 use Rattle.score.specs.declared.Scored.{Scored}

@@ -6,14 +6,14 @@ use Rattle.chess.specs.Answer.{Answer, given, refused}
 use Rattle.chess.specs.declared.refusal.Refusal.the-variants as R
 use Rattle.position.specs.Checked.{checked}
 use Rattle.attack.specs.Attacks.{other, attacks}
-use Rattle.pst.specs.Pst.{pstOf}
-use Rattle.parts.specs.Parts.{pointsOf}
-use Rattle.material.specs.Pieces.{pieces}
-use Rattle.material.specs.Material.{material}
-use Rattle.sides.specs.Mobility.{mobilityBy}
-use Rattle.sides.specs.Weights.{weighedBy}
-use Rattle.sides.specs.Sides.{sideBy}
-use Rattle.verdict.specs.Verdict.{Verdict, lost, won, drawn, none, toMove, verdictOf}
+use Rattle.score_pst.specs.Pst.{pstOf}
+use Rattle.score_taper.specs.Parts.{pointsOf}
+use Rattle.score_material.specs.Pieces.{pieces}
+use Rattle.score_material.specs.Material.{material}
+use Rattle.score_tally.specs.Mobility.{mobilityBy}
+use Rattle.score_tally.specs.Weights.{weighedBy}
+use Rattle.score_tally.specs.Sides.{sideBy}
+use Rattle.score_verdict.specs.Verdict.{Verdict, lost, won, drawn, none, toMove, verdictOf}
 
 -- what a call that scores may give
 pub data Outcome : Type 0 where

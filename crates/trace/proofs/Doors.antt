@@ -13,9 +13,9 @@ use Rattle.chess.specs.declared.refusal.Refusal.the-variants as R
 use Rattle.position.specs.Checked.{checked}
 use Rattle.position.specs.declared.State.{State}
 use Rattle.position.specs.declared.Checked.the-variants.{Fit}
-use Rattle.record.specs.declared.Trace.{Trace}
+use Rattle.trace_counts.specs.declared.Trace.{Trace}
 use Rattle.trace.specs.Trace.{traceOf}
-use Rattle.steps.specs.Steps.{stepTables}
+use Rattle.attack_steps.specs.Steps.{stepTables}
 use Rattle.trace.specs.Marked.{filledTo, mobilityWith, traceWith, refusedWith}
 use Rattle.trace.specs.Promises.{tracedOf, paper, besideOf, entriesAfter, Traces}
 use Rattle.trace.proofs.Planes.{filled-is}

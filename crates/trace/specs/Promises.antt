@@ -12,7 +12,7 @@ use Rattle.position.specs.Checked.{checked}
 use Rattle.position.specs.declared.State.{State}
 use Rattle.position.specs.declared.Checked.{Checked}
 use Rattle.position.specs.declared.Checked.the-variants.{Fit, Refused}
-use Rattle.record.specs.declared.Trace.{Trace}
+use Rattle.trace_counts.specs.declared.Trace.{Trace}
 use Rattle.trace.specs.Trace.{traceOf, entriesOf, noTrace}
 use Rattle.trace.specs.declared.Traced.{Traced}
 

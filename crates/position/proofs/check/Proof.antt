@@ -8,8 +8,8 @@ use lib.ListN.{length}
 use borrow.Author.Needs.{needs}
 use borrow.Author.Tests.{eq-eqb, not-true, not-false}
 use Rattle.chess.specs.Answer.{given}
-use Rattle.consistent.specs.Consistent.{consistent}
-use Rattle.consistent.specs.Promises.{Fits}
+use Rattle.position_consistent.specs.Consistent.{consistent}
+use Rattle.position_consistent.specs.Promises.{Fits}
 use Rattle.position.proofs.Doors.{in-shape, no-boards, no-bytes, no-side, misshapen, inconsistent, sound}
 use Rattle.position.proofs.check.Statement.{statement}
 use Rattle.position.proofs.check.Tie as tie

@@ -1,6 +1,6 @@
 -- `abi::exchanges::chess_lvp` meets its contract. Assumes nothing.
 use mathlib.Core.Path.{refl}
-use Rattle.least.specs.Answers.{least}
+use Rattle.exchange_least.specs.Answers.{least}
 use Rattle.abi.proofs.Passed.{met, passed-both}
 use borrow.Author.Needs.{needs}
 use Rattle.abi.proofs.exchanges.chess_lvp.Statement.{statement}

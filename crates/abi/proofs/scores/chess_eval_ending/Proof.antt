@@ -1,7 +1,7 @@
 -- `abi::scores::chess_eval_ending` meets its contract. Assumes nothing.
 use mathlib.Core.Path.{refl, ap, _∙_}
-use Rattle.verdict.specs.Answers.{ending}
-use Rattle.verdict.specs.declared.Ending.the-variants as E
+use Rattle.score_verdict.specs.Answers.{ending}
+use Rattle.score_verdict.specs.declared.Ending.the-variants as E
 use Rattle.abi.proofs.Passed.{met, passed}
 use borrow.Author.Needs.{needs}
 use Rattle.abi.proofs.scores.chess_eval_ending.Statement.{statement}

@@ -2,7 +2,7 @@
 use mathlib.Core.Path.{refl}
 use mir.Syntax.{w16}
 use mir.Facts.{toZ-ofZ}
-use Rattle.material.specs.Promises.{material}
+use Rattle.score_material.specs.Promises.{material}
 use Rattle.abi.proofs.Passed.{met, passed}
 use borrow.Author.Needs.{needs, sfits-of}
 use Rattle.abi.proofs.scores.chess_eval_material.Statement.{statement}

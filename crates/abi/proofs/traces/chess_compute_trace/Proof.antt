@@ -2,7 +2,7 @@
 use mathlib.Core.Path.{refl, sym, ap, _∙_}
 use denote.Ref.{now}
 use Rattle.position.specs.declared.Checked.{Checked}
-use Rattle.record.proofs.Held.{read}
+use Rattle.trace_counts.proofs.Held.{read}
 use Rattle.trace.specs.Promises.{paperOf}
 use Rattle.abi.proofs.Passed.{traced}
 use borrow.Author.Needs.{needs}

@@ -1,7 +1,7 @@
 -- `abi::traces::chess_shipped_weights` meets its contract. Assumes nothing.
 use mathlib.Core.Path.{refl, ap, _∙_}
-use Rattle.shipped.specs.Promises.{written}
-use Rattle.flat.specs.Records.{namedOf}
+use Rattle.trace_shipped.specs.Promises.{written}
+use Rattle.abi_records.specs.Records.{namedOf}
 use Rattle.abi.proofs.Passed.{met, ships}
 use borrow.Author.Needs.{needs}
 use Rattle.abi.proofs.traces.chess_shipped_weights.Statement.{statement}

@@ -7,12 +7,12 @@ use lib.IntN.{ℤ}
 use mir.Syntax.{w32}
 use mir.ValLaws.{toZ-ofZ}
 use Rattle.chess.specs.Answer.{Answer}
-use Rattle.record.specs.declared.Trace.{Trace}
-use Rattle.record.specs.declared.Weights.{Weights}
-use Rattle.double.specs.Promises.{paper, doubleOf}
-use Rattle.flat.specs.Records.{traceOf, weightsOf}
+use Rattle.trace_counts.specs.declared.Trace.{Trace}
+use Rattle.trace_counts.specs.declared.Weights.{Weights}
+use Rattle.trace_double.specs.Promises.{paper, doubleOf}
+use Rattle.abi_records.specs.Records.{traceOf, weightsOf}
 use Rattle.abi.proofs.Passed.{met, passed}
-use Rattle.flat.proofs.Read.{trace-same}
+use Rattle.abi_records.proofs.Read.{trace-same}
 use borrow.Author.Needs.{needs}
 use Rattle.abi.proofs.traces.chess_trace_eval.Statement.{statement}
 use Rattle.abi.proofs.traces.chess_trace_eval.Tie as tie

@@ -1,0 +1,124 @@
+-- Exchanges, their captures, refusals and the least attacker, by computation. Assumes nothing.
+use mathlib.Core.Path.{_≡_, refl}
+use mathlib.Core.List.{List, [], _∷_}
+use Prim.Native.Nat.{ℕ}
+use lib.IntN.{ℤ, pos, negsuc}
+use lib.ListN.{length}
+use Rattle.laws.specs.Tests.{allBelow}
+use Rattle.laws.specs.Tables.{tabulate}
+use Rattle.chess.specs.Answer.{Answer, given, refused}
+use Rattle.bits.specs.Bitboard.{has, those, some, howMany, board}
+use Rattle.position_boards.specs.Boards.{bitboardsOf}
+use Rattle.position_boards.specs.Sound.{boardsWith, ofColour}
+use Rattle.position_consistent.specs.Consistent.{consistent}
+use Rattle.position.specs.Checked.{checked}
+use Rattle.attack.specs.Attacks.{occupied}
+use Rattle.attack_to.specs.Attackers.{attackers}
+use Rattle.claims_examples.specs.Placed.{Placed, on, bytesOf}
+use Rattle.exchange_least.specs.Least.{leastOf, order}
+use Rattle.exchange_least.specs.Answers.{lvpOf}
+use Rattle.exchange_start.specs.Capture.{mayCapture, uncrowded}
+use Rattle.exchange.specs.Exchange.{Capture, capturesOf, exchangeOf}
+use Rattle.exchange.specs.Source.{sourceSee}
+use Rattle.exchange.specs.Answers.{seeOf}
+
+-- the door's answer with White to move, refusals and all
+unfoldable answered : List Placed → ℕ → ℕ → Answer ℤ
+unfolding bytesOf bitboardsOf tabulate those has some howMany allBelow boardsWith ofColour consistent checked mayCapture uncrowded exchangeOf
+answered ps from to = let bytes : List ℕ = bytesOf ps in let bbs : List ℕ = bitboardsOf bytes in seeOf bbs bytes 0 from to
+
+-- queen d1 takes pawn d5, pawn e4 behind her; knight f6, bishop b7 defend; kings g1, g8
+abbrev queenCase : List Placed
+queenCase = on 12 3 ∷ on 2 28 ∷ on 3 35 ∷ on 5 45 ∷ on 9 49 ∷ on 6 6 ∷ on 7 62 ∷ []
+
+-- ---- the queen's exchange: each capture's square, kind and value taken
+abbrev capture : ℕ → ℕ → ℕ → Capture
+capture from kind taken = record { from = from; kind = kind; taken = taken }
+
+-- for any order of the kinds
+unfoldable queens : List ℕ → List Capture
+unfolding bytesOf bitboardsOf tabulate those capturesOf
+queens kinds = let bytes : List ℕ = bytesOf queenCase in let bbs : List ℕ = bitboardsOf bytes in capturesOf kinds bbs bytes 0 3 35
+
+-- queen d1, knight f6, pawn e4, bishop b7
+queens-are : queens order ≡ capture 3 4 100 ∷ capture 45 1 1013 ∷ capture 28 0 304 ∷ capture 49 2 100 ∷ []
+unfolding queens
+queens-are = refl
+
+-- "Bishops before knights because 292 is under 304: the queen case gives −721"
+unfoldable bishopsFirst : ℤ
+unfolding bytesOf bitboardsOf tabulate those exchangeOf
+bishopsFirst = let bytes : List ℕ = bytesOf queenCase in let bbs : List ℕ = bitboardsOf bytes in exchangeOf (0 ∷ 2 ∷ 1 ∷ 3 ∷ 4 ∷ 5 ∷ []) bbs bytes 0 3 35
+
+bishops-first : bishopsFirst ≡ negsuc 720
+unfolding bishopsFirst
+bishops-first = refl
+
+-- what the source folds back
+unfoldable queensBySource : ℤ
+unfolding bytesOf bitboardsOf tabulate those sourceSee
+queensBySource = let bytes : List ℕ = bytesOf queenCase in let bbs : List ℕ = bitboardsOf bytes in sourceSee bbs bytes 0 3 35
+
+by-source : queensBySource ≡ negsuc 708
+unfolding queensBySource
+by-source = refl
+
+-- ---- 32 pieces and 31 captures on e4, which d2 begins: as many as there can be
+abbrev thirtyTwo : List Placed
+thirtyTwo =
+    on 12 4 ∷ on 13 7 ∷ on 9 10 ∷ on 4 11 ∷ on 12 12 ∷ on 4 13 ∷ on 12 14 ∷ on 4 18
+    ∷ on 12 19 ∷ on 13 20 ∷ on 9 21 ∷ on 5 22 ∷ on 11 24 ∷ on 13 26 ∷ on 12 27 ∷ on 13 28
+    ∷ on 10 29 ∷ on 13 30 ∷ on 12 31 ∷ on 5 34 ∷ on 12 35 ∷ on 10 36 ∷ on 13 37 ∷ on 4 38
+    ∷ on 5 43 ∷ on 11 44 ∷ on 5 45 ∷ on 12 49 ∷ on 13 52 ∷ on 12 55 ∷ on 12 56 ∷ on 13 60
+    ∷ []
+
+longest : answered thirtyTwo 11 28 ≡ given (pos 709)
+unfolding answered
+longest = refl
+
+unfoldable longestList : ℕ
+unfolding bytesOf bitboardsOf tabulate those capturesOf
+longestList = let bytes : List ℕ = bytesOf thirtyTwo in let bbs : List ℕ = bitboardsOf bytes in length (capturesOf order bbs bytes 0 11 28)
+
+longest-has : longestList ≡ 31
+unfolding longestList
+longest-has = refl
+
+-- ---- refusals: CROWD of a 33rd piece (a7), and of a second white king (a1), not of one king a colour; MOVE before CROWD
+crowds : answered (on 3 48 ∷ thirtyTwo) 11 28 ∷ answered (on 6 0 ∷ queenCase) 3 35 ∷ answered (on 6 0 ∷ queenCase) 3 36 ∷ [] ≡ refused 6 [] ∷ refused 6 [] ∷ refused 5 [] ∷ []
+unfolding answered
+crowds = refl
+
+-- MOVE: nothing on the start, a black piece there, nothing on the target, a white piece there, a knight that does not attack it
+moves : answered queenCase 4 35 ∷ answered queenCase 45 28 ∷ answered queenCase 3 27 ∷ answered queenCase 3 28 ∷ answered (on 4 1 ∷ queenCase) 1 35 ∷ []
+    ≡ refused 5 [] ∷ refused 5 [] ∷ refused 5 [] ∷ refused 5 [] ∷ refused 5 [] ∷ []
+unfolding answered
+moves = refl
+
+-- SQUARE of either square, before MOVE
+squares : answered queenCase 64 35 ∷ answered queenCase 3 64 ∷ [] ≡ refused 4 [] ∷ refused 4 [] ∷ []
+unfolding answered
+squares = refl
+
+-- BOARD where a byte is not its board's, before SQUARE; SHAPE where the side is none, before BOARD
+unfoldable amiss : ℕ → ℕ → Answer ℤ
+unfolding bytesOf bitboardsOf tabulate those has some howMany allBelow boardsWith ofColour consistent checked mayCapture uncrowded exchangeOf
+amiss side from = let bbs : List ℕ = bitboardsOf (bytesOf queenCase) in seeOf bbs (bytesOf (on 2 8 ∷ queenCase)) side from 35
+
+amiss-is : amiss 0 3 ∷ amiss 0 64 ∷ amiss 2 3 ∷ [] ≡ refused 2 [] ∷ refused 2 [] ∷ refused 1 [] ∷ []
+unfolding amiss
+amiss-is = refl
+
+-- ---- the least attacker of a colour on d5, where only some squares are still there: the queen's position with black knights on c7 and e7 too
+unfoldable leastOn : ℕ → List ℕ → Answer (List ℕ)
+unfolding bytesOf bitboardsOf tabulate those has some howMany allBelow boardsWith ofColour consistent checked attackers occupied board leastOf
+leastOn colour still =
+    let bytes : List ℕ = bytesOf (on 5 50 ∷ on 5 52 ∷ queenCase) in
+    let bbs : List ℕ = bitboardsOf bytes in
+    lvpOf bbs bytes 0 colour (attackers bbs 35 (occupied bbs)) (board still)
+
+-- the pawn before the queen; the queen alone; of two knights the lower, before the bishop; the bishop alone; the king, which does not attack; no colour
+least-are : leastOn 0 (3 ∷ 28 ∷ []) ∷ leastOn 0 (3 ∷ []) ∷ leastOn 1 (49 ∷ 52 ∷ 50 ∷ []) ∷ leastOn 1 (49 ∷ []) ∷ leastOn 1 (62 ∷ []) ∷ leastOn 2 (49 ∷ []) ∷ []
+    ≡ given (28 ∷ []) ∷ given (3 ∷ []) ∷ given (50 ∷ []) ∷ given (49 ∷ []) ∷ given [] ∷ refused 1 [] ∷ []
+unfolding leastOn
+least-are = refl

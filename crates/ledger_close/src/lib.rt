@@ -1,0 +1,27 @@
+// The row of a line that ends, by a buffer that holds the line's first bytes.
+ghost use Rattle.ledger_close.specs.Ended.{Closes};
+use attack_steps::inner::ROWS;
+use chess::refusal::Refusal;
+use chess::square::Square;
+use ledger_row::Row;
+
+// A line of so many bytes is LONG where the buffer does not hold it whole. The tables of the score are lent.
+pub fn close(
+    line: &[u8],
+    size: usize,
+    number: u64,
+    out: &mut [u8],
+    at: usize,
+    pst: &[i8],
+    tables: &[[u64; Square::COUNT]; ROWS],
+) -> Row
+    ensures { λ r. ⌜ Closes (now (tables .entry)) (now (pst .entry)) (now (out .entry)) (now (out .exit)) at number (now (line .entry)) size r ⌝ }
+{
+    if line.len() < size {
+        return Row {
+            placed: ledger_row::inner::refused(number, Refusal::Long, out, at),
+            loaded: false,
+        };
+    }
+    ledger_row::inner::row(number, &line[..size], out, at, pst, tables)
+}

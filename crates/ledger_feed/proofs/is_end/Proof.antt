@@ -1,0 +1,13 @@
+-- `ledger_feed::is_end` meets its contract. Assumes nothing.
+use Rattle.ledger_feed.proofs.Counted.{ends-one, ends-none}
+use Rattle.ledger_feed.proofs.is_end.Statement.{statement}
+use Rattle.ledger_feed.proofs.is_end.Tie as tie
+
+returns : tie.Need-returns
+returns c = ends-one (c .before .args .byte) (c .if1 .taken)
+
+returns-2 : tie.Need-returns-2
+returns-2 c = ends-none (c .before .args .byte) (c .if1 .left)
+
+pub is-end-spec : {M : Type 1} → statement M
+is-end-spec = tie.close (tie.spec returns returns-2)

@@ -1,0 +1,57 @@
+-- What the function promises, for all inputs. Definitions only.
+use mathlib.Core.Path.{_≡_}
+use mathlib.Core.Bool.{cond}
+use mathlib.Core.List.{List, []}
+use Prim.Native.Nat.{ℕ, _+_, _≤_}
+use lib.Dec.{ltb}
+use lib.ListN.{length}
+use Rattle.chess.specs.Refusals.{numberOf}
+use Rattle.text_out.specs.Text.{writtenOf, roomFor}
+use Rattle.ledger_feed.specs.Machine.{at}
+use Rattle.ledger_feed.specs.Promises.{Came, turned, many, full, came, fit}
+use Rattle.ledger_feed.specs.declared.State.{State}
+use Rattle.ledger_finish.specs.Last.{finished}
+use Rattle.ledger_finish.specs.declared.Finished.{Finished}
+use Rattle.ledger_finish.specs.declared.Finished.the-variants as E
+
+-- one line more where some of it was held
+abbrev pub unfinished : ℕ → ℕ
+unfinished held = cond (ltb 0 held) 1 0
+
+abbrev pub lastLines : State → ℕ
+lastLines state = state .loaded + state .refused + unfinished (state .held)
+
+-- room for what is written
+abbrev pub finishOf : State → List ℕ → List ℕ → Came (List ℕ)
+finishOf state line out =
+    let text : List ℕ = finished (at state line []) in
+    fit line (lastLines state) (roomFor out 0 text) text
+
+abbrev pub finishPaper : Finished → Came ℕ
+finishPaper (E.Rows wrote) = came wrote
+finishPaper E.Full = full
+finishPaper E.Many = many
+finishPaper (E.Refused r) = turned (numberOf r)
+
+abbrev pub lengthOf : Came (List ℕ) → Came ℕ
+lengthOf (came text) = came (length text)
+lengthOf (turned n) = turned n
+lengthOf many = many
+lengthOf full = full
+
+abbrev pub lastText : Came (List ℕ) → List ℕ
+lastText (came text) = text
+lastText (turned n) = []
+lastText many = []
+lastText full = []
+
+abbrev pub lastWrote : Came ℕ → ℕ
+lastWrote (came n) = n
+lastWrote (turned n) = 0
+lastWrote many = 0
+lastWrote full = 0
+
+pub record Finishes (state : State) (line out : List ℕ) (r : Finished) (out′ : List ℕ) : Type 0 where
+  pub answer : finishPaper r ≡ lengthOf (finishOf state line out)
+  pub rows : out′ ≡ writtenOf out 0 (lastText (finishOf state line out))
+  pub within : lastWrote (finishPaper r) ≤ length out

@@ -1,0 +1,98 @@
+-- No row of a line is longer than 32 bytes: 20 digits, ` refused `, two digits and LF. Assumes nothing.
+use mathlib.Core.Path.{_≡_, refl, sym, ap, _∙_}
+use mathlib.Core.Bool.{Bool, true, false, cond}
+use mathlib.Core.List.{List, [], _∷_, _++_}
+use Prim.Native.Nat.{ℕ, zero, suc, _+_, _*_, _/_, _%_, _^_, _≤_, _<_}
+use native.Mathlib.Nat.{pow-succ'}
+use native.Mathlib.Omega.{arith}
+use lib.Dec.{ltb, leb}
+use lib.IntN.{ℤ, pos, negsuc}
+use lib.ListN.{length, length-append}
+use borrow.Author.Tests.{ltb-true, lt-ltb}
+use Rattle.chess.specs.Answer.{Answer, given, refused, orRefuse}
+use Rattle.chess.specs.Refusals.{numberOf}
+use Rattle.chess.specs.declared.refusal.Refusal.the-variants as R
+use Rattle.position_boards.specs.Boards.{bitboardsOf}
+use Rattle.text_in.specs.Text.{text, semicolon, isText, every, holds}
+use Rattle.line_ranks.specs.Ranks.{areEightRanks}
+use Rattle.line_parse.specs.Line.{Line, sides, results, isOneOf, ranksOf, sideWord, positionField, resultField, fieldsSay, lineOf}
+use Rattle.line_parse.proofs.Given.{given-spells}
+use Rattle.score_taper.specs.Parts.{in16}
+use Rattle.score_verdict.specs.Verdict.{lost, won, drawn, none}
+use Rattle.score.specs.Score.{Outcome, verdict, score, scoreBy}
+use Rattle.text_out.specs.Text.{digitsUpTo, decimalOf, signedOf}
+use Rattle.ledger_row.specs.Row.{spaced, shownOf, rowBy, loadedRow, refusedRow}
+use Rattle.ledger_row.proofs.Fits.{length-spaced}
+use Rattle.ledger_row.proofs.Rows.{score-short}
+
+-- a number below a power of ten has no more digits than the power
+pub length-below : (f k n : ℕ) → n < 10 ^ suc k → length (digitsUpTo f n) ≤ suc k
+unfolding digitsUpTo
+length-below zero k n h = omega arith
+length-below (suc f) zero n h = rw (lt-ltb n 10 h) (omega arith)
+length-below (suc f) (suc k) n h = go (ltb n 10) (length-below f k (n / 10) (tenth (10 ^ suc k) (rw (pow-succ' 10 (suc k)) at h)))
+  where
+    tenth : (p : ℕ) → n < 10 * p → n / 10 < p
+    tenth p q = omega arith
+
+    go : (t : Bool) → length (digitsUpTo f (n / 10)) ≤ suc k → length (cond t ((48 + n) ∷ []) (digitsUpTo f (n / 10) ++ ((48 + n % 10) ∷ []))) ≤ suc (suc k)
+    go true q = omega arith
+    go false q = omega (arith, length-append (digitsUpTo f (n / 10)) ((48 + n % 10) ∷ []))
+
+length-short : (z : ℤ) → in16 z ≡ true → length (signedOf z) ≤ 6
+length-short (pos n) e = let h = ltb-true n 32768 e in omega (arith, length-below 20 4 n (omega arith))
+length-short (negsuc n) e = let h = ltb-true n 32768 e in omega (arith, length-below 20 4 (suc n) (omega arith))
+
+shown-6 : (a : Answer Outcome) → ((z : ℤ) → given (score z) ≡ a → in16 z ≡ true) → length (shownOf a) ≤ 6
+shown-6 (given (verdict lost)) h = omega arith
+shown-6 (given (verdict won)) h = omega arith
+shown-6 (given (verdict drawn)) h = omega arith
+shown-6 (given (verdict none)) h = omega arith
+shown-6 (given (score z)) h = length-short z (h z refl)
+shown-6 (refused n v) h = omega arith
+
+-- ---- a line's refusals have two digits at most
+test-small : {A : Type 0} (holds : Bool) (number n : ℕ) (v : List ℕ) (rest : Answer A) → number < 100 → (refused n v ≡ rest → n < 100) → refused n v ≡ orRefuse holds number rest → n < 100
+test-small true number n v rest h k e = k e
+test-small false number n v rest h k e = let q : n ≡ number = cc in omega arith
+
+fields-small : (field result : List ℕ) (n : ℕ) (v : List ℕ) → refused n v ≡ fieldsSay field result → n < 100
+unfolding fieldsSay
+fields-small field result n v =
+    test-small (areEightRanks (ranksOf field)) 11 n v _ (omega arith)
+    (test-small (isOneOf sides (sideWord field)) 12 n v _ (omega arith)
+    (test-small (isOneOf results result) 13 n v _ (omega arith) (λ e. absurd (let k : _≡_ {A = ℕ} 0 1 = cc in omega arith))))
+
+line-small : (line : List ℕ) (n : ℕ) (v : List ℕ) → refused n v ≡ lineOf line → n < 100
+unfolding lineOf
+line-small line n v =
+    test-small (leb (length line) 256) 8 n v _ (omega arith)
+    (test-small (every isText line) 9 n v _ (omega arith)
+    (test-small (holds semicolon line) 10 n v _ (omega arith) (fields-small (positionField line) (resultField line) n v)))
+
+-- ---- the rows
+pub refused-32 : (number n : ℕ) → n < 100 → length (refusedRow number n) ≤ 32
+unfolding refusedRow
+refused-32 number n h =
+    let a = length-append (spaced number) (text "refused " ++ (decimalOf n ++ text "\n")) in
+    let b = length-append (decimalOf n) (text "\n") in
+    omega (arith, length-spaced number, length-below 20 1 n (omega arith))
+
+loaded-32 : (number half : ℕ) (a : Answer Outcome) → half < 10 → length (shownOf a) ≤ 6 → length (loadedRow number half a) ≤ 32
+unfolding loadedRow
+loaded-32 number half a h k =
+    let p = length-append (spaced number) (spaced half ++ (shownOf a ++ text "\n")) in
+    let q = length-append (spaced half) (shownOf a ++ text "\n") in
+    let r = length-append (shownOf a) (text "\n") in
+    let s = length-append (decimalOf half) (text " ") in
+    omega (arith, length-spaced number, length-below 20 0 half (omega arith))
+
+pub row-32 : (attack : ℕ → ℕ → ℕ → ℕ → ℕ) (weight : ℕ → ℕ → ℕ → ℤ) (number : ℕ) (line : List ℕ) → length (rowBy (scoreBy attack weight) number (lineOf line)) ≤ 32
+row-32 attack weight number line = go (lineOf line) refl
+  where
+    go : (a : Answer Line) → a ≡ lineOf line → length (rowBy (scoreBy attack weight) number a) ≤ 32
+    go (refused n v) e = refused-32 number n (line-small line n v e)
+    go (given l) e =
+        let half = given-spells line l (sym e) .half in
+        loaded-32 number (l .half) (scoreBy attack weight (bitboardsOf (l .board)) (l .state .side)) (omega arith)
+        (shown-6 (scoreBy attack weight (bitboardsOf (l .board)) (l .state .side)) (score-short attack weight (bitboardsOf (l .board)) (l .state .side)))

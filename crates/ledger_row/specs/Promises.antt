@@ -1,0 +1,40 @@
+-- What each function promises, for all inputs. Definitions only.
+use mathlib.Core.Path.{_≡_}
+use mathlib.Core.Bool.{true}
+use mathlib.Core.List.{List}
+use Prim.Native.Nat.{ℕ}
+use lib.IntN.{ℤ}
+use Rattle.chess.specs.Answer.{Answer}
+use Rattle.chess.specs.Refusals.{numberOf}
+use Rattle.chess.specs.declared.refusal.Refusal.{Refusal}
+use Rattle.attack.specs.Lent.{attacksWith}
+use Rattle.score_pst.specs.Pst.{weightIn}
+use Rattle.line_parse.specs.Line.{Line, lineOf}
+use Rattle.score.specs.Score.{Outcome, scoreBy}
+use Rattle.score_taper.specs.Parts.{in16}
+use Rattle.score.specs.declared.Scored.{Scored}
+use Rattle.score.specs.declared.Scored.the-variants as S
+use Rattle.text_out.specs.Text.{Puts}
+use Rattle.text_out.specs.declared.Placed.{Placed}
+use Rattle.ledger_row.specs.Row.{rowBy, refusedRow, isLoaded}
+use Rattle.ledger_row.specs.declared.Row.{Row}
+
+-- the score by whatever tables are lent
+abbrev pub scoreWith : List (List ℕ) → List ℤ → List ℕ → ℕ → Answer Outcome
+scoreWith tables pst bitboards side = scoreBy (attacksWith tables) (weightIn pst) bitboards side
+
+-- a text is put, and it is said whether the line was loaded
+pub record PutsRow (old new : List ℕ) (at : ℕ) (said : Answer Line) (text : List ℕ) (r : Row) : Type 0 where
+  pub puts : Puts old new at text (r .placed)
+  pub loaded : r .loaded ≡ isLoaded said
+
+abbrev pub PutsLine : List (List ℕ) → List ℤ → List ℕ → List ℕ → ℕ → ℕ → List ℕ → Row → Type 0
+PutsLine tables pst old new at number line r = PutsRow old new at (lineOf line) (rowBy (scoreWith tables pst) number (lineOf line)) r
+
+abbrev pub PutsRefused : List ℕ → List ℕ → ℕ → ℕ → Refusal → Placed → Type 0
+PutsRefused old new at number refusal r = Puts old new at (refusedRow number (numberOf refusal)) r
+
+-- ---- private functions
+-- a score, if it is one, that 16 bits hold
+abbrev pub Short : Scored → Type 0
+Short r = (z : ℤ) → r ≡ S.Score z → in16 z ≡ true

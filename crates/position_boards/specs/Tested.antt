@@ -1,0 +1,29 @@
+-- What the private functions give: whole bitboards and tables, where the definitions go square by square. Definitions only.
+use mathlib.Core.Bool.{cond}
+use mathlib.Core.List.{List}
+use Prim.Native.Nat.{ℕ}
+use lib.Dec.{eqb, leb, ltb}
+use lib.ListN.{getD}
+use Rattle.laws.specs.Tables.{tabulate}
+use Rattle.bits.specs.Bitboard.{those}
+use Rattle.position_boards.specs.Sound.{boardsWith, ofColour}
+
+-- the squares that so many piece boards have, or more
+abbrev pub sharedBy : List ℕ → ℕ → ℕ
+sharedBy bbs many = those 64 (λ k. leb many (boardsWith bbs k))
+
+-- the squares of a colour's piece boards
+abbrev pub standing : List ℕ → ℕ → ℕ
+standing bbs colour = those 64 (ofColour bbs colour)
+
+-- where a table of 15 has a byte: any byte past the codes is at 14
+abbrev pub placeOf : ℕ → ℕ
+placeOf byte = cond (ltb byte 14) byte 14
+
+-- the squares of each place of a byte
+unfoldable pub sortedBy : List ℕ → List ℕ
+sortedBy bytes = tabulate 15 (λ place. those 64 (λ k. eqb (placeOf (getD bytes k 0)) place))
+
+-- the boards of the sorted bytes
+unfoldable pub boardsBy : List ℕ → List ℕ
+boardsBy squares = tabulate 14 (λ board. cond (ltb board 2) (standing squares board) (getD squares board 0))

@@ -1,0 +1,123 @@
+// Reads a collection on standard input and says of each line what the reader makes of it: the file stdout holds what document 01
+// makes of it (oracle/README.md, lines.answers).
+ghost use Prim.Native.Nat.{_≤_};
+ghost use lib.ListN.{length};
+use chess::piece::Piece;
+use chess::refusal::Refusal;
+use chess::square::Square;
+use line_parse::Read;
+use text_in::inner::past;
+use text_in::inner::text_before;
+
+// More than the recorded lines take. One that did not fit would have no row, and the run would fail.
+const ROOM: usize = 0x30000;
+
+fn main() {
+    let mut collection = [0u8; ROOM];
+    let n = io::read_full(libc::STDIN_FILENO, &mut collection);
+    read_all(&collection[..n]);
+}
+
+// A line ends before LF or the end of the input.
+fn read_all(collection: &[u8]) {
+    let mut rest = collection;
+    while rest.len() > 0 {
+        let line = text_before(rest, b'\n');
+        let next = past(rest, b'\n');
+        read(&line[..size(line, next)]);
+        rest = &rest[next..];
+    }
+}
+
+// How many bytes of a line are read: one CR before an LF is dropped. The last line may end without LF, and then keeps its CR.
+fn size(line: &[u8], next: usize) -> usize
+    ensures { λ r. ⌜ r ≤ length (now (line .entry)) ⌝ }
+{
+    let n = line.len();
+    if n == 0 {
+        return 0;
+    }
+    if next == n {
+        return n;
+    }
+    if line[n - 1] == b'\r' {
+        return n - 1;
+    }
+    n
+}
+
+// A refused line has no field, and one that is read has one: else the row is `field`.
+fn read(text: &[u8]) {
+    let mut bitboards = [0u64; Piece::BOARDS];
+    let mut board = [0u8; Square::COUNT];
+    let field = line::position_field(text).len();
+    match line::read_line(text, &mut bitboards, &mut board) {
+        Read::Refused(r) => refused(r, field),
+        Read::Position(state, half) => {
+            natural(state.side as u64);
+            next(half as u64);
+            next(blanks(text) as u64);
+            next(field as u64);
+            codes(board);
+        }
+    }
+    write(b"\n");
+}
+
+fn refused(r: Refusal, field: usize) {
+    if field != 0 {
+        return write(b"field");
+    }
+    write(b"refused ");
+    natural(r.number() as u64);
+}
+
+fn write(text: &[u8]) {
+    io::write_all(libc::STDOUT_FILENO, text);
+}
+
+fn natural(n: u64) {
+    io::print_decimal(libc::STDOUT_FILENO, n);
+}
+
+fn next(n: u64) {
+    write(b" ");
+    natural(n);
+}
+
+// How many blanks a text begins with: the position field comes after them.
+fn blanks(text: &[u8]) -> usize {
+    let mut i = 0;
+    while i < text.len() {
+        let b = text[i];
+        if b != b' ' && b != b'\t' && b != b'\r' {
+            return i;
+        }
+        i += 1;
+    }
+    i
+}
+
+// A space and a code for each square.
+const ROW: usize = 65;
+
+// The 64 codes from a1 to h8, a hexadecimal digit each.
+fn codes(board: [u8; Square::COUNT]) {
+    let mut digits = [b' '; ROW];
+    let mut k = 0;
+    while k < Square::COUNT {
+        digits[k + 1] = hex(board[k]);
+        k += 1;
+    }
+    write(&digits);
+}
+
+fn hex(code: u8) -> u8 {
+    if code < 10 {
+        return b'0' + code;
+    }
+    if code < 16 {
+        return b'a' + (code - 10);
+    }
+    b'?'
+}

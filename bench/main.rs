@@ -35,6 +35,7 @@ mod drawn;
 mod functions;
 mod ledger;
 mod ours;
+mod rays;
 
 use std::hint::black_box;
 use std::io::{self, BufReader, BufWriter, Write};
@@ -78,6 +79,7 @@ fn peak() -> String {
 
 fn usage() -> ! {
     eprintln!("functions COUNT ROUNDS    each function over so many positions");
+    eprintln!("rays ROUNDS               a queen's attacks on boards from empty to crowded");
     eprintln!("ledgers MOST ROUNDS       both ledgers over 10,000 lines, ten times as many, .. up to MOST");
     eprintln!("lines COUNT               a collection of so many lines on standard output");
     eprintln!("ours, theirs              a ledger of standard input; the peak of memory on standard error");
@@ -94,6 +96,7 @@ fn main() -> io::Result<()> {
     let output = BufWriter::new(io::stdout().lock());
     match words.as_slice() {
         ["functions", count, rounds] => functions::measure(number(count), number(rounds)),
+        ["rays", rounds] => rays::measure(number(rounds)),
         ["ledgers", most, rounds] => ledgers(number(most), number(rounds)),
         ["lines", count] => io::stdout().write_all(&drawn::lines(number(count)))?,
         ["ours"] => ledger::ours(io::stdin().lock(), output)?,

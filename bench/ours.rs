@@ -1,5 +1,6 @@
 // The library's doors, as include/chess_scores.h declares them.
 extern "C" {
+    pub fn chess_piece_attacks(piece: u8, square: u8, occupied: u64, squares: *mut u64) -> u8;
     pub fn chess_eval(bitboards: *const u64, b: usize, board: *const u8, s: usize, side: u8, verdict: *mut u8, score: *mut i16) -> u8;
     pub fn chess_eval_material(bitboards: *const u64, b: usize, board: *const u8, s: usize, side: u8, color: u8, material: *mut i16) -> u8;
     pub fn chess_is_check(bitboards: *const u64, b: usize, board: *const u8, s: usize, side: u8, color: u8, check: *mut bool) -> u8;
@@ -61,6 +62,13 @@ pub fn is_check(game: &Game) -> i64 {
 pub fn see(game: &Game, from: u8, to: u8) -> i64 {
     let mut worth = 0;
     answer(unsafe { chess_see(game.bitboards.as_ptr(), 14, game.board.as_ptr(), 64, game.side(), from, to, &mut worth) }, worth as i64)
+}
+
+pub fn piece_attacks(piece: u8, square: u8, occupied: u64) -> u64 {
+    let mut squares = 0;
+    let number = unsafe { chess_piece_attacks(piece, square, occupied, &mut squares) };
+    assert!(number == 0, "refused {number}");
+    squares
 }
 
 pub fn compute_trace(game: &Game, counts: &mut Counts, entries: &mut [i32]) -> u8 {

@@ -8,7 +8,7 @@ use lib.Dec.{eqb}
 use lib.ListN.{length, take, drop, getD, length-take, take-append-drop}
 use lib.Seq.{take-append-seam}
 use borrow.Author.Tests.{eq-eqb, eqb-true}
-use Rattle.chess.specs.Answer.{Answer, given, refused}
+use Rattle.refusal.specs.Answer.{Answer, given, refused}
 use Rattle.text_in.specs.Text.{semicolon, isBlank, before, without, withoutLast, trim}
 use Rattle.text_in.proofs.Parts.{before-take}
 use Rattle.text_in.proofs.Texts.{last-more, last-stop, last-none}

@@ -5,8 +5,8 @@ use mathlib.Core.List.{List}
 use Prim.Native.Nat.{ℕ}
 use lib.Ieee.{Float}
 use lib.IntN.{ℤ}
-use Rattle.chess.specs.Answer.{Answer}
-use Rattle.chess.proofs.Paper.{one}
+use Rattle.refusal.specs.Answer.{Answer}
+use Rattle.refusal.proofs.Paper.{one}
 use Rattle.abi.specs.Promises.{Door, Doors, EvalsEnding, EvalsMaterial, Evals, PieceAttacks, AttacksTo, IsAttacked, IsCheck, Lvp, See, ComputesTrace, EvalsTrace, Ships, ReadsLine, GivesPart, FeedsLedger, FinishesLedger}
 use Rattle.abi.specs.declared.lines.Part.{Part}
 

@@ -16,20 +16,20 @@ use Rattle.abi.specs.Promises.{FeedsLedger, FinishesLedger}
 -- ---- what comes back by value is a part of what the machine has
 value-code : (a : Came Machine) → codeOf (Rows.valueOf a) ≡ codeOf a
 value-code (came m) = refl
-value-code (turned n) = refl
+value-code (turned n l) = refl
 value-code many = refl
 value-code full = refl
 
 state-after : (old : List ℕ) (a : Came Machine)
     → after (λ (p : State × ℕ). numbersOf (p .0)) old (Rows.valueOf a) ≡ after (λ (m : Machine). numbersOf (Rows.stateOf m)) old a
 state-after old (came m) = refl
-state-after old (turned n) = refl
+state-after old (turned n l) = refl
 state-after old many = refl
 state-after old full = refl
 
 wrote-after : (old : ℕ) (a : Came Machine) → after (λ (p : State × ℕ). p .1) old (Rows.valueOf a) ≡ after (λ (m : Machine). length (m .text)) old a
 wrote-after old (came m) = refl
-wrote-after old (turned n) = refl
+wrote-after old (turned n l) = refl
 wrote-after old many = refl
 wrote-after old full = refl
 
@@ -52,13 +52,13 @@ fed-through state line chunk out wrote {r = r} {line′ = line′} {out′ = out
 -- ---- the last rows
 length-code : (a : Came (List ℕ)) → codeOf (lengthOf a) ≡ codeOf a
 length-code (came t) = refl
-length-code (turned n) = refl
+length-code (turned n l) = refl
 length-code many = refl
 length-code full = refl
 
 length-after : (old : ℕ) (a : Came (List ℕ)) → after (λ (n : ℕ). n) old (lengthOf a) ≡ after length old a
 length-after old (came t) = refl
-length-after old (turned n) = refl
+length-after old (turned n l) = refl
 length-after old many = refl
 length-after old full = refl
 

@@ -4,7 +4,7 @@ use mathlib.Core.List.{List}
 use Prim.Native.Nat.{ℕ}
 use lib.Ieee.{Float}
 use lib.IntN.{ℤ}
-use Rattle.chess.specs.Answer.{Answer, given, refused}
+use Rattle.refusal.specs.Answer.{Answer, given, refused}
 use Rattle.position.specs.declared.State.{State}
 use Rattle.trace_counts.specs.declared.Trace.{Trace}
 use Rattle.line_parse.specs.Line.{Line}

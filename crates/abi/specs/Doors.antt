@@ -3,7 +3,7 @@ use mathlib.Core.Bool.{Bool, true, false}
 use mathlib.Core.List.{List, [], _∷_}
 use Prim.Native.Nat.{ℕ}
 use lib.IntN.{ℤ, pos}
-use Rattle.chess.specs.Answer.{Answer, given, refused}
+use Rattle.refusal.specs.Answer.{Answer, given, refused}
 use Rattle.score_verdict.specs.Verdict as P
 use Rattle.score.specs.Score.{Outcome, verdict, score}
 

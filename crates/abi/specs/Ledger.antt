@@ -19,13 +19,13 @@ numbersOf s = s .held ∷ flagOf (s .cr) ∷ s .loaded ∷ s .refused ∷ []
 -- the refusal's number, 254 for too little room, 255 for too many lines, and 0 of an answer
 abbrev pub codeOf : {A : Type 0} → Came A → ℕ
 codeOf (came a) = 0
-codeOf (turned n) = n
+codeOf (turned n l) = n
 codeOf full = 254
 codeOf many = 255
 
 -- what stands in lent memory afterwards: as it was, unless there is an answer
 abbrev pub after : {A B : Type 0} → (A → B) → B → Came A → B
 after part old (came a) = part a
-after part old (turned n) = old
+after part old (turned n l) = old
 after part old full = old
 after part old many = old

@@ -6,7 +6,7 @@ use Prim.Native.Nat.{ℕ}
 use lib.Ieee.{Float}
 use lib.IntN.{ℤ}
 use lib.ListN.{length}
-use Rattle.chess.specs.Answer.{Answer}
+use Rattle.refusal.specs.Answer.{Answer}
 use Rattle.attack.specs.Answers.{pieceAttacksOf}
 use Rattle.attack_to.specs.Answers.{attacksToOf, isAttackedOf, isCheckOf}
 use Rattle.exchange_least.specs.Answers.{lvpOf}

@@ -3,7 +3,7 @@ use mathlib.Core.Path.{_≡_}
 use mathlib.Core.List.{List}
 use lib.Ieee.{Float}
 use lib.IntN.{ℤ}
-use Rattle.chess.proofs.Paper.{one}
+use Rattle.refusal.proofs.Paper.{one}
 use Rattle.trace_counts.specs.declared.Trace.{Trace}
 use Rattle.trace_counts.specs.declared.Weights.{Weights}
 use Rattle.abi_records.specs.Promises.{Counts, Traces, Names, Weighs}

@@ -2,7 +2,7 @@
 use mathlib.Core.Path.{_≡_, refl, ap}
 use mathlib.Core.List.{List}
 use Prim.Native.Nat.{ℕ}
-use Rattle.chess.proofs.Paper.{one, retract, readBack, number-back}
+use Rattle.refusal.proofs.Paper.{one, retract, readBack, number-back}
 use Rattle.attack.specs.Answers.{found}
 use Rattle.attack.specs.Promises.{PieceAttacks, Other, Standing, Occupied, AttacksWith, AttacksFrom}
 use Rattle.attack.specs.declared.Found.{Found}

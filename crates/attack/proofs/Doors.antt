@@ -5,35 +5,34 @@ use mathlib.Core.List.{List, []}
 use Prim.Native.Nat.{ℕ, _<_, _≤_}
 use lib.Dec.{leb, ltb}
 use borrow.Author.Tests.{lt-ltb, le-ltb, le-leb, lt-leb}
-use Rattle.chess.specs.Answer.{Answer, given, refused, orRefuse}
+use Rattle.refusal.specs.Answer.{Answer, given, orRefuse, refusalOf}
 use Rattle.chess.specs.Codes.{isPiece, kindOf, colourOf}
-use Rattle.chess.specs.Refusals.{numberOf, refusalOf}
-use Rattle.chess.specs.declared.refusal.Refusal.the-variants as R
+use Rattle.refusal.specs.declared.Refusal.the-variants as R
 use Rattle.bits.specs.Answers.{onBoard}
 use Rattle.attack.specs.Attacks.{attacks}
 use Rattle.attack.specs.Answers.{pieceAttacksOf, withColour}
 
 -- ---- a square
 pub off-board : {A : Type 0} (s : ℕ) (a : A) → 64 ≤ s → refusalOf R.Square ≡ onBoard s a
-off-board s a h = sym (ap (λ (t : Bool). orRefuse t (numberOf R.Square) (given a)) (le-ltb s 64 h))
+off-board s a h = sym (ap (λ (t : Bool). orRefuse t R.Square (given a)) (le-ltb s 64 h))
 
 pub on-board : {A : Type 0} (s : ℕ) (a b : A) → s < 64 → b ≡ a → given b ≡ onBoard s a
-on-board s a b h e = ap given e ∙ sym (ap (λ (t : Bool). orRefuse t (numberOf R.Square) (given a)) (lt-ltb s 64 h))
+on-board s a b h e = ap given e ∙ sym (ap (λ (t : Bool). orRefuse t R.Square (given a)) (lt-ltb s 64 h))
 
 -- ---- a colour
 pub no-colour : {A : Type 0} (colour : ℕ) (rest : Answer A) → 2 ≤ colour → refusalOf R.Shape ≡ withColour colour rest
-no-colour colour rest h = sym (ap (λ (t : Bool). orRefuse t (numberOf R.Shape) rest) (le-ltb colour 2 h))
+no-colour colour rest h = sym (ap (λ (t : Bool). orRefuse t R.Shape rest) (le-ltb colour 2 h))
 
 pub a-colour : {A : Type 0} (colour : ℕ) (rest : Answer A) → colour < 2 → rest ≡ withColour colour rest
-a-colour colour rest h = sym (ap (λ (t : Bool). orRefuse t (numberOf R.Shape) rest) (lt-ltb colour 2 h))
+a-colour colour rest h = sym (ap (λ (t : Bool). orRefuse t R.Shape rest) (lt-ltb colour 2 h))
 
 -- ---- a piece
 module _ (code s occ : ℕ) where
   abbrev rest : Answer ℕ
   rest = onBoard s (attacks (kindOf code) (colourOf code) s occ)
 
-  shape : (t : Bool) → isPiece code ≡ t → orRefuse t (numberOf R.Shape) rest ≡ pieceAttacksOf code s occ
-  shape t e = sym (ap (λ (b : Bool). orRefuse b (numberOf R.Shape) rest) e)
+  shape : (t : Bool) → isPiece code ≡ t → orRefuse t R.Shape rest ≡ pieceAttacksOf code s occ
+  shape t e = sym (ap (λ (b : Bool). orRefuse b R.Shape rest) e)
 
   pub below-two : code < 2 → refusalOf R.Shape ≡ pieceAttacksOf code s occ
   below-two h = shape false (simp (lt-leb 2 code h))

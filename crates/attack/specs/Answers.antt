@@ -2,10 +2,9 @@
 -- the code's answers on the paper. Definitions only.
 use Prim.Native.Nat.{ℕ}
 use lib.Dec.{ltb}
-use Rattle.chess.specs.Answer.{Answer, given, orRefuse}
+use Rattle.refusal.specs.Answer.{Answer, given, orRefuse, refusalOf}
 use Rattle.chess.specs.Codes.{isPiece, kindOf, colourOf}
-use Rattle.chess.specs.Refusals.{numberOf, refusalOf}
-use Rattle.chess.specs.declared.refusal.Refusal.the-variants as R
+use Rattle.refusal.specs.declared.Refusal.the-variants as R
 use Rattle.bits.specs.Answers.{onBoard}
 use Rattle.attack.specs.Attacks.{attacks}
 use Rattle.attack.specs.declared.Found.{Found}
@@ -13,11 +12,11 @@ use Rattle.attack.specs.declared.Found.the-variants as F
 
 -- SHAPE: "piece code not 2 to 13", then SQUARE
 abbrev pub pieceAttacksOf : ℕ → ℕ → ℕ → Answer ℕ
-pieceAttacksOf code s occ = orRefuse (isPiece code) (numberOf R.Shape) (onBoard s (attacks (kindOf code) (colourOf code) s occ))
+pieceAttacksOf code s occ = orRefuse (isPiece code) R.Shape (onBoard s (attacks (kindOf code) (colourOf code) s occ))
 
 -- SHAPE: "side or colour not 0 or 1"; of the doors above that name a colour
 abbrev pub withColour : {A : Type 0} → ℕ → Answer A → Answer A
-withColour colour rest = orRefuse (ltb colour 2) (numberOf R.Shape) rest
+withColour colour rest = orRefuse (ltb colour 2) R.Shape rest
 
 -- ---- the code's answers on the paper
 abbrev pub found : Found → Answer ℕ

@@ -10,7 +10,7 @@ use chess::color::WHITE;
 use chess::kind::KING;
 use chess::kind::KNIGHT;
 use chess::kind::PAWN;
-use chess::refusal::Refusal;
+use refusal::Refusal;
 
 pub mod inner;
 

@@ -2,7 +2,7 @@
 use mathlib.Core.Path.{_≡_}
 use mathlib.Core.List.{List}
 use Prim.Native.Nat.{ℕ}
-use Rattle.chess.proofs.Paper.{one}
+use Rattle.refusal.proofs.Paper.{one}
 use Rattle.attack_steps.specs.Promises.{Table, Tables, Reaches, Steps}
 
 pub table : (row : ℕ) (r s : List ℕ) → Table row r → Table row s → r ≡ s

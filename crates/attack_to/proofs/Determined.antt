@@ -3,7 +3,7 @@ use mathlib.Core.Path.{_≡_, refl, ap}
 use mathlib.Core.Bool.{Bool}
 use mathlib.Core.List.{List}
 use Prim.Native.Nat.{ℕ}
-use Rattle.chess.proofs.Paper.{one, retract, readBack, number-back}
+use Rattle.refusal.proofs.Paper.{one, retract, readBack, number-back}
 use Rattle.position.specs.declared.State.{State}
 use Rattle.attack.specs.declared.Found.{Found}
 use Rattle.attack.proofs.Determined.{found-one}

@@ -3,8 +3,7 @@
 use mathlib.Core.Bool.{Bool}
 use mathlib.Core.List.{List}
 use Prim.Native.Nat.{ℕ}
-use Rattle.chess.specs.Answer.{Answer, given}
-use Rattle.chess.specs.Refusals.{refusalOf}
+use Rattle.refusal.specs.Answer.{Answer, given, refusalOf}
 use Rattle.bits.specs.Answers.{onBoard}
 use Rattle.position.specs.Checked.{checked}
 use Rattle.attack.specs.Answers.{withColour}

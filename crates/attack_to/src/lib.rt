@@ -2,9 +2,9 @@
 ghost use Rattle.attack_to.specs.Promises.{AttacksTo, IsAttacked, IsCheck};
 use attack::Found;
 use chess::color::BLACK;
-use chess::refusal::Refusal;
 use position::Checked;
 use position::State;
+use refusal::Refusal;
 
 pub mod inner;
 

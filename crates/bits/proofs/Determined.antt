@@ -4,7 +4,7 @@ use mathlib.Core.Bool.{Bool}
 use mathlib.Core.List.{List, [], _∷_}
 use Prim.Native.Nat.{ℕ}
 use lib.IntN.{ℤ}
-use Rattle.chess.proofs.Paper.{one, retract, readBack, number-back}
+use Rattle.refusal.proofs.Paper.{one, retract, readBack, number-back}
 use Rattle.bits.specs.Answers.{got, changed, lowest}
 use Rattle.bits.specs.Promises.{Counts, Scans, FromSquare, Gets, Sets, Resets, Toggles, Shifts, Nexts, Unites, Reads}
 use Rattle.bits.specs.declared.Got.{Got}

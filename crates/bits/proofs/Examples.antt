@@ -3,7 +3,7 @@ use mathlib.Core.Path.{_≡_, refl}
 use mathlib.Core.List.{List, [], _∷_}
 use Prim.Native.Nat.{ℕ, _-_, _^_}
 use lib.IntN.{ℤ, pos, negsuc}
-use Rattle.chess.specs.Answer.{Answer, given, refused}
+use Rattle.refusal.specs.Answer.{Answer, given, refused}
 use Rattle.bits.specs.Bitboard.{has, those, howMany, firstFrom, lowestOf, squaresFrom, squares, isIn, board}
 use Rattle.bits.specs.Answers.{shiftedOf, setOf, nextOf}
 

@@ -3,7 +3,7 @@ use mathlib.Core.Path.{_≡_, ap, sym, _∙_}
 use Prim.Native.Nat.{ℕ, _%_, _^_, _<_}
 use native.Mathlib.Nat.{mul-one, mod-eq-of-lt}
 use lib.IntN.{pos}
-use Rattle.chess.specs.Answer.{given}
+use Rattle.refusal.specs.Answer.{given}
 use Rattle.bits.specs.Answers.{shiftedOf}
 use Rattle.bits.proofs.Machine.{shifted-up}
 

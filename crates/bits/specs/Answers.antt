@@ -4,9 +4,8 @@ use mathlib.Core.List.{List, [], _∷_}
 use Prim.Native.Nat.{ℕ, suc, _+_, _-_}
 use lib.Dec.{eqb, leb, ltb}
 use lib.IntN.{ℤ, pos, negsuc}
-use Rattle.chess.specs.Answer.{Answer, given, orRefuse}
-use Rattle.chess.specs.Refusals.{numberOf, refusalOf}
-use Rattle.chess.specs.declared.refusal.Refusal.the-variants as R
+use Rattle.refusal.specs.Answer.{Answer, given, orRefuse, refusalOf}
+use Rattle.refusal.specs.declared.Refusal.the-variants as R
 use Rattle.bits.specs.Bitboard.{has, those, lowestOf}
 use Rattle.bits.specs.declared.Got.{Got}
 use Rattle.bits.specs.declared.Got.the-variants as G
@@ -17,7 +16,7 @@ use Rattle.bits.specs.declared.Lowest.the-variants as L
 
 -- SQUARE: "a square above 63"
 abbrev pub onBoard : {A : Type 0} → ℕ → A → Answer A
-onBoard s a = orRefuse (ltb s 64) (numberOf R.Square) (given a)
+onBoard s a = orRefuse (ltb s 64) R.Square (given a)
 
 -- one square alone
 abbrev pub fromSquareOf : ℕ → Answer ℕ
@@ -44,8 +43,8 @@ downBy b n = those 64 (λ k. has b (n + k))
 
 -- SHAPE: "shift beyond ±63"
 abbrev pub shiftedOf : ℕ → ℤ → Answer ℕ
-shiftedOf b (pos n) = orRefuse (ltb n 64) (numberOf R.Shape) (given (upBy b n))
-shiftedOf b (negsuc n) = orRefuse (ltb (suc n) 64) (numberOf R.Shape) (given (downBy b (suc n)))
+shiftedOf b (pos n) = orRefuse (ltb n 64) R.Shape (given (upBy b n))
+shiftedOf b (negsuc n) = orRefuse (ltb (suc n) 64) R.Shape (given (downBy b (suc n)))
 
 -- a bitboard without its lowest square
 abbrev pub restOf : ℕ → ℕ

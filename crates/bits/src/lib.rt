@@ -1,6 +1,6 @@
 // A bitboard, as bitboard.rs has it: count, scan, shift, one square, and the squares one after the other.
 ghost use Rattle.bits.specs.Promises.{Counts, Scans, FromSquare, Gets, Sets, Resets, Toggles, Shifts, Nexts};
-use chess::refusal::Refusal;
+use refusal::Refusal;
 
 pub mod inner;
 

@@ -5,7 +5,7 @@ use Prim.Native.Nat.{ℕ, suc, _+_}
 use lib.IntN.{ℤ, pos, negsuc}
 use Rattle.laws.specs.Tests.{allBelow}
 use Rattle.laws.specs.Tables.{tabulate}
-use Rattle.chess.specs.Answer.{Answer, given, refused}
+use Rattle.refusal.specs.Answer.{Answer, given, refused}
 use Rattle.bits.specs.Bitboard.{has, those, some, howMany}
 use Rattle.position_boards.specs.Boards.{bitboardsOf}
 use Rattle.position_boards.specs.Sound.{boardsWith, ofColour}

@@ -5,7 +5,7 @@ use mathlib.Core.List.{List, [], _∷_}
 use Prim.Native.Nat.{ℕ}
 use Rattle.laws.specs.Tables.{tabulate}
 use Rattle.laws.specs.Tests.{allBelow}
-use Rattle.chess.specs.Answer.{Answer, given, refused}
+use Rattle.refusal.specs.Answer.{given, refused}
 use Rattle.bits.specs.Bitboard.{has, some, howMany}
 use Rattle.position_boards.specs.Sound.{boardsWith, ofColour}
 use Rattle.position_consistent.specs.Consistent.{consistent}

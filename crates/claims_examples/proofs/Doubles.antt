@@ -9,7 +9,7 @@ use lib.ListN.{getD, set}
 use lib.Ieee.{Float, nan, binary64, add, sub, mul, div, ofInt, ofBits}
 use Rattle.laws.specs.Tables.{tabulate}
 use Rattle.laws.specs.Tests.{allBelow}
-use Rattle.chess.specs.Answer.{Answer, given, refused}
+use Rattle.refusal.specs.Answer.{Answer, given, refused}
 use Rattle.trace_counts.specs.Ranges.{inRanges, areEntries}
 use Rattle.trace_named.specs.Doubles.{d0, d2, d10, d32, dbl}
 use Rattle.trace_named.specs.Named.{named}

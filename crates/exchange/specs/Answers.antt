@@ -4,9 +4,8 @@ use mathlib.Core.List.{List}
 use Prim.Native.Nat.{ℕ}
 use lib.Dec.{ltb}
 use lib.IntN.{ℤ}
-use Rattle.chess.specs.Answer.{Answer, given, orRefuse}
-use Rattle.chess.specs.Refusals.{numberOf, refusalOf}
-use Rattle.chess.specs.declared.refusal.Refusal.the-variants as R
+use Rattle.refusal.specs.Answer.{Answer, given, orRefuse, refusalOf}
+use Rattle.refusal.specs.declared.Refusal.the-variants as R
 use Rattle.position.specs.Checked.{checked}
 use Rattle.exchange_least.specs.Least.{order}
 use Rattle.exchange_start.specs.Capture.{mayCapture, uncrowded}
@@ -21,8 +20,8 @@ bothOnBoard from to = ltb from 64 && ltb to 64
 abbrev pub seeOf : List ℕ → List ℕ → ℕ → ℕ → ℕ → Answer ℤ
 seeOf bbs bytes side from to =
     checked bbs bytes side
-    (orRefuse (bothOnBoard from to) (numberOf R.Square)
-    (orRefuse (mayCapture bbs bytes side from to) (numberOf R.Move) (orRefuse (uncrowded bbs) (numberOf R.Crowd) (given (exchangeOf order bbs bytes side from to)))))
+    (orRefuse (bothOnBoard from to) R.Square
+    (orRefuse (mayCapture bbs bytes side from to) R.Move (orRefuse (uncrowded bbs) R.Crowd (given (exchangeOf order bbs bytes side from to)))))
 
 -- ---- the code's answers on the paper
 abbrev pub exchanged : Exchanged → Answer ℤ

@@ -1,8 +1,7 @@
 -- What the door answers, refusals in document 01's order (the least attacker takes no square: 1 and 2), and the code's answers on the paper. Definitions only.
 use mathlib.Core.List.{List, [], _∷_}
 use Prim.Native.Nat.{ℕ}
-use Rattle.chess.specs.Answer.{Answer, given}
-use Rattle.chess.specs.Refusals.{refusalOf}
+use Rattle.refusal.specs.Answer.{Answer, given, refusalOf}
 use Rattle.position.specs.Checked.{checked}
 use Rattle.attack.specs.Answers.{withColour}
 use Rattle.exchange_least.specs.Least.{Attacker, nobody, attacker, leastOf, order}

@@ -4,9 +4,9 @@ use crate::inner::Attacker;
 use crate::inner::ORDER;
 use crate::inner::pick;
 use chess::color::BLACK;
-use chess::refusal::Refusal;
 use position::Checked;
 use position::State;
+use refusal::Refusal;
 
 pub mod inner;
 

@@ -3,7 +3,7 @@ use mathlib.Core.Path.{_≡_}
 use mathlib.Core.Bool.{Bool}
 use mathlib.Core.List.{List}
 use Prim.Native.Nat.{ℕ}
-use Rattle.chess.proofs.Paper.{one}
+use Rattle.refusal.proofs.Paper.{one}
 use Rattle.exchange_start.specs.Promises.{KindOn, MayCapture, Uncrowded}
 
 pub kind-on : (board : List ℕ) (square r s : ℕ) → KindOn board square r → KindOn board square s → r ≡ s

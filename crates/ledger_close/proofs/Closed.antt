@@ -8,9 +8,9 @@ use lib.Dec.{ltb}
 use lib.IntN.{ℤ}
 use lib.ListN.{length, take}
 use borrow.Author.Tests.{lt-ltb, le-ltb}
-use Rattle.chess.specs.Answer.{Answer}
-use Rattle.chess.specs.Refusals.{numberOf, refusalOf}
-use Rattle.chess.specs.declared.refusal.Refusal.the-variants as R
+use Rattle.refusal.specs.Answer.{Answer, refusalOf}
+use Rattle.refusal.specs.Refusals.{numberOf}
+use Rattle.refusal.specs.declared.Refusal.the-variants as R
 use Rattle.attack_steps.specs.Steps.{stepTables}
 use Rattle.attack.specs.Attacks.{attacks}
 use Rattle.score_pst.specs.Pst.{pstOf, pstTable}

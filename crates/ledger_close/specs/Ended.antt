@@ -5,9 +5,8 @@ use Prim.Native.Nat.{ℕ}
 use lib.Dec.{ltb}
 use lib.IntN.{ℤ}
 use lib.ListN.{length, take}
-use Rattle.chess.specs.Answer.{Answer}
-use Rattle.chess.specs.Refusals.{refusalOf}
-use Rattle.chess.specs.declared.refusal.Refusal.the-variants as R
+use Rattle.refusal.specs.Answer.{Answer, refusalOf}
+use Rattle.refusal.specs.declared.Refusal.the-variants as R
 use Rattle.line_parse.specs.Line.{Line, lineOf}
 use Rattle.ledger_row.specs.Row.{rowBy}
 use Rattle.ledger_row.specs.Promises.{PutsRow, scoreWith}

@@ -1,9 +1,9 @@
 // The row of a line that ends, by a buffer that holds the line's first bytes.
 ghost use Rattle.ledger_close.specs.Ended.{Closes};
 use attack_steps::inner::ROWS;
-use chess::refusal::Refusal;
 use chess::square::Square;
 use ledger_row::Row;
+use refusal::Refusal;
 
 // A line of so many bytes is LONG where the buffer does not hold it whole. The tables of the score are lent.
 pub fn close(

@@ -4,7 +4,7 @@ use mathlib.Core.Path.{_≡_, refl, ap}
 use mathlib.Core.Bool.{Bool}
 use mathlib.Core.List.{List}
 use Prim.Native.Nat.{ℕ}
-use Rattle.chess.proofs.Paper.{one, retract, ofNumber, number-back}
+use Rattle.refusal.proofs.Paper.{one, retract, ofNumber, number-back}
 use Rattle.ledger_feed.specs.Promises.{Came, turned, many, full, came, Starts, Countable, fed, Feeds}
 use Rattle.ledger_feed.specs.declared.State.{State}
 use Rattle.ledger_feed.specs.declared.Fed.{Fed}
@@ -15,7 +15,7 @@ abbrev fedFrom : Came (State × ℕ) → Fed
 fedFrom (came p) = F.Rows (p .0) (p .1)
 fedFrom full = F.Full
 fedFrom many = F.Many
-fedFrom (turned n) = F.Refused (ofNumber n)
+fedFrom (turned n l) = F.Refused (ofNumber n l)
 
 fed-back : (r : Fed) → fedFrom (fed r) ≡ r
 fed-back (F.Rows state wrote) = refl

@@ -7,10 +7,10 @@ use native.Mathlib.Omega.{arith}
 use lib.Dec.{eqb, leb, ltb}
 use lib.ListN.{length}
 use borrow.Author.Tests.{eq-eqb, ne-eqb, le-leb, lt-leb, ltb-true}
-use Rattle.chess.specs.declared.refusal.Refusal.the-variants as R
+use Rattle.refusal.specs.declared.Refusal.the-variants as R
 use Rattle.text_out.specs.Text.{writtenOf}
 use Rattle.ledger_feed.specs.Machine.{Machine, at, run, ends}
-use Rattle.ledger_feed.specs.Promises.{Came, turned, many, full, came, fit, feedOf, fed, valueOf, lineAfter, textAfter, wrote, Feeds, Ready, Takes}
+use Rattle.ledger_feed.specs.Promises.{Came, turnedBy, many, full, came, fit, feedOf, fed, valueOf, lineAfter, textAfter, wrote, Feeds, Ready, Takes}
 use Rattle.ledger_feed.specs.declared.State.{State}
 use Rattle.ledger_feed.specs.declared.Fed.{Fed}
 use Rattle.ledger_feed.specs.declared.Fed.the-variants as F
@@ -21,7 +21,7 @@ written-nothing out = rw (le-leb 0 (length out) (omega arith))
 
 -- ---- the tests, in order
 module _ {A : Type 0} (line : List ℕ) (lines : ℕ) (room : Bool) (a : A) where
-  pub fit-shape : (length line ≡ 256 → ⊥) → fit line lines room a ≡ turned 1
+  pub fit-shape : (length line ≡ 256 → ⊥) → fit line lines room a ≡ turnedBy R.Shape
   fit-shape n = rw (ne-eqb (length line) 256 n)
 
   pub fit-many : length line ≡ 256 → ltb lines (2 ^ 64) ≡ false → fit line lines room a ≡ many
@@ -56,7 +56,7 @@ module _ (state : State) (line chunk out : List ℕ) where
 
   pub feed-shape : (length line ≡ 256 → ⊥) → Feeds state line chunk out (F.Refused R.Shape) line out
   unfolding lines room m
-  feed-shape n = unchanged (F.Refused R.Shape) (turned 1) (fit-shape line lines room m n) refl refl refl refl
+  feed-shape n = unchanged (F.Refused R.Shape) (turnedBy R.Shape) (fit-shape line lines room m n) refl refl refl refl
 
   module _ (size : length line ≡ 256) where
     pub feed-many : ltb (state .loaded + state .refused + ends chunk) (2 ^ 64) ≡ false → Feeds state line chunk out F.Many line out

@@ -5,7 +5,7 @@ use Prim.Native.Nat.{ℕ, _+_, _-_}
 use Prim.Native.Char.{code}
 use lib.Dec.{eqb, ltb}
 use lib.ListN.{set}
-use Rattle.chess.specs.Answer.{Answer}
+use Rattle.refusal.specs.Answer.{Answer}
 use Rattle.text_in.specs.Text.{cr}
 use Rattle.line_parse.specs.Line.{Line}
 use Rattle.ledger_row.specs.Row.{rowOf, isLoaded}

@@ -5,8 +5,9 @@ use mathlib.Core.List.{List, []}
 use Prim.Native.Nat.{ℕ, _+_, _*_, _^_, _≤_, _<_}
 use lib.Dec.{eqb, leb, ltb}
 use lib.ListN.{length}
-use Rattle.chess.specs.Refusals.{numberOf}
-use Rattle.chess.specs.declared.refusal.Refusal.the-variants as R
+use Rattle.refusal.specs.Refusals.{numberOf, besideOf}
+use Rattle.refusal.specs.declared.Refusal.{Refusal}
+use Rattle.refusal.specs.declared.Refusal.the-variants as R
 use Rattle.text_out.specs.Text.{writtenOf}
 use Rattle.ledger_feed.specs.Machine.{Machine, at, run, ends}
 use Rattle.ledger_feed.specs.declared.State.{State}
@@ -21,16 +22,19 @@ Starts r = r ≡ record { held = 0; cr = false; loaded = 0; refused = 0 }
 abbrev pub Countable : ℕ → ℕ → ℕ → Bool → Type 0
 Countable loaded others more r = r ≡ ltb (loaded + others + more) (2 ^ 64)
 
--- what a call comes to: a refusal's number; counts that would pass 2^64 − 1; too little room; or what it gives
+-- what a call comes to: a refusal's number with the values beside it; counts that would pass 2^64 − 1; too little room; or what it gives
 pub data Came (A : Type 0) : Type 0 where
-  turned : ℕ → Came A
+  turned : ℕ → List ℕ → Came A
   many full : Came A
   came : A → Came A
+
+abbrev pub turnedBy : {A : Type 0} → Refusal → Came A
+turnedBy r = turned (numberOf r) (besideOf r)
 
 -- SHAPE for a line buffer that has not 256 bytes, then the counts, then the room
 abbrev pub fit : {A : Type 0} → List ℕ → ℕ → Bool → A → Came A
 fit line lines room a =
-    cond (eqb (length line) 256) (cond (ltb lines (2 ^ 64)) (cond room (came a) full) many) (turned (numberOf R.Shape))
+    cond (eqb (length line) 256) (cond (ltb lines (2 ^ 64)) (cond room (came a) full) many) (turnedBy R.Shape)
 
 -- ---- feed: 32 bytes of room for each line that ends in the chunk
 abbrev pub feedOf : State → List ℕ → List ℕ → List ℕ → Came Machine
@@ -42,34 +46,34 @@ abbrev pub fed : Fed → Came (State × ℕ)
 fed (F.Rows state wrote) = came (state, wrote)
 fed F.Full = full
 fed F.Many = many
-fed (F.Refused r) = turned (numberOf r)
+fed (F.Refused r) = turnedBy r
 
 abbrev pub stateOf : Machine → State
 stateOf m = record { held = m .held; cr = m .cr; loaded = m .loaded; refused = m .refused }
 
 abbrev pub valueOf : Came Machine → Came (State × ℕ)
 valueOf (came m) = came (stateOf m, length (m .text))
-valueOf (turned n) = turned n
+valueOf (turned n l) = turned n l
 valueOf many = many
 valueOf full = full
 
 -- what stands in lent memory afterwards: as it was, unless rows are written
 abbrev pub lineAfter : Came Machine → List ℕ → List ℕ
 lineAfter (came m) old = m .line
-lineAfter (turned n) old = old
+lineAfter (turned n l) old = old
 lineAfter many old = old
 lineAfter full old = old
 
 abbrev pub textAfter : Came Machine → List ℕ
 textAfter (came m) = m .text
-textAfter (turned n) = []
+textAfter (turned n l) = []
 textAfter many = []
 textAfter full = []
 
 -- how many bytes of a buffer an answer speaks of
 abbrev pub wrote : Came (State × ℕ) → ℕ
 wrote (came p) = p .1
-wrote (turned n) = 0
+wrote (turned n l) = 0
 wrote many = 0
 wrote full = 0
 

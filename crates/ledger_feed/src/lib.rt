@@ -8,8 +8,8 @@ ghost use Rattle.score_pst.specs.Pst.{pstTable};
 ghost use Rattle.ledger_feed.specs.Machine.{ends as endsOf, keptByte, oneMore, bareOf, tally as tallyOf};
 ghost use Rattle.ledger_feed.specs.Promises.{Starts, Countable, Feeds, Made, Ready, Takes};
 use attack_steps::inner::ROWS;
-use chess::refusal::Refusal;
 use chess::square::Square;
+use refusal::Refusal;
 
 // The bytes of a line that are kept, which is as many as a line may have.
 pub const LINE: usize = 256;

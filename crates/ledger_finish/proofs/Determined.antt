@@ -3,7 +3,7 @@
 use mathlib.Core.Path.{_≡_, refl, ap}
 use mathlib.Core.List.{List}
 use Prim.Native.Nat.{ℕ}
-use Rattle.chess.proofs.Paper.{one, retract, ofNumber, number-back}
+use Rattle.refusal.proofs.Paper.{one, retract, ofNumber, number-back}
 use Rattle.ledger_feed.specs.Promises.{Came, turned, many, full, came}
 use Rattle.ledger_feed.specs.declared.State.{State}
 use Rattle.ledger_finish.specs.Promises.{finishPaper, Finishes}
@@ -15,7 +15,7 @@ abbrev finishedFrom : Came ℕ → Finished
 finishedFrom (came n) = E.Rows n
 finishedFrom full = E.Full
 finishedFrom many = E.Many
-finishedFrom (turned n) = E.Refused (ofNumber n)
+finishedFrom (turned n l) = E.Refused (ofNumber n l)
 
 finished-back : (r : Finished) → finishedFrom (finishPaper r) ≡ r
 finished-back (E.Rows n) = refl

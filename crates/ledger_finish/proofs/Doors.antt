@@ -8,7 +8,7 @@ use native.Mathlib.Omega.{arith}
 use lib.Dec.{ltb}
 use lib.ListN.{length, length-append}
 use borrow.Author.Tests.{lt-ltb, le-ltb, leb-true}
-use Rattle.chess.specs.declared.refusal.Refusal.the-variants as R
+use Rattle.refusal.specs.declared.Refusal.the-variants as R
 use Rattle.ledger_row.specs.Row.{rowOf, isLoaded}
 use Rattle.text_out.specs.Text.{Puts, Adds, place, placeOf, writtenOf, roomFor}
 use Rattle.text_out.specs.declared.Placed.{Placed}
@@ -19,7 +19,7 @@ use Rattle.ledger_totals.proofs.Fits.{fits-last}
 use Rattle.ledger_close.specs.Ended.{saidOf}
 use Rattle.ledger_close.proofs.Closed.{said-32}
 use Rattle.ledger_feed.specs.Machine.{Machine, at, close, tally}
-use Rattle.ledger_feed.specs.Promises.{Came, turned, many, full, came}
+use Rattle.ledger_feed.specs.Promises.{Came, turnedBy, many, full, came}
 use Rattle.ledger_feed.specs.declared.State.{State}
 use Rattle.ledger_feed.proofs.Counted.{tally-both}
 use Rattle.ledger_feed.proofs.Doors.{written-nothing, fit-shape, fit-many, fit-full, fit-came}
@@ -98,7 +98,7 @@ module _ (state : State) (line out : List ℕ) where
 
   pub finish-shape : (length line ≡ 256 → ⊥) → Finishes state line out (E.Refused R.Shape) out
   unfolding last
-  finish-shape n = silent (E.Refused R.Shape) (turned 1) (fit-shape line (lastLines state) (roomFor out 0 last) last n) refl refl refl out refl
+  finish-shape n = silent (E.Refused R.Shape) (turnedBy R.Shape) (fit-shape line (lastLines state) (roomFor out 0 last) last n) refl refl refl out refl
 
   module _ (size : length line ≡ 256) where
     pub finish-many : ltb (lastLines state) (2 ^ 64) ≡ false → Finishes state line out E.Many out

@@ -5,10 +5,9 @@ use mathlib.Core.List.{List, []}
 use Prim.Native.Nat.{ℕ, _+_, _≤_}
 use lib.Dec.{ltb}
 use lib.ListN.{length}
-use Rattle.chess.specs.Refusals.{numberOf}
 use Rattle.text_out.specs.Text.{writtenOf, roomFor}
 use Rattle.ledger_feed.specs.Machine.{at}
-use Rattle.ledger_feed.specs.Promises.{Came, turned, many, full, came, fit}
+use Rattle.ledger_feed.specs.Promises.{Came, turned, turnedBy, many, full, came, fit}
 use Rattle.ledger_feed.specs.declared.State.{State}
 use Rattle.ledger_finish.specs.Last.{finished}
 use Rattle.ledger_finish.specs.declared.Finished.{Finished}
@@ -31,23 +30,23 @@ abbrev pub finishPaper : Finished → Came ℕ
 finishPaper (E.Rows wrote) = came wrote
 finishPaper E.Full = full
 finishPaper E.Many = many
-finishPaper (E.Refused r) = turned (numberOf r)
+finishPaper (E.Refused r) = turnedBy r
 
 abbrev pub lengthOf : Came (List ℕ) → Came ℕ
 lengthOf (came text) = came (length text)
-lengthOf (turned n) = turned n
+lengthOf (turned n l) = turned n l
 lengthOf many = many
 lengthOf full = full
 
 abbrev pub lastText : Came (List ℕ) → List ℕ
 lastText (came text) = text
-lastText (turned n) = []
+lastText (turned n l) = []
 lastText many = []
 lastText full = []
 
 abbrev pub lastWrote : Came ℕ → ℕ
 lastWrote (came n) = n
-lastWrote (turned n) = 0
+lastWrote (turned n l) = 0
 lastWrote many = 0
 lastWrote full = 0
 

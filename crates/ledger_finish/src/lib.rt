@@ -7,8 +7,8 @@ ghost use Rattle.text_out.specs.Text.{Adds};
 ghost use Rattle.ledger_feed.specs.Machine.{at};
 ghost use Rattle.ledger_finish.specs.Last.{finished};
 ghost use Rattle.ledger_finish.specs.Promises.{unfinished, lastLines, Finishes};
-use chess::refusal::Refusal;
 use ledger_feed::State;
+use refusal::Refusal;
 use text_out::Placed;
 
 // The room that a last line's row and the totals take at most.

@@ -3,10 +3,10 @@ use mathlib.Core.Path.{_≡_}
 use mathlib.Core.List.{List}
 use Prim.Native.Nat.{ℕ}
 use lib.IntN.{ℤ}
-use Rattle.chess.specs.Answer.{Answer}
-use Rattle.chess.specs.Refusals.{numberOf}
-use Rattle.chess.specs.declared.refusal.Refusal.{Refusal}
-use Rattle.chess.proofs.Paper.{one}
+use Rattle.refusal.specs.Answer.{Answer}
+use Rattle.refusal.specs.Refusals.{numberOf}
+use Rattle.refusal.specs.declared.Refusal.{Refusal}
+use Rattle.refusal.proofs.Paper.{one}
 use Rattle.line_parse.specs.Line.{Line, lineOf}
 use Rattle.text_out.specs.declared.Placed.{Placed}
 use Rattle.text_out.proofs.Determined.{put}

@@ -5,7 +5,7 @@ use Prim.Native.Nat.{ℕ}
 use Prim.Native.String.{String}
 use lib.IntN.{negsuc}
 use Rattle.laws.specs.Tables.{tabulate}
-use Rattle.chess.specs.Answer.{given, refused}
+use Rattle.refusal.specs.Answer.{given, refused}
 use Rattle.text_in.specs.Text.{text, every, holds, before, after, without, withoutLast, trim, placeIn}
 use Rattle.line_ranks.specs.Ranks.{areRanks, stacked}
 use Rattle.line_parse.specs.Line.{fieldsSay, lineOf}

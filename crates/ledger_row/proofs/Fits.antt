@@ -7,7 +7,7 @@ use lib.ListN.{length, length-append}
 use Rattle.text_out.specs.Text.{decimalOf, signedOf}
 use Rattle.text_out.proofs.Spelled.{length-decimal}
 use Rattle.text_out.proofs.Added.{length-20}
-use Rattle.chess.specs.Answer.{Answer, given, refused}
+use Rattle.refusal.specs.Answer.{Answer, given, refused}
 use Rattle.text_in.specs.Text.{text}
 use Rattle.score_verdict.specs.Verdict.{lost, won, drawn, none}
 use Rattle.score.specs.Score.{Outcome, verdict, score}

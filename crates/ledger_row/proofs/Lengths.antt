@@ -9,9 +9,11 @@ use lib.Dec.{ltb, leb}
 use lib.IntN.{ℤ, pos, negsuc}
 use lib.ListN.{length, length-append}
 use borrow.Author.Tests.{ltb-true, lt-ltb}
-use Rattle.chess.specs.Answer.{Answer, given, refused, orRefuse}
-use Rattle.chess.specs.Refusals.{numberOf}
-use Rattle.chess.specs.declared.refusal.Refusal.the-variants as R
+use Rattle.refusal.specs.Answer.{Answer, given, refused, orRefuse}
+use Rattle.refusal.specs.Refusals.{numberOf}
+use Rattle.refusal.specs.declared.Refusal.{Refusal}
+use Rattle.refusal.specs.declared.Refusal.the-variants as R
+use Rattle.refusal.proofs.Paper.{number-small}
 use Rattle.position_boards.specs.Boards.{bitboardsOf}
 use Rattle.text_in.specs.Text.{text, semicolon, isText, every, holds}
 use Rattle.line_ranks.specs.Ranks.{areEightRanks}
@@ -52,23 +54,23 @@ shown-6 (given (score z)) h = length-short z (h z refl)
 shown-6 (refused n v) h = omega arith
 
 -- ---- a line's refusals have two digits at most
-test-small : {A : Type 0} (holds : Bool) (number n : ℕ) (v : List ℕ) (rest : Answer A) → number < 100 → (refused n v ≡ rest → n < 100) → refused n v ≡ orRefuse holds number rest → n < 100
-test-small true number n v rest h k e = k e
-test-small false number n v rest h k e = let q : n ≡ number = cc in omega arith
+test-small : {A : Type 0} (holds : Bool) (r : Refusal) (n : ℕ) (v : List ℕ) (rest : Answer A) → (refused n v ≡ rest → n < 100) → refused n v ≡ orRefuse holds r rest → n < 100
+test-small true r n v rest k e = k e
+test-small false r n v rest k e = let q : n ≡ numberOf r = cc in omega (arith, number-small r)
 
 fields-small : (field result : List ℕ) (n : ℕ) (v : List ℕ) → refused n v ≡ fieldsSay field result → n < 100
 unfolding fieldsSay
 fields-small field result n v =
-    test-small (areEightRanks (ranksOf field)) 11 n v _ (omega arith)
-    (test-small (isOneOf sides (sideWord field)) 12 n v _ (omega arith)
-    (test-small (isOneOf results result) 13 n v _ (omega arith) (λ e. absurd (let k : _≡_ {A = ℕ} 0 1 = cc in omega arith))))
+    test-small (areEightRanks (ranksOf field)) R.Place n v _
+    (test-small (isOneOf sides (sideWord field)) R.Side n v _
+    (test-small (isOneOf results result) R.Result n v _ (λ e. absurd (let k : _≡_ {A = ℕ} 0 1 = cc in omega arith))))
 
 line-small : (line : List ℕ) (n : ℕ) (v : List ℕ) → refused n v ≡ lineOf line → n < 100
 unfolding lineOf
 line-small line n v =
-    test-small (leb (length line) 256) 8 n v _ (omega arith)
-    (test-small (every isText line) 9 n v _ (omega arith)
-    (test-small (holds semicolon line) 10 n v _ (omega arith) (fields-small (positionField line) (resultField line) n v)))
+    test-small (leb (length line) 256) R.Long n v _
+    (test-small (every isText line) R.Byte n v _
+    (test-small (holds semicolon line) R.Field n v _ (fields-small (positionField line) (resultField line) n v)))
 
 -- ---- the rows
 pub refused-32 : (number n : ℕ) → n < 100 → length (refusedRow number n) ≤ 32

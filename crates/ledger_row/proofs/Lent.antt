@@ -3,7 +3,7 @@ use mathlib.Core.Path.{_≡_, refl, ap, ap₂, sym, _∙_}
 use mathlib.Core.List.{List}
 use Prim.Native.Nat.{ℕ}
 use lib.IntN.{ℤ}
-use Rattle.chess.specs.Answer.{Answer, given, refused}
+use Rattle.refusal.specs.Answer.{Answer, given, refused}
 use Rattle.position_boards.specs.Boards.{bitboardsOf}
 use Rattle.attack_steps.specs.Steps.{stepTables}
 use Rattle.score_pst.specs.Pst.{pstTable}

@@ -6,10 +6,10 @@ use Prim.Native.Nat.{ℕ, suc, _+_, _/_, _≤_, _<_}
 use native.Mathlib.Omega.{arith}
 use lib.IntN.{ℤ, pos, negsuc}
 use lib.ListN.{length, length-append}
-use Rattle.chess.specs.Answer.{Answer, given, refused}
-use Rattle.chess.specs.Refusals.{numberOf, refusalOf}
-use Rattle.chess.specs.declared.refusal.Refusal.{Refusal}
-use Rattle.chess.proofs.Answers.{given-not}
+use Rattle.refusal.specs.Answer.{Answer, given, refused, refusalOf}
+use Rattle.refusal.specs.Refusals.{numberOf}
+use Rattle.refusal.specs.declared.Refusal.{Refusal}
+use Rattle.refusal.proofs.Answers.{given-not}
 use Rattle.position_boards.specs.Boards.{bitboardsOf}
 use Rattle.position.specs.declared.State.{State}
 use Rattle.line_ranks.specs.Promises.{bare}

@@ -4,9 +4,9 @@ use mathlib.Core.Bool.{true}
 use mathlib.Core.List.{List}
 use Prim.Native.Nat.{ℕ}
 use lib.IntN.{ℤ}
-use Rattle.chess.specs.Answer.{Answer}
-use Rattle.chess.specs.Refusals.{numberOf}
-use Rattle.chess.specs.declared.refusal.Refusal.{Refusal}
+use Rattle.refusal.specs.Answer.{Answer}
+use Rattle.refusal.specs.Refusals.{numberOf}
+use Rattle.refusal.specs.declared.Refusal.{Refusal}
 use Rattle.attack.specs.Lent.{attacksWith}
 use Rattle.score_pst.specs.Pst.{weightIn}
 use Rattle.line_parse.specs.Line.{Line, lineOf}

@@ -2,7 +2,7 @@
 use mathlib.Core.Bool.{Bool, true, false}
 use mathlib.Core.List.{List, [], _++_}
 use Prim.Native.Nat.{ℕ}
-use Rattle.chess.specs.Answer.{Answer, given, refused}
+use Rattle.refusal.specs.Answer.{Answer, given, refused}
 use Rattle.position_boards.specs.Boards.{bitboardsOf}
 use Rattle.text_in.specs.Text.{text}
 use Rattle.line_parse.specs.Line.{Line}

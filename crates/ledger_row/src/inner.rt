@@ -12,9 +12,9 @@ use crate::words::put;
 use crate::words::shown;
 use crate::words::spaced;
 use attack_steps::inner::ROWS;
-use chess::refusal::Refusal;
 use chess::square::Square;
 use line_parse::Read;
+use refusal::Refusal;
 use score::Scored;
 use text_out::Placed;
 

@@ -8,7 +8,7 @@ use native.Mathlib.Omega.{arith}
 use lib.Dec.{ltb, leb, eqb}
 use lib.ListN.{length, take}
 use borrow.Author.Tests.{lt-ltb, le-leb}
-use Rattle.chess.specs.Answer.{Answer}
+use Rattle.refusal.specs.Answer.{Answer}
 use Rattle.line_parse.specs.Line.{Line}
 use Rattle.ledger_row.specs.Row.{rowOf, isLoaded}
 use Rattle.text_out.specs.Text.{writtenOf, roomFor}

@@ -8,7 +8,7 @@ use native.Mathlib.Omega.{arith}
 use lib.Dec.{ltb, eqb}
 use lib.ListN.{length}
 use borrow.Author.Tests.{lt-ltb, le-ltb}
-use Rattle.chess.specs.Answer.{Answer}
+use Rattle.refusal.specs.Answer.{Answer}
 use Rattle.line_parse.specs.Line.{Line, lineOf}
 use Rattle.ledger_row.specs.Row.{rowOf, isLoaded}
 use Rattle.ledger_totals.specs.Totals.{lastRow}

@@ -8,8 +8,8 @@ use lib.Dec.{ltb, leb, eqb}
 use lib.ListN.{length, take, set, length-append, length-take}
 use lib.Seq.{take-suc-set, take-set-le, take-append-le, take-all, take-length}
 use borrow.Author.Tests.{lt-ltb, ltb-true, ltb-false, lt-leb}
-use Rattle.chess.specs.Refusals.{refusalOf}
-use Rattle.chess.specs.declared.refusal.Refusal.the-variants as R
+use Rattle.refusal.specs.Answer.{refusalOf}
+use Rattle.refusal.specs.declared.Refusal.the-variants as R
 use Rattle.line_parse.specs.Line.{lineOf}
 use Rattle.ledger_whole.specs.Ledger.{endsInCR, withoutCR}
 use Rattle.ledger_feed.proofs.Turn.{kept-size}

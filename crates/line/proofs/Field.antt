@@ -5,8 +5,11 @@ use mathlib.Core.Bool.{Bool, true, false, true≢false}
 use mathlib.Core.List.{List, []}
 use Prim.Native.Nat.{ℕ, _≤_}
 use native.Mathlib.Omega.{arith}
-use Rattle.chess.specs.Answer.{Answer, given, refused, orRefuse}
-use Rattle.chess.proofs.Answers.{given-not}
+use Rattle.refusal.specs.Answer.{Answer, given, refused, orRefuse}
+use Rattle.refusal.specs.Refusals.{numberOf, besideOf}
+use Rattle.refusal.specs.declared.Refusal.{Refusal}
+use Rattle.refusal.specs.declared.Refusal.the-variants as R
+use Rattle.refusal.proofs.Answers.{given-not}
 use lib.Dec.{leb}
 use lib.ListN.{length}
 use Rattle.text_in.specs.Text.{semicolon, space, isText, every, holds, before, placeIn}
@@ -47,24 +50,26 @@ empty-exactly line = (λ e. to (lineOf line) refl e, λ h. ap (λ (a : Answer Li
 abbrev InRange : Answer Line → Type 0
 InRange a = (n : ℕ) (v : List ℕ) → a ≡ refused n v → (8 ≤ n) × (n ≤ 13) × (v ≡ [])
 
-test : (t : Bool) (k : ℕ) (a : Answer Line) → 8 ≤ k → k ≤ 13 → InRange a → InRange (orRefuse t k a)
-test true k a l u h n v e = h n v e
-test false k a l u h n v e = let q : k ≡ n = cc in (omega arith, omega arith, cc)
+test : (t : Bool) (r : Refusal) (a : Answer Line) → 8 ≤ numberOf r → numberOf r ≤ 13 → besideOf r ≡ [] → InRange a → InRange (orRefuse t r a)
+test true r a l u b h n v e = h n v e
+test false r a l u b h n v e = let q : numberOf r ≡ n = cc in (omega arith, omega arith, cc)
 
 fields-refused-by : (field result : List ℕ) → InRange (fieldsSay field result)
 unfolding fieldsSay
 fields-refused-by field result =
     let x : Line = record { state = record { side = placeIn sides (sideWord field) }; half = placeIn results result; board = boardOf (ranksOf field) } in
-    let c : Answer Line = orRefuse (isOneOf results result) 13 (given x) in
-    let b : Answer Line = orRefuse (isOneOf sides (sideWord field)) 12 c in
-    test (areEightRanks (ranksOf field)) 11 b (omega arith) (omega arith)
-    (test (isOneOf sides (sideWord field)) 12 c (omega arith) (omega arith) (test (isOneOf results result) 13 (given x) (omega arith) (omega arith) (λ n v e. given-not e)))
+    let c : Answer Line = orRefuse (isOneOf results result) R.Result (given x) in
+    let b : Answer Line = orRefuse (isOneOf sides (sideWord field)) R.Side c in
+    test (areEightRanks (ranksOf field)) R.Place b (omega arith) (omega arith) refl
+    (test (isOneOf sides (sideWord field)) R.Side c (omega arith) (omega arith) refl
+    (test (isOneOf results result) R.Result (given x) (omega arith) (omega arith) refl (λ n v e. given-not e)))
 
 pub refused-by : (line : List ℕ) → InRange (lineOf line)
 unfolding lineOf
 refused-by line =
     let a : Answer Line = fieldsSay (positionField line) (resultField line) in
-    let b : Answer Line = orRefuse (holds semicolon line) 10 a in
-    let c : Answer Line = orRefuse (every isText line) 9 b in
-    test (leb (length line) 256) 8 c (omega arith) (omega arith)
-    (test (every isText line) 9 b (omega arith) (omega arith) (test (holds semicolon line) 10 a (omega arith) (omega arith) (fields-refused-by (positionField line) (resultField line))))
+    let b : Answer Line = orRefuse (holds semicolon line) R.Field a in
+    let c : Answer Line = orRefuse (every isText line) R.Byte b in
+    test (leb (length line) 256) R.Long c (omega arith) (omega arith) refl
+    (test (every isText line) R.Byte b (omega arith) (omega arith) refl
+    (test (holds semicolon line) R.Field a (omega arith) (omega arith) refl (fields-refused-by (positionField line) (resultField line))))

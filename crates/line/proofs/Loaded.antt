@@ -10,7 +10,7 @@ use Rattle.laws.specs.Tests.{allBelow}
 use Rattle.laws.proofs.Tests.{all-of}
 use Rattle.laws.proofs.Truth.{T-true, or-r}
 use Rattle.chess.specs.Codes.{isPiece}
-use Rattle.chess.specs.Answer.{Answer, given}
+use Rattle.refusal.specs.Answer.{Answer, given}
 use Rattle.position_consistent.specs.Consistent.{consistent}
 use Rattle.position.specs.Checked.{checked}
 use Rattle.position_boards.specs.Boards.{isByte, coded, bitboardsOf}

@@ -7,9 +7,9 @@ use native.Mathlib.Omega.{arith}
 use lib.Dec.{ltb}
 use lib.ListN.{length}
 use borrow.Author.Tests.{lt-leb, le-leb, lt-ltb, le-ltb}
-use Rattle.chess.specs.Answer.{refused}
-use Rattle.chess.specs.declared.refusal.Refusal.{Refusal}
-use Rattle.chess.specs.declared.refusal.Refusal.the-variants as R
+use Rattle.refusal.specs.Answer.{refused}
+use Rattle.refusal.specs.declared.Refusal.{Refusal}
+use Rattle.refusal.specs.declared.Refusal.the-variants as R
 use Rattle.position.specs.declared.State.{State}
 use Rattle.text_in.specs.Text.{semicolon, isText, every, holds, before, placeIn}
 use Rattle.text_in.proofs.Parts.{before-le, holds-is}

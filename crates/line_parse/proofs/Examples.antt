@@ -5,7 +5,7 @@ use mathlib.Core.List.{List, [], _∷_, _++_, map}
 use Prim.Native.Nat.{ℕ, _+_, _*_}
 use Prim.Native.String.{String}
 use lib.ListN.{length, replicate}
-use Rattle.chess.specs.Answer.{Answer, given, refused}
+use Rattle.refusal.specs.Answer.{Answer, given, refused}
 use Rattle.text_in.specs.Text.{text, every, holds, before, after, without, trim, placeIn}
 use Rattle.line_ranks.specs.Ranks.{areRanks, stacked}
 use Rattle.line_parse.specs.Line.{Line, fieldsSay, lineOf}

@@ -6,10 +6,9 @@ use Prim.Native.Nat.{ℕ, _<_, _≤_}
 use lib.Dec.{leb, ltb}
 use lib.ListN.{length}
 use borrow.Author.Tests.{ltb-true}
-use Rattle.chess.specs.Answer.{Answer, given, orRefuse}
-use Rattle.chess.specs.Refusals.{numberOf}
-use Rattle.chess.specs.declared.refusal.Refusal.the-variants as R
-use Rattle.chess.proofs.Answers.{passed}
+use Rattle.refusal.specs.Answer.{Answer, given, orRefuse}
+use Rattle.refusal.specs.declared.Refusal.the-variants as R
+use Rattle.refusal.proofs.Answers.{passed}
 use Rattle.position.specs.declared.State.{State}
 use Rattle.text_in.specs.Text.{semicolon, isText, every, holds, placeIn}
 use Rattle.line_ranks.specs.Ranks.{areEightRanks, boardOf}
@@ -26,11 +25,11 @@ spells : (field result : List ℕ) (l : Line) → fieldsSay field result ≡ giv
 unfolding fieldsSay
 spells field result l e =
     let x : Line = record { state = record { side = placeIn sides (sideWord field) }; half = placeIn results result; board = boardOf (ranksOf field) } in
-    let c : Answer Line = orRefuse (isOneOf results result) (numberOf R.Result) (given x) in
-    let b : Answer Line = orRefuse (isOneOf sides (sideWord field)) (numberOf R.Side) c in
-    let p = passed (areEightRanks (ranksOf field)) (numberOf R.Place) l b e in
-    let q = passed (isOneOf sides (sideWord field)) (numberOf R.Side) l c (p .1) in
-    let r = passed (isOneOf results result) (numberOf R.Result) l (given x) (q .1) in
+    let c : Answer Line = orRefuse (isOneOf results result) R.Result (given x) in
+    let b : Answer Line = orRefuse (isOneOf sides (sideWord field)) R.Side c in
+    let p = passed (areEightRanks (ranksOf field)) R.Place l b e in
+    let q = passed (isOneOf sides (sideWord field)) R.Side l c (p .1) in
+    let r = passed (isOneOf results result) R.Result l (given x) (q .1) in
     let same : x ≡ l = cc (r .1) in
     record {
       ranks = p .0;
@@ -43,9 +42,9 @@ pub given-spells : (line : List ℕ) (l : Line) → lineOf line ≡ given l → 
 unfolding lineOf
 given-spells line l e =
     let a : Answer Line = fieldsSay (positionField line) (resultField line) in
-    let b : Answer Line = orRefuse (holds semicolon line) (numberOf R.Field) a in
-    let c : Answer Line = orRefuse (every isText line) (numberOf R.Byte) b in
+    let b : Answer Line = orRefuse (holds semicolon line) R.Field a in
+    let c : Answer Line = orRefuse (every isText line) R.Byte b in
     spells (positionField line) (resultField line) l
-    (passed (holds semicolon line) (numberOf R.Field) l a
-    (passed (every isText line) (numberOf R.Byte) l b
-    (passed (leb (length line) 256) (numberOf R.Long) l c e .1) .1) .1)
+    (passed (holds semicolon line) R.Field l a
+    (passed (every isText line) R.Byte l b
+    (passed (leb (length line) 256) R.Long l c e .1) .1) .1)

@@ -5,9 +5,8 @@ use mathlib.Core.List.{List, [], _∷_}
 use Prim.Native.Nat.{ℕ}
 use lib.Dec.{leb, ltb}
 use lib.ListN.{length}
-use Rattle.chess.specs.Answer.{Answer, given, refused, orRefuse}
-use Rattle.chess.specs.Refusals.{numberOf}
-use Rattle.chess.specs.declared.refusal.Refusal.the-variants as R
+use Rattle.refusal.specs.Answer.{Answer, given, orRefuse}
+use Rattle.refusal.specs.declared.Refusal.the-variants as R
 use Rattle.position.specs.declared.State.{State}
 use Rattle.text_in.specs.Text.{text, space, semicolon, isText, isSpace, every, holds, before, after, without, trim, placeIn}
 use Rattle.line_ranks.specs.Ranks.{areEightRanks, boardOf}
@@ -60,15 +59,15 @@ pub record Line : Type 0 where
 -- what a position field and a result say: PLACE "bad ranks", SIDE "bad side", RESULT "unknown result"
 unfoldable pub fieldsSay : List ℕ → List ℕ → Answer Line
 fieldsSay field result =
-    orRefuse (areEightRanks (ranksOf field)) (numberOf R.Place)
-    (orRefuse (isOneOf sides (sideWord field)) (numberOf R.Side)
-    (orRefuse (isOneOf results result) (numberOf R.Result)
+    orRefuse (areEightRanks (ranksOf field)) R.Place
+    (orRefuse (isOneOf sides (sideWord field)) R.Side
+    (orRefuse (isOneOf results result) R.Result
     (given (record { state = record { side = placeIn sides (sideWord field) }; half = placeIn results result; board = boardOf (ranksOf field) }))))
 
 -- LONG "line over 256 bytes", BYTE "a byte other than 32..126, tab and CR", FIELD "no `;`", then its fields: "First in order wins."
 unfoldable pub lineOf : List ℕ → Answer Line
 lineOf line =
-    orRefuse (leb (length line) 256) (numberOf R.Long)
-    (orRefuse (every isText line) (numberOf R.Byte)
-    (orRefuse (holds semicolon line) (numberOf R.Field)
+    orRefuse (leb (length line) 256) R.Long
+    (orRefuse (every isText line) R.Byte
+    (orRefuse (holds semicolon line) R.Field
     (fieldsSay (positionField line) (resultField line))))

@@ -2,9 +2,8 @@
 use mathlib.Core.Path.{_≡_}
 use mathlib.Core.List.{List}
 use Prim.Native.Nat.{ℕ}
-use Rattle.chess.specs.Answer.{Answer, given, refused}
-use Rattle.chess.specs.Refusals.{refusalOf}
-use Rattle.chess.specs.declared.refusal.Refusal.{Refusal}
+use Rattle.refusal.specs.Answer.{Answer, given, refused, refusalOf}
+use Rattle.refusal.specs.declared.Refusal.{Refusal}
 use Rattle.position.specs.declared.State.{State}
 use Rattle.line_ranks.specs.Promises.{bare}
 use Rattle.line_parse.specs.Line.{Line}

@@ -5,10 +5,10 @@ ghost use Rattle.line_parse.specs.Line.{sides, results, wordOf, fieldsSa
 ghost use Rattle.line_parse.specs.Promises.{Says, Turned};
 use chess::color::Color;
 use chess::piece::Piece;
-use chess::refusal::Refusal;
 use chess::square::Square;
 use line_ranks::inner::place;
 use position::State;
+use refusal::Refusal;
 use text_in::inner::find;
 use text_in::inner::is;
 use text_in::inner::is_text;

@@ -4,7 +4,7 @@ use Prim.Native.Nat.{ℕ}
 use Rattle.chess.specs.declared.color.Color.{Color}
 use Rattle.chess.specs.declared.kind.Kind.{Kind}
 use Rattle.chess.specs.declared.square.Square.{Square}
-use Rattle.chess.proofs.Paper.{one, retract, readBack, number-back}
+use Rattle.refusal.proofs.Paper.{one, retract, readBack, number-back}
 use Rattle.places.specs.Phases.{NewPhase, PhaseIndex, paper as phase-paper}
 use Rattle.places.specs.Places.{EntryPlace, WeightPlace, EntryOf, EntryIndex, SquareWeightOf, SquareWeightIndex, WeightOf, WeightIndex}
 use Rattle.places.specs.declared.phase.Phase.{Phase}

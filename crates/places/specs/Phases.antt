@@ -1,17 +1,16 @@
 -- Phases (document 01: "2 phases", opening and ending). Definitions only.
 use mathlib.Core.Path.{_≡_}
 use Prim.Native.Nat.{ℕ}
-use Rattle.chess.specs.Answer.{Answer, given, below}
+use Rattle.refusal.specs.Answer.{Answer, given, below, refusalOf}
 use Rattle.chess.specs.Codes.{Same}
-use Rattle.chess.specs.Refusals.{numberOf, refusalOf}
-use Rattle.chess.specs.declared.refusal.Refusal.the-variants as R
+use Rattle.refusal.specs.declared.Refusal.the-variants as R
 use Rattle.places.specs.declared.phase.Phase.{Phase}
 use Rattle.places.specs.declared.phase.Made.{Made}
 use Rattle.places.specs.declared.phase.Made.the-variants.{Is, Refused}
 
 -- a number that is no phase is refused as SHAPE
 abbrev pub madeOf : ℕ → Answer ℕ
-madeOf n = below 2 (numberOf R.Shape) n
+madeOf n = below 2 R.Shape n
 
 abbrev pub paper : Made → Answer ℕ
 paper (Is x) = given (x .0)

@@ -1,6 +1,6 @@
 // A phase of the game: the opening is 0, the ending 1.
 ghost use Rattle.places.specs.Phases.{NewPhase, PhaseIndex};
-use chess::refusal::Refusal;
+use refusal::Refusal;
 
 // The phases as plain numbers.
 pub const OPENING: u8 = 0;

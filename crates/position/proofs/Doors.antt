@@ -7,10 +7,9 @@ use lib.Dec.{eqb, ltb, eqb→eq, ltb→lt}
 use lib.ListN.{length}
 use borrow.Author.Tests.{eq-eqb, ne-eqb, lt-ltb, le-ltb}
 use Rattle.laws.proofs.Truth.{true-T, and-l, and-r}
-use Rattle.chess.specs.Answer.{Answer, given, refused, orRefuse}
-use Rattle.chess.specs.Refusals.{numberOf, refusalOf}
-use Rattle.chess.specs.declared.refusal.Refusal.{Refusal}
-use Rattle.chess.specs.declared.refusal.Refusal.the-variants as R
+use Rattle.refusal.specs.Answer.{Answer, given, refused, orRefuse, refusalOf}
+use Rattle.refusal.specs.declared.Refusal.{Refusal}
+use Rattle.refusal.specs.declared.Refusal.the-variants as R
 use Rattle.position_consistent.specs.Consistent.{consistent}
 use Rattle.position.specs.Checked.{shaped, checked}
 use Rattle.position.specs.Promises.{paper, Checks}
@@ -52,15 +51,15 @@ side-below-2 bbs bytes side e = ltb→lt side 2 (and-r (eqb (length bbs) 14 && e
 module _ {A : Type 0} (bbs bytes : List ℕ) (side : ℕ) (rest : Answer A) where
   pub misshapen : shaped bbs bytes side ≡ false → refusalOf R.Shape ≡ checked bbs bytes side rest
   unfolding checked
-  misshapen e = sym (ap (λ (t : Bool). orRefuse t (numberOf R.Shape) (orRefuse (consistent bbs bytes) (numberOf R.Board) rest)) e)
+  misshapen e = sym (ap (λ (t : Bool). orRefuse t R.Shape (orRefuse (consistent bbs bytes) R.Board rest)) e)
 
   pub inconsistent : shaped bbs bytes side ≡ true → consistent bbs bytes ≡ false → refusalOf R.Board ≡ checked bbs bytes side rest
   unfolding checked
-  inconsistent s e = sym (ap₂ (λ (t u : Bool). orRefuse t (numberOf R.Shape) (orRefuse u (numberOf R.Board) rest)) s e)
+  inconsistent s e = sym (ap₂ (λ (t u : Bool). orRefuse t R.Shape (orRefuse u R.Board rest)) s e)
 
   pub sound : shaped bbs bytes side ≡ true → consistent bbs bytes ≡ true → rest ≡ checked bbs bytes side rest
   unfolding checked
-  sound s e = sym (ap₂ (λ (t u : Bool). orRefuse t (numberOf R.Shape) (orRefuse u (numberOf R.Board) rest)) s e)
+  sound s e = sym (ap₂ (λ (t u : Bool). orRefuse t R.Shape (orRefuse u R.Board rest)) s e)
 
 -- ---- after a call of `check`
 abbrev done : Answer (Unit {0})
@@ -74,7 +73,7 @@ module _ (bbs bytes : List ℕ) (state : State) (r : Checked) (promise : Checks 
   unfolding checked
   fit-both e = go (shaped bbs bytes (state .side)) (consistent bbs bytes) (sym (ap paper e) ∙ promise)
     where
-      go : (s t : Bool) → done ≡ orRefuse s (numberOf R.Shape) (orRefuse t (numberOf R.Board) done) → (s ≡ true) × (t ≡ true)
+      go : (s t : Bool) → done ≡ orRefuse s R.Shape (orRefuse t R.Board done) → (s ≡ true) × (t ≡ true)
       go true true p = (refl, refl)
       go true false p = given-not p
       go false t p = given-not p
@@ -94,7 +93,7 @@ module _ (bbs bytes : List ℕ) (state : State) (r : Checked) (promise : Checks 
   unfolding checked
   pass-on {A} rest q e = go (shaped bbs bytes (state .side)) (consistent bbs bytes) (sym (ap paper e) ∙ promise)
     where
-      go : (s t : Bool) → refusalOf q ≡ orRefuse s (numberOf R.Shape) (orRefuse t (numberOf R.Board) done) → refusalOf q ≡ orRefuse s (numberOf R.Shape) (orRefuse t (numberOf R.Board) rest)
+      go : (s t : Bool) → refusalOf q ≡ orRefuse s R.Shape (orRefuse t R.Board done) → refusalOf q ≡ orRefuse s R.Shape (orRefuse t R.Board rest)
       go true true p = given-not (sym p)
       go true false p = cc
       go false t p = cc

@@ -4,7 +4,7 @@ use mathlib.Core.List.{List, [], _∷_}
 use Prim.Native.Nat.{ℕ}
 use lib.ListN.{set, take}
 use Rattle.laws.specs.Tests.{allBelow}
-use Rattle.chess.specs.Answer.{Answer, given, refused}
+use Rattle.refusal.specs.Answer.{Answer, given, refused}
 use Rattle.bits.specs.Bitboard.{has, some, howMany}
 use Rattle.position_boards.specs.Sound.{boardsWith, ofColour}
 use Rattle.position_boards.proofs.Examples.{startBoards, startBytes}

@@ -4,9 +4,8 @@ use mathlib.Core.List.{List}
 use Prim.Native.Nat.{ℕ}
 use lib.Dec.{eqb, ltb}
 use lib.ListN.{length}
-use Rattle.chess.specs.Answer.{Answer, orRefuse}
-use Rattle.chess.specs.Refusals.{numberOf}
-use Rattle.chess.specs.declared.refusal.Refusal.the-variants as R
+use Rattle.refusal.specs.Answer.{Answer, orRefuse}
+use Rattle.refusal.specs.declared.Refusal.the-variants as R
 use Rattle.position_consistent.specs.Consistent.{consistent}
 
 -- SHAPE: "not 14 bitboards, 64 bytes ..; side .. not 0 or 1"
@@ -15,4 +14,4 @@ shaped bbs bytes side = eqb (length bbs) 14 && eqb (length bytes) 64 && ltb side
 
 -- what comes before every answer about a position: SHAPE, then BOARD, "not consistent"
 unfoldable pub checked : {A : Type 0} → List ℕ → List ℕ → ℕ → Answer A → Answer A
-checked bbs bytes side rest = orRefuse (shaped bbs bytes side) (numberOf R.Shape) (orRefuse (consistent bbs bytes) (numberOf R.Board) rest)
+checked bbs bytes side rest = orRefuse (shaped bbs bytes side) R.Shape (orRefuse (consistent bbs bytes) R.Board rest)

@@ -2,8 +2,7 @@
 use mathlib.Core.Path.{_≡_}
 use mathlib.Core.List.{List}
 use Prim.Native.Nat.{ℕ}
-use Rattle.chess.specs.Answer.{Answer, given}
-use Rattle.chess.specs.Refusals.{refusalOf}
+use Rattle.refusal.specs.Answer.{Answer, given, refusalOf}
 use Rattle.position.specs.Checked.{checked}
 use Rattle.position.specs.declared.State.{State}
 use Rattle.position.specs.declared.Checked.{Checked}

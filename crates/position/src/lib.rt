@@ -3,8 +3,8 @@ ghost use Rattle.position.specs.Promises.{Checks};
 use chess::color::Color;
 use chess::inner::index;
 use chess::piece::Piece;
-use chess::refusal::Refusal;
 use chess::square::Square;
+use refusal::Refusal;
 
 // The part of a position that goes by value.
 pub struct State {

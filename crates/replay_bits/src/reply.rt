@@ -1,5 +1,5 @@
 // What there is to say to a question, and how it is written.
-use chess::refusal::Refusal;
+use refusal::Refusal;
 
 pub(crate) enum Reply {
     Nothing,

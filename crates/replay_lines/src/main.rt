@@ -3,9 +3,9 @@
 ghost use Prim.Native.Nat.{_≤_};
 ghost use lib.ListN.{length};
 use chess::piece::Piece;
-use chess::refusal::Refusal;
 use chess::square::Square;
 use line_parse::Read;
+use refusal::Refusal;
 use text_in::inner::past;
 use text_in::inner::text_before;
 

@@ -2,7 +2,7 @@
 use mathlib.Core.Path.{_≡_}
 use mathlib.Core.List.{List}
 use Prim.Native.Nat.{ℕ}
-use Rattle.chess.proofs.Paper.{one}
+use Rattle.refusal.proofs.Paper.{one}
 use Rattle.replay_question.specs.Promises.{GivesWord, GivesNumbers, GivesPosition}
 
 pub word : (question r q : List ℕ) → GivesWord question r → GivesWord question q → r ≡ q

@@ -1,6 +1,6 @@
 // What is said to a question of traces, on standard output.
-use chess::refusal::Refusal;
 use places::entry::Entry;
+use refusal::Refusal;
 use trace_counts::Trace;
 use trace_double::Doubled;
 

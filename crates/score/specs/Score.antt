@@ -2,8 +2,8 @@
 use mathlib.Core.List.{List}
 use Prim.Native.Nat.{ℕ}
 use lib.IntN.{ℤ}
-use Rattle.chess.specs.Answer.{Answer, given, refused}
-use Rattle.chess.specs.declared.refusal.Refusal.the-variants as R
+use Rattle.refusal.specs.Answer.{Answer, given, refused}
+use Rattle.refusal.specs.declared.Refusal.the-variants as R
 use Rattle.position.specs.Checked.{checked}
 use Rattle.attack.specs.Attacks.{other, attacks}
 use Rattle.score_pst.specs.Pst.{pstOf}

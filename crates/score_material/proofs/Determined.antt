@@ -2,7 +2,7 @@
 use mathlib.Core.Path.{_≡_, refl, ap}
 use mathlib.Core.List.{List}
 use Prim.Native.Nat.{ℕ}
-use Rattle.chess.proofs.Paper.{one, retract, readBack, number-back}
+use Rattle.refusal.proofs.Paper.{one, retract, readBack, number-back}
 use Rattle.position.specs.declared.State.{State}
 use Rattle.score_material.specs.Promises.{material, EvalsMaterial, Numbers, Worth, Pairs}
 use Rattle.score_material.specs.declared.Material.{Material}

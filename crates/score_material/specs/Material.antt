@@ -6,11 +6,10 @@ use lib.Dec.{leb}
 use lib.IntN.{ℤ, pos}
 use Rattle.laws.specs.Sums.{sumN}
 use Rattle.laws.specs.Tables.{tabulate}
-use Rattle.chess.specs.Answer.{Answer, given, orRefuse}
+use Rattle.refusal.specs.Answer.{Answer, given, orRefuse}
 use Rattle.chess.specs.Codes.{isPiece, kindOf}
-use Rattle.chess.specs.Refusals.{numberOf}
 use Rattle.chess.specs.Values.{valueOf}
-use Rattle.chess.specs.declared.refusal.Refusal.the-variants as R
+use Rattle.refusal.specs.declared.Refusal.the-variants as R
 use Rattle.position.specs.Checked.{checked}
 use Rattle.attack.specs.Answers.{withColour}
 use Rattle.score_material.specs.Pieces.{count}
@@ -43,4 +42,4 @@ unfoldable pub materialOf : List ℕ → List ℕ → ℕ → ℕ → Answer ℤ
 unfolding checked worth
 materialOf bbs bytes side colour =
     let total : ℕ = worth bbs colour in
-    withColour colour (checked bbs bytes side (orRefuse (leb total 32767) (numberOf R.Score) (given (pos total))))
+    withColour colour (checked bbs bytes side (orRefuse (leb total 32767) R.Score (given (pos total))))

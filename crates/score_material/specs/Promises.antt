@@ -3,8 +3,7 @@ use mathlib.Core.Path.{_≡_}
 use mathlib.Core.List.{List}
 use Prim.Native.Nat.{ℕ, _*_}
 use lib.IntN.{ℤ}
-use Rattle.chess.specs.Answer.{Answer, given}
-use Rattle.chess.specs.Refusals.{refusalOf}
+use Rattle.refusal.specs.Answer.{Answer, given, refusalOf}
 use Rattle.position.specs.declared.State.{State}
 use Rattle.score_material.specs.Pieces.{count}
 use Rattle.score_material.specs.Material.{worth, pair, pairValue, materialOf}

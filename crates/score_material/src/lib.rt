@@ -3,9 +3,9 @@ ghost use Rattle.score_material.specs.Promises.{EvalsMaterial};
 use chess::color::BLACK;
 use chess::kind::Kind;
 use chess::piece::Piece;
-use chess::refusal::Refusal;
 use position::Checked;
 use position::State;
+use refusal::Refusal;
 
 pub mod inner;
 

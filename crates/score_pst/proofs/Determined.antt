@@ -3,7 +3,7 @@ use mathlib.Core.Path.{_≡_}
 use mathlib.Core.List.{List}
 use Prim.Native.Nat.{ℕ}
 use lib.IntN.{ℤ}
-use Rattle.chess.proofs.Paper.{one}
+use Rattle.refusal.proofs.Paper.{one}
 use Rattle.score_pst.specs.Promises.{Makes, Places, Weighs}
 
 pub table : (r s : List ℤ) → Makes r → Makes s → r ≡ s

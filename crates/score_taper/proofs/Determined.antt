@@ -1,8 +1,8 @@
 -- Each public function is determined by its promise: two results that it allows are equal. Assumes nothing.
 use mathlib.Core.Path.{_≡_, refl}
 use Prim.Native.Nat.{ℕ}
-use Rattle.chess.specs.declared.refusal.Refusal.{Refusal}
-use Rattle.chess.proofs.Paper.{one, retract, readBack}
+use Rattle.refusal.specs.declared.Refusal.{Refusal}
+use Rattle.refusal.proofs.Paper.{one, retract, readBack}
 use Rattle.score_taper.specs.Answers.{points, Scores}
 use Rattle.score_taper.specs.declared.Side.{Side}
 use Rattle.score_taper.specs.declared.Points.{Points}

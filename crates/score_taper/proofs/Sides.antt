@@ -6,10 +6,9 @@ use Prim.Native.Nat.{ℕ, _≤_}
 use lib.Dec.{T, leb}
 use lib.IntN.{ℤ, negsuc, natAbs}
 use Rattle.laws.proofs.Truth.{and-r, T-true, true-T}
-use Rattle.chess.specs.Answer.{given, orRefuse}
-use Rattle.chess.specs.Refusals.{refusalOf}
-use Rattle.chess.specs.declared.refusal.Refusal.the-variants as R
-use Rattle.chess.proofs.Answers.{was-given, was-refused}
+use Rattle.refusal.specs.Answer.{given, orRefuse, refusalOf}
+use Rattle.refusal.specs.declared.Refusal.the-variants as R
+use Rattle.refusal.proofs.Answers.{was-given, was-refused}
 use Rattle.score_taper.specs.Parts.{in16, openingOf, endingOf, productsOf, sidePart, sideFits, first, second, total, sumFits, pointsOf}
 use Rattle.score_taper.specs.Answers.{part, broughtOf}
 use Rattle.score_taper.specs.declared.Side.{Side}
@@ -31,26 +30,26 @@ part-small side x e =
 
 pub brought : (side : Side) (x : ℕ) (r : Part) (z : ℤ) → part r ≡ broughtOf side x → r ≡ Is z → Brought side x z
 brought side x r z promise e =
-    let g = was-given (sideFits side x) 3 z (sidePart side x) (sym (ap part e) ∙ promise) in
+    let g = was-given (sideFits side x) R.Score z (sidePart side x) (sym (ap part e) ∙ promise) in
     record { fit = g .0; is = g .1; small = subst (λ (v : ℤ). natAbs v ≤ 32768) (sym (g .1)) (part-small side x (g .0)) }
 
 pub nothing : (side : Side) (x : ℕ) (r : Part) → part r ≡ broughtOf side x → r ≡ Over → sideFits side x ≡ false
-nothing side x r promise e = was-refused (sideFits side x) 3 3 [] (sidePart side x) (sym (ap part e) ∙ promise)
+nothing side x r promise e = was-refused (sideFits side x) R.Score 3 [] (sidePart side x) (sym (ap part e) ∙ promise)
 
 -- ---- the two sides and the sum
 module _ (own other sum : Bool) (z : ℤ) where
-  pub no-own : own ≡ false → refusalOf R.Score ≡ orRefuse (own && other && sum) 3 (given z)
-  no-own e = sym (ap (λ (t : Bool). orRefuse (t && other && sum) 3 (given z)) e)
+  pub no-own : own ≡ false → refusalOf R.Score ≡ orRefuse (own && other && sum) R.Score (given z)
+  no-own e = sym (ap (λ (t : Bool). orRefuse (t && other && sum) R.Score (given z)) e)
 
-  pub no-other : own ≡ true → other ≡ false → refusalOf R.Score ≡ orRefuse (own && other && sum) 3 (given z)
-  no-other e f = sym (ap₂ (λ (t u : Bool). orRefuse (t && u && sum) 3 (given z)) e f)
+  pub no-other : own ≡ true → other ≡ false → refusalOf R.Score ≡ orRefuse (own && other && sum) R.Score (given z)
+  no-other e f = sym (ap₂ (λ (t u : Bool). orRefuse (t && u && sum) R.Score (given z)) e f)
 
-  pub both : own ≡ true → other ≡ true → orRefuse sum 3 (given z) ≡ orRefuse (own && other && sum) 3 (given z)
-  both e f = sym (ap₂ (λ (t u : Bool). orRefuse (t && u && sum) 3 (given z)) e f)
+  pub both : own ≡ true → other ≡ true → orRefuse sum R.Score (given z) ≡ orRefuse (own && other && sum) R.Score (given z)
+  both e f = sym (ap₂ (λ (t u : Bool). orRefuse (t && u && sum) R.Score (given z)) e f)
 
 -- ---- a score that is given is of 16 bits
 pub given-short : (own other : Side) (x : ℕ) (z : ℤ) → given z ≡ pointsOf own other x → in16 z ≡ true
 given-short own other x z e =
-    let g = was-given (sideFits own x && sideFits other x && sumFits own other x) 3 z (total own other x) e in
+    let g = was-given (sideFits own x && sideFits other x && sumFits own other x) R.Score z (total own other x) e in
     let t : T (sumFits own other x) = and-r (sideFits own x && sideFits other x) (sumFits own other x) (true-T (g .0)) in
     ap in16 (g .1) ∙ T-true (in16 (total own other x)) (and-r (in16 (first own other x) && in16 (second own other x)) (in16 (total own other x)) t)

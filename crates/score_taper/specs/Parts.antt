@@ -5,9 +5,8 @@ use Prim.Native.Nat.{ℕ, _/_}
 use lib.Dec.{leb, ltb}
 use lib.IntN.{ℤ, pos, negℤ, _+ℤ_, _-ℤ_, _*ℤ_}
 use lib.Signed.{mag, quotZ}
-use Rattle.chess.specs.Answer.{Answer, given, orRefuse}
-use Rattle.chess.specs.Refusals.{numberOf}
-use Rattle.chess.specs.declared.refusal.Refusal.the-variants as R
+use Rattle.refusal.specs.Answer.{Answer, given, orRefuse}
+use Rattle.refusal.specs.declared.Refusal.the-variants as R
 use Rattle.score_taper.specs.declared.Side.{Side}
 
 -- "plus 11"
@@ -60,4 +59,4 @@ sumFits own other x = in16 (first own other x) && in16 (second own other x) && i
 -- "SCORE is given exactly if .. one of these leaves −32768..32767"
 abbrev pub pointsOf : Side → Side → ℕ → Answer ℤ
 pointsOf own other x =
-    orRefuse (sideFits own x && sideFits other x && sumFits own other x) (numberOf R.Score) (given (total own other x))
+    orRefuse (sideFits own x && sideFits other x && sumFits own other x) R.Score (given (total own other x))

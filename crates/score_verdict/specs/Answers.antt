@@ -1,6 +1,5 @@
 -- The code's answers on the paper. Definitions only.
-use Rattle.chess.specs.Answer.{Answer, given}
-use Rattle.chess.specs.Refusals.{refusalOf}
+use Rattle.refusal.specs.Answer.{Answer, given, refusalOf}
 use Rattle.score_verdict.specs.Verdict as P
 use Rattle.score_verdict.specs.declared.Verdict.{Verdict}
 use Rattle.score_verdict.specs.declared.Verdict.the-variants as C

@@ -3,7 +3,7 @@ use mathlib.Core.Bool.{Bool, cond, _&&_}
 use mathlib.Core.List.{List}
 use Prim.Native.Nat.{ℕ, _+_}
 use lib.Dec.{eqb, ltb}
-use Rattle.chess.specs.Answer.{Answer, given}
+use Rattle.refusal.specs.Answer.{Answer, given}
 use Rattle.chess.specs.Codes.{asColour}
 use Rattle.position.specs.Checked.{checked}
 use Rattle.score_material.specs.Pieces.{count, pieces}

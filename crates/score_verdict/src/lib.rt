@@ -1,8 +1,8 @@
 // Verdicts, as eval.rs has them: the door.
 ghost use Rattle.score_verdict.specs.Promises.{EvalsEnding};
-use chess::refusal::Refusal;
 use position::Checked;
 use position::State;
+use refusal::Refusal;
 
 pub mod inner;
 

@@ -3,7 +3,7 @@ use mathlib.Core.Path.{_≡_}
 use mathlib.Core.Bool.{Bool}
 use mathlib.Core.List.{List}
 use Prim.Native.Nat.{ℕ}
-use Rattle.chess.proofs.Paper.{one}
+use Rattle.refusal.proofs.Paper.{one}
 use Rattle.text_in.specs.Promises.{IsText, Finds, Before, Past, After, Trims, SkipsSpaces, Is}
 
 pub is-text : (s : List ℕ) (r q : Bool) → IsText s r → IsText s q → r ≡ q

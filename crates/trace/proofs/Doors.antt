@@ -6,10 +6,9 @@ use Prim.Native.Nat.{ℕ, _<_}
 use lib.IntN.{ℤ, pos}
 use lib.ListN.{length, getD}
 use borrow.Author.Tests.{eq-eqb, ne-eqb}
-use Rattle.chess.specs.Answer.{Answer, given, orRefuse}
-use Rattle.chess.specs.Refusals.{numberOf, refusalOf}
-use Rattle.chess.specs.declared.refusal.Refusal.{Refusal}
-use Rattle.chess.specs.declared.refusal.Refusal.the-variants as R
+use Rattle.refusal.specs.Answer.{Answer, given, orRefuse, refusalOf}
+use Rattle.refusal.specs.declared.Refusal.{Refusal}
+use Rattle.refusal.specs.declared.Refusal.the-variants as R
 use Rattle.position.specs.Checked.{checked}
 use Rattle.position.specs.declared.State.{State}
 use Rattle.position.specs.declared.Checked.the-variants.{Fit}
@@ -17,7 +16,7 @@ use Rattle.trace_counts.specs.declared.Trace.{Trace}
 use Rattle.trace.specs.Trace.{traceOf}
 use Rattle.attack_steps.specs.Steps.{stepTables}
 use Rattle.trace.specs.Marked.{filledTo, mobilityWith, traceWith, refusedWith}
-use Rattle.trace.specs.Promises.{tracedOf, paper, besideOf, entriesAfter, Traces}
+use Rattle.trace.specs.Promises.{tracedOf, paper, traceFrom, entriesAfter, Traces}
 use Rattle.trace.proofs.Planes.{filled-is}
 use Rattle.trace.proofs.Walks.{lent-mobility}
 use Rattle.trace.specs.declared.Traced.{Traced}
@@ -31,13 +30,13 @@ module _ (bbs bytes : List ℕ) (state : State) (entries : List ℤ) where
   after a = entriesAfter a bbs entries
 
   refuses : (r : Traced) (q : Refusal) → r ≡ refusedWith q → refusalOf q ≡ tracedOf bbs bytes (state .side) entries → Traces bbs bytes state entries r entries
-  refuses r q c e = (ap paper c ∙ e, ap (λ (t : Traced). t .trace) c ∙ ap besideOf e, ap after e)
+  refuses r q c e = (ap paper c ∙ e, ap (λ (t : Traced). t .trace) c ∙ ap traceFrom e, ap after e)
 
   pub wrong-entries : (r : Traced) → (length entries ≡ 768 → ⊥) → r ≡ refusedWith R.Shape → Traces bbs bytes state entries r entries
-  wrong-entries r n c = refuses r R.Shape c (sym (ap (λ (b : Bool). orRefuse b (numberOf R.Shape) rest) (ne-eqb (length entries) 768 n)))
+  wrong-entries r n c = refuses r R.Shape c (sym (ap (λ (b : Bool). orRefuse b R.Shape rest) (ne-eqb (length entries) 768 n)))
 
   right : length entries ≡ 768 → rest ≡ tracedOf bbs bytes (state .side) entries
-  right e = sym (ap (λ (b : Bool). orRefuse b (numberOf R.Shape) rest) (eq-eqb (length entries) 768 e))
+  right e = sym (ap (λ (b : Bool). orRefuse b R.Shape rest) (eq-eqb (length entries) 768 e))
 
   pub passed-on : (r : Traced) (q : Refusal) → length entries ≡ 768 → refusalOf q ≡ rest → r ≡ refusedWith q → Traces bbs bytes state entries r entries
   passed-on r q e p c = refuses r q c (p ∙ right e)
@@ -50,4 +49,4 @@ module _ (bbs bytes : List ℕ) (state : State) (entries : List ℤ) where
   traced tables t mobility blank marked e p et em t-is l z m =
       let a : given (traceOf bbs (state .side)) ≡ tracedOf bbs bytes (state .side) entries = p ∙ right e in
       let d : t ≡ traceOf bbs (state .side) = t-is ∙ ap (traceWith bbs (state .side)) (em ∙ ap (λ (x : List (List ℕ)). mobilityWith x bbs) et ∙ lent-mobility bbs) in
-      (ap given d ∙ a, d ∙ ap besideOf a, m ∙ filled-is bbs blank l z ∙ ap after a)
+      (ap given d ∙ a, d ∙ ap traceFrom a, m ∙ filled-is bbs blank l z ∙ ap after a)

@@ -5,9 +5,8 @@ use Prim.Native.Nat.{ℕ}
 use lib.Dec.{eqb}
 use lib.IntN.{ℤ}
 use lib.ListN.{length}
-use Rattle.chess.specs.Answer.{Answer, given, refused, orRefuse}
-use Rattle.chess.specs.Refusals.{numberOf, refusalOf}
-use Rattle.chess.specs.declared.refusal.Refusal.the-variants as R
+use Rattle.refusal.specs.Answer.{Answer, given, refused, orRefuse, refusalOf}
+use Rattle.refusal.specs.declared.Refusal.the-variants as R
 use Rattle.position.specs.Checked.{checked}
 use Rattle.position.specs.declared.State.{State}
 use Rattle.position.specs.declared.Checked.{Checked}
@@ -19,7 +18,7 @@ use Rattle.trace.specs.declared.Traced.{Traced}
 -- "trace ..: 1, 2": SHAPE, also if "not .. 768 trace entries", then BOARD
 abbrev pub tracedOf : List ℕ → List ℕ → ℕ → List ℤ → Answer Trace
 tracedOf bbs bytes side entries =
-    orRefuse (eqb (length entries) 768) (numberOf R.Shape) (checked bbs bytes side (given (traceOf bbs side)))
+    orRefuse (eqb (length entries) 768) R.Shape (checked bbs bytes side (given (traceOf bbs side)))
 
 -- the answer on the paper: an array can't stand in an enum, so the trace stands beside the test's outcome
 abbrev pub paperOf : Checked → Trace → Answer Trace
@@ -30,9 +29,9 @@ abbrev pub paper : Traced → Answer Trace
 paper r = paperOf (r .checked) (r .trace)
 
 -- the trace that comes with an answer: where it is refused, no trace
-abbrev pub besideOf : Answer Trace → Trace
-besideOf (given t) = t
-besideOf (refused n l) = noTrace
+abbrev pub traceFrom : Answer Trace → Trace
+traceFrom (given t) = t
+traceFrom (refused n l) = noTrace
 
 -- the entries after an answer: "a refusal .. changes no lent byte"
 abbrev pub entriesAfter : Answer Trace → List ℕ → List ℤ → List ℤ
@@ -42,5 +41,5 @@ entriesAfter (refused n l) bbs entries = entries
 abbrev pub Traces : List ℕ → List ℕ → State → List ℤ → Traced → List ℤ → Type 0
 Traces bitboards board state before r after =
     (paper r ≡ tracedOf bitboards board (state .side) before)
-    × (r .trace ≡ besideOf (tracedOf bitboards board (state .side) before))
+    × (r .trace ≡ traceFrom (tracedOf bitboards board (state .side) before))
     × (after ≡ entriesAfter (tracedOf bitboards board (state .side) before) bitboards before)

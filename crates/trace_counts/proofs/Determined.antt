@@ -3,7 +3,7 @@ use mathlib.Core.Path.{_≡_}
 use mathlib.Core.Bool.{Bool}
 use mathlib.Core.List.{List}
 use lib.IntN.{ℤ}
-use Rattle.chess.proofs.Paper.{one}
+use Rattle.refusal.proofs.Paper.{one}
 use Rattle.trace_counts.specs.Promises.{TestsTrace, TestsEntries}
 use Rattle.trace_counts.specs.declared.Trace.{Trace}
 

@@ -7,9 +7,8 @@ use lib.Dec.{eqb}
 use lib.IntN.{ℤ}
 use lib.ListN.{length}
 use lib.Ieee.{Float}
-use Rattle.chess.specs.Answer.{Answer, given, orRefuse}
-use Rattle.chess.specs.Refusals.{numberOf, refusalOf}
-use Rattle.chess.specs.declared.refusal.Refusal.the-variants as R
+use Rattle.refusal.specs.Answer.{Answer, given, orRefuse, refusalOf}
+use Rattle.refusal.specs.declared.Refusal.the-variants as R
 use Rattle.trace_counts.specs.Ranges.{inRanges, areEntries}
 use Rattle.trace_double.specs.Double.{double}
 use Rattle.trace_counts.specs.declared.Weights.{Weights}
@@ -20,8 +19,8 @@ use Rattle.trace_double.specs.declared.Doubled.the-variants.{Is, Refused
 -- "Trace double: 1, 7": SHAPE if "not .. 768 weights or 768 trace entries", then TRACE
 abbrev pub doubleOf : Trace → List ℤ → Weights → List Float → Answer Float
 doubleOf t entries w squares =
-    orRefuse (eqb (length entries) 768 && eqb (length squares) 768) (numberOf R.Shape)
-    (orRefuse (inRanges t && areEntries entries) (numberOf R.Trace) (given (double t entries w squares)))
+    orRefuse (eqb (length entries) 768 && eqb (length squares) 768) R.Shape
+    (orRefuse (inRanges t && areEntries entries) R.Trace (given (double t entries w squares)))
 
 abbrev pub paper : Doubled → Answer Float
 paper (Is x) = given x

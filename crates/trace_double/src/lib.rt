@@ -6,9 +6,9 @@ ghost use Prim.Native.Nat.{_+_, _<_};
 ghost use Rattle.trace_double.specs.Double.{between, added, folded};
 ghost use Rattle.trace_double.specs.Promises.{Doubles};
 use chess::color::Color;
-use chess::refusal::Refusal;
 use places::entry::Entry;
 use places::weight::SquareWeight;
+use refusal::Refusal;
 use trace_counts::Trace;
 use trace_counts::Weights;
 

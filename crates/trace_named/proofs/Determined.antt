@@ -1,7 +1,7 @@
 -- The public function is determined by its promise: two results that it allows are equal, two NaNs being one. Assumes nothing.
 use mathlib.Core.Path.{_≡_}
 use lib.Ieee.{Float}
-use Rattle.chess.proofs.Paper.{one}
+use Rattle.refusal.proofs.Paper.{one}
 use Rattle.trace_named.specs.Named.{Sums}
 use Rattle.trace_counts.specs.declared.Weights.{Weights}
 use Rattle.trace_counts.specs.declared.Trace.{Trace}

@@ -2,7 +2,7 @@
 use mathlib.Core.Path.{_≡_, refl, ap}
 use mathlib.Core.List.{List}
 use lib.Ieee.{Float}
-use Rattle.chess.proofs.Paper.{one, retract, readBack, number-back}
+use Rattle.refusal.proofs.Paper.{one, retract, readBack, number-back}
 use Rattle.trace_counts.specs.declared.Weights.{Weights}
 use Rattle.trace_shipped.specs.Promises.{Ships, written, ShipsSquares}
 use Rattle.trace_shipped.specs.declared.Written.{Written}

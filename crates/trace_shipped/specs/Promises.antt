@@ -5,9 +5,8 @@ use mathlib.Core.List.{List}
 use lib.Dec.{eqb}
 use lib.Ieee.{Float}
 use lib.ListN.{length}
-use Rattle.chess.specs.Answer.{Answer, given, orRefuse}
-use Rattle.chess.specs.Refusals.{numberOf, refusalOf}
-use Rattle.chess.specs.declared.refusal.Refusal.the-variants as R
+use Rattle.refusal.specs.Answer.{Answer, given, orRefuse, refusalOf}
+use Rattle.refusal.specs.declared.Refusal.the-variants as R
 use Rattle.trace_counts.specs.declared.Weights.{Weights}
 use Rattle.trace_shipped.specs.Weights.{shipped, shippedSquares}
 use Rattle.trace_shipped.specs.declared.Written.{Written}
@@ -18,7 +17,7 @@ Ships r = r ≡ shipped
 
 -- SHAPE: "not .. 768 weights"
 abbrev pub writtenOf : List Float → Answer Unit
-writtenOf squares = orRefuse (eqb (length squares) 768) (numberOf R.Shape) (given tt)
+writtenOf squares = orRefuse (eqb (length squares) 768) R.Shape (given tt)
 
 abbrev pub written : Written → Answer Unit
 written Done = given tt

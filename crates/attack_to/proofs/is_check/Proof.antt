@@ -1,7 +1,7 @@
 -- `attack_to::is_check` meets its contract. Assumes nothing.
 use native.Mathlib.Omega.{arith}
 use mathlib.Core.Path.{ap, _∙_}
-use Rattle.chess.specs.Answer.{given}
+use Rattle.refusal.specs.Answer.{given}
 use Rattle.position.specs.Checked.{checked}
 use Rattle.position.proofs.Doors.{pass-on, fit-rest}
 use Rattle.attack_to.specs.Attackers.{isCheck}

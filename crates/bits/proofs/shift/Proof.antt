@@ -7,7 +7,7 @@ use native.Mathlib.Numerals.{add-one}
 use native.Mathlib.Omega.{arith}
 use lib.IntN.{ℤ, pos, negsuc, natAbs}
 use mir.Syntax.{w8}
-use Rattle.chess.specs.Answer.{Answer, given}
+use Rattle.refusal.specs.Answer.{given}
 use Rattle.bits.specs.Answers.{shiftedOf}
 use Rattle.bits.proofs.Machine.{shifted-up, shifted-down}
 use Rattle.laws.proofs.Words.{Up, Down, up, down}

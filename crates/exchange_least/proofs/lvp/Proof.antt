@@ -1,7 +1,7 @@
 -- `exchange_least::lvp` meets its contract. Assumes nothing.
 use mathlib.Core.Path.{_≡_, sym, ap, _∙_}
 use native.Mathlib.Omega.{arith}
-use Rattle.chess.specs.Answer.{Answer, given}
+use Rattle.refusal.specs.Answer.{given}
 use Rattle.position.specs.Checked.{checked}
 use Rattle.position.proofs.Doors.{pass-on, fit-rest}
 use Rattle.attack.proofs.Doors.{no-colour, a-colour}

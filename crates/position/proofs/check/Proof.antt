@@ -7,7 +7,7 @@ use native.Mathlib.Omega.{arith}
 use lib.ListN.{length}
 use borrow.Author.Needs.{needs}
 use borrow.Author.Tests.{eq-eqb, not-true, not-false}
-use Rattle.chess.specs.Answer.{given}
+use Rattle.refusal.specs.Answer.{given}
 use Rattle.position_consistent.specs.Consistent.{consistent}
 use Rattle.position_consistent.specs.Promises.{Fits}
 use Rattle.position.proofs.Doors.{in-shape, no-boards, no-bytes, no-side, misshapen, inconsistent, sound}

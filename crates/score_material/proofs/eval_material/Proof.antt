@@ -11,9 +11,8 @@ use lib.IntN.{ℤ, pos}
 use mir.Facts.{toZ-pos}
 use mir.Syntax.{w16}
 use mir.Val.{toZ}
-use Rattle.chess.specs.Answer.{Answer, given, orRefuse}
-use Rattle.chess.specs.Refusals.{refusalOf}
-use Rattle.chess.specs.declared.refusal.Refusal.the-variants as R
+use Rattle.refusal.specs.Answer.{Answer, given, orRefuse, refusalOf}
+use Rattle.refusal.specs.declared.Refusal.the-variants as R
 use Rattle.position.specs.Checked.{checked}
 use Rattle.position.proofs.Doors.{pass-on, fit-rest}
 use Rattle.attack.proofs.Doors.{no-colour, a-colour}
@@ -23,15 +22,15 @@ use Rattle.score_material.proofs.eval_material.Tie as tie
 
 -- what comes after the checks, and its two ends
 abbrev total : List ℕ → ℕ → Answer ℤ
-total bbs colour = orRefuse (leb (worth bbs colour) 32767) 3 (given (pos (worth bbs colour)))
+total bbs colour = orRefuse (leb (worth bbs colour) 32767) R.Score (given (pos (worth bbs colour)))
 
-over : (n w : ℕ) → n ≡ w → 32767 < n → refusalOf R.Score ≡ orRefuse (leb w 32767) 3 (given (pos w))
-over n w e h = sym (ap (λ (t : Bool). orRefuse t 3 (given (pos w))) (ap (λ (x : ℕ). leb x 32767) (sym e) ∙ lt-leb n 32767 h))
+over : (n w : ℕ) → n ≡ w → 32767 < n → refusalOf R.Score ≡ orRefuse (leb w 32767) R.Score (given (pos w))
+over n w e h = sym (ap (λ (t : Bool). orRefuse t R.Score (given (pos w))) (ap (λ (x : ℕ). leb x 32767) (sym e) ∙ lt-leb n 32767 h))
 
-within : (n w : ℕ) → n ≡ w → n ≤ 32767 → given (toZ w16 n) ≡ orRefuse (leb w 32767) 3 (given (pos w))
+within : (n w : ℕ) → n ≡ w → n ≤ 32767 → given (toZ w16 n) ≡ orRefuse (leb w 32767) R.Score (given (pos w))
 within n w e h =
     ap given (toZ-pos w16 {n = n} (omega arith) ∙ ap pos e)
-    ∙ sym (ap (λ (t : Bool). orRefuse t 3 (given (pos w))) (ap (λ (x : ℕ). leb x 32767) (sym e) ∙ le-leb n 32767 h))
+    ∙ sym (ap (λ (t : Bool). orRefuse t R.Score (given (pos w))) (ap (λ (x : ℕ). leb x 32767) (sym e) ∙ le-leb n 32767 h))
 
 returns : tie.Need-returns
 unfolding materialOf

@@ -1,7 +1,7 @@
 -- `score_verdict::eval_ending` meets its contract. Assumes nothing.
 use mathlib.Core.Path.{ap, _∙_}
 use borrow.Author.Needs.{needs}
-use Rattle.chess.specs.Answer.{given}
+use Rattle.refusal.specs.Answer.{given}
 use Rattle.position.proofs.Doors.{pass-on, fit-rest}
 use Rattle.score_verdict.specs.Verdict.{verdictOf, endingOf}
 use Rattle.score_verdict.proofs.eval_ending.Statement.{statement}

@@ -6,7 +6,7 @@ use borrow.Author.Tests.{eq-eqb, ne-eqb}
 use lib.IntN.{ℤ}
 use lib.ListN.{length}
 use lib.Ieee.{Float}
-use Rattle.chess.specs.Answer.{Answer, given, refused}
+use Rattle.refusal.specs.Answer.{given, refused}
 use Rattle.trace_counts.specs.Ranges.{inRanges, areEntries}
 use Rattle.trace_named.specs.Doubles.{dbl}
 use Rattle.trace_named.specs.Named.{named}

@@ -2,7 +2,7 @@
 use mathlib.Core.Path.{refl}
 use native.Mathlib.Omega.{arith}
 use borrow.Author.Needs.{needs}
-use Rattle.chess.specs.declared.refusal.Refusal.the-variants as R
+use Rattle.refusal.specs.declared.Refusal.the-variants as R
 use Rattle.trace_shipped.specs.declared.Written.the-variants as W
 use Rattle.trace_shipped.proofs.Doors.{no-room, room}
 use Rattle.trace_shipped.proofs.square_weights.Statement.{statement}

@@ -6,7 +6,7 @@ use lib.Ieee.{Float}
 use lib.IntN.{ℤ}
 use mir.Syntax.{w32}
 use mir.ValLaws.{toZ-ofZ}
-use Rattle.chess.specs.Answer.{Answer}
+use Rattle.refusal.specs.Answer.{Answer}
 use Rattle.trace_counts.specs.declared.Trace.{Trace}
 use Rattle.trace_counts.specs.declared.Weights.{Weights}
 use Rattle.trace_double.specs.Promises.{paper, doubleOf}

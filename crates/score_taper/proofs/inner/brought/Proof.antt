@@ -8,7 +8,6 @@ use mir.Facts.{toZ-ofZ}
 use mir.Syntax.{w32, w64}
 use mir.Val.{SFits}
 use Rattle.laws.proofs.Words.{held, held-is}
-use Rattle.chess.specs.Answer.{Answer}
 use Rattle.score_taper.specs.Parts.{openingOf, endingOf}
 use Rattle.score_taper.specs.Answers.{part, dividedOf}
 use Rattle.score_taper.proofs.inner.brought.Statement.{statement}

@@ -8,7 +8,7 @@ use mir.Facts.{toZ-ofZ}
 use mir.Syntax.{w16, w64}
 use mir.Val.{SFits}
 use Rattle.laws.proofs.Words.{held}
-use Rattle.chess.specs.Answer.{Answer, given}
+use Rattle.refusal.specs.Answer.{given}
 use Rattle.score_taper.specs.Parts.{in16}
 use Rattle.score_taper.proofs.Short.{short-fits}
 use Rattle.score_taper.proofs.Joined as laws

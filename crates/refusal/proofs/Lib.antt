@@ -1,0 +1,6 @@
+pub mod Answers
+pub mod Below
+pub mod Determined
+pub mod Examples
+pub mod Named
+pub mod Paper

@@ -48,7 +48,14 @@ function declaration_line(line, what,    word, i, marks) {
     if (word[i] ~ /^(use|mod|open|infix|infixl|infixr|ruleset|package|module|mutual)$/) other_line(line, word[i])
     else if (word[i] ~ /^(record|data)$/) declare(what, word[i + 1], marks, word[i], line)
     else if (marks != "" || line ~ /^[^ ]+( +\{[^{}:=]*\})? +:( |$)/) declare(what, word[i], marks, "", line)
-    else if (open_item) { in_signature = 0; add_line(line) }
+    else if (open_item) clause_line(line, word[1])
+}
+
+function clause_line(line, word) {
+    in_signature = 0
+    in_clause = word != "unfolding"
+    clauses[open_item] += in_clause
+    add_line(line)
 }
 
 function other_line(line, word) {
@@ -63,6 +70,8 @@ function declare(what, name, marks, form, line) {
     gsub(/«|»/, "", name)
     open_item = new_item(what, name)
     in_signature = 1
+    nested[open_item] = columns > 0
+    if (what == "proof") declared[path, name] = 1
     public[open_item] = marks ~ /pub/ && marks !~ /axiom/
     form_of[open_item] = form
     if (what == "definition") define(name)
@@ -84,6 +93,7 @@ function add_line(line) {
     last[open_item] = line_no
     text_of[open_item] = text_of[open_item] " " line
     if (in_signature) signature[open_item] = signature[open_item] " " line
+    else if (in_clause) clause_of[open_item] = clause_of[open_item] " " line
     if (kind[open_item] == "definition" && form_of[open_item] == "data") note_constructor(line)
 }
 

@@ -14,10 +14,13 @@ function scan_edit(    line, file, old, says) {
     if (!says) fault(edit_name(), edit_name(), 7, "no comment says on which input the edited program answers differently")
 }
 
-function edit_name(    name) {
+function edit_name() { return crate "::must-fail/" edit_word() ".edit" }
+
+function edit_word(    name) {
     name = path
     sub(/^.*\//, "", name)
-    return crate "::must-fail/" name
+    sub(/\.edit$/, "", name)
+    return name
 }
 
 function apply_edit(file, old,    n, i, found, at) {
@@ -34,5 +37,5 @@ function apply_edit(file, old,    n, i, found, at) {
 
 function mark_edited(file, at,    list, n, i) {
     n = split(items_in[file], list, " ")
-    for (i = 1; i <= n; i++) if (first[list[i]] <= at && at <= last[list[i]]) edited[list[i]] = 1
+    for (i = 1; i <= n; i++) if (first[list[i]] <= at && at <= last[list[i]]) edited[list[i]] = edited[list[i]] " " path " "
 }

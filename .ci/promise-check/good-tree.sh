@@ -1,8 +1,9 @@
 # The tree that the test of the promise check begins with.
 
 # The good tree has each way to be tried: an edit of the function (count), of a private function behind another
-# (shift), of a definition behind another (Square::new), of a table (knight). What the check is to pass over
-# stands in comments, in quoted text and in bodies.
+# (shift), of a definition behind another (Square::new), of a table (knight); and each kind of promise: an equation, one that
+# hands its equation on (shift), a record of them for what is lent (fill). What the check is to pass over stands in comments, in
+# quoted text and in bodies.
 good_tree() {
     put good/crates.txt <<'END'
 # a bitboard
@@ -19,7 +20,7 @@ END
 // pub fn in_a_comment(b: u64) -> u32 { 0 }
 ghost use mathlib.Core.Path.{_≡_};
 ghost use Rattle.other.specs.Board.{Foreign};
-ghost use Rattle.bits.specs.Board.{Counts, Shifts as Board·Shifts, Made};
+ghost use Rattle.bits.specs.Board.{Counts, Shifts as Board·Shifts, Made, Fills};
 pub mod steps;
 mod inner_private;
 
@@ -42,7 +43,7 @@ pub extern "C" fn shift<'a>(b: &'a u64, s: [u8; 2]) -> u64
 where
     'a: 'a,
     ensures {
-        λ r. ⌜ Board·Shifts (now b) {s = s} r ⌝ -- }
+        λ r. ⌜ Board·Shifts (now (b .entry)) s r ⌝ -- }
     }
 {
     moved(b, s)
@@ -54,6 +55,13 @@ fn moved(b: u64, s: [u8; 2]) -> u64 {
 
 fn up(b: u64, s: [u8; 2]) -> u64 {
     b << s
+}
+
+pub fn fill(out: &'a mut [(u8, u8); 2], mut with: u8,) -> &u64
+    ensures { λ r. ⌜ Fills (now (out .entry)) with (now r) (now (out .exit)) ⌝ }
+{
+    out[0] = with;
+    b
 }
 
 impl<'a> Square {
@@ -106,8 +114,17 @@ has b k = isSet (b / 2 ^ k)
 abbrev pub Counts : ℕ → ℕ → Type 0
 Counts b r = r ≡ howMany 64 (has b)
 
-pub record Shifts (b : ℕ) (s : ℕ) (r : ℕ) : Type 0 where
+pub record Moved (b s : ℕ) (r : ℕ) : Type 0 where
   pub is : r ≡ b
+
+abbrev pub Shifts : ℕ → ℕ → ℕ → Type 0
+Shifts b s r = (Moved b s r) × (b ≡ b)
+
+pub record Fills {A : Type 0} (old : List A) (with : A) (r : ℕ)
+    (new : List A) : Type 0 where
+  pub answer : r ≡ length old -- the result
+  pub lent : new ≡ replicate (length old) with
+  pub within : r ≤ length new
 
 module _ (n : ℕ)
     (m : ℕ) where
@@ -135,7 +152,8 @@ Made s r = r ≡ limit
 END
     put good/crates/bits/proofs/Determined.antt <<'END'
 -- Each promise allows one result.
-use Rattle.bits.specs.Board.{Counts, Shifts as Moves, Made, Steps}
+use mathlib.Core.Path.{_≡_, sym, _∙_}
+use Rattle.bits.specs.Board.{Counts, Shifts as Moves, Made, Steps, Fills}
 
 {- pub count-once : Made b r → Made b s → r ≡ s -}
 pub count-once : (b r s : ℕ) → Counts b r → Counts b s → r ≡ s
@@ -147,9 +165,13 @@ pub shift-once : (b s r t : ℕ)
     → r ≡ t
 shift-once b s r t p q = p .is ∙ sym (q .is)
 
-module _ (s : ℕ) where
-  pub made-once : (r t : ℕ) → Made s r → Made s t → r ≡ t
-  made-once r t p q = p ∙ sym q
+pub made-once : (s : ℕ) (r t : ℕ)
+    → Made s r → Made s t → r ≡ t
+made-once s r t p q = p ∙ sym q
+
+pub fill-once : (old : List (ℕ)) (with r s : ℕ) (new new′ : List ℕ)
+    → Fills old with r new → Fills old with s new′ → (new ≡ new′) × (r ≡ s)
+fill-once old with r s new new′ p q = (one (p .lent) (q .lent), one (p .answer) (q .answer))
 
 pub steps-once : (s r t : ℕ) → Steps s r → Steps s t → r ≡ t
 steps-once s r t p q = p ∙ sym q
@@ -178,12 +200,33 @@ file: src/steps.rt
 old: 0x50800
 new: 0x50801
 END
+    put good/crates/bits/must-fail/fill_wrong.edit <<'END'
+# any buffer: its second number is left
+file: src/lib.rt
+old: out[0] = with
+new: out[1] = with
+END
     put good/docs/PROMISES.md <<'END'
-| function | promise |
+# Promises
+
+`bits::prose` is a word.
+
+| what | is no table of functions |
 |---|---|
-| `bits::count(b)` | `Counts` |
-| `bits::shift` | `Shifts` |
-| `bits::Square::new` | `Made` |
-| `bits::steps::knight` | `Steps` |
+| `bits::prose` | `Counts` |
+
+| function | answers | promise (definition) | refusals, in order | determined by | must-fail edits |
+|---|---|---|---|---|---|
+| `bits::count` | how many | `Counts` (`howMany`) | none | `count-once` | count_wrong |
+| `bits::shift` | up | `Shifts` | none | `shift-once` | shift_wrong |
+| `bits::fill` | filled | `Fills` | none | `fill-once` | `fill_wrong`, fill_again |
+| `bits::Square::new` | a square | `Made` (`madeOf`) | SQUARE | `made-once` | made_wrong; and those of steps |
+| `bits::steps::knight` | steps | `Steps` | none | `steps-once` | steps_wrong |
+END
+    put good/crates/bits/must-fail/fill_again.edit <<'END'
+# an empty buffer: 1 for 0
+file: specs/Board.antt
+old: r ≡ length old
+new: r ≡ suc (length old)
 END
 }

@@ -114,6 +114,7 @@ function note_import(module, name, alias,    part, n, i) {
     part[n + 1] = alias
     for (i = 1; i <= n + 1; i++) if (part[i] != "") {
         imported_from[path, part[i]] = module_file(module)
+        imported_from_module[path, part[i]] = module
         imported_as[path, part[i]] = name
     }
 }

@@ -34,6 +34,7 @@ function source_line(line,    token, gap) {
         token = substr(line, RSTART, RLENGTH)
         line = substr(line, RSTART + RLENGTH)
         if (state == "clause") clause = clause gap
+        if (state == "signature" && open_item) signature_text[open_item] = signature_text[open_item] gap
         if (gap ~ /[^ \t]/) before = before2 = before3 = ""
         take(token)
         before3 = before2
@@ -41,6 +42,7 @@ function source_line(line,    token, gap) {
         before = token
     }
     if (state == "clause") clause = clause line " "
+    if (state == "signature" && open_item) signature_text[open_item] = signature_text[open_item] line " "
 }
 
 function source_use(line) {
@@ -163,7 +165,11 @@ function signature_token(token) {
     if (nest == 0 && token ~ /^(ghost|requires|ensures)$/) clause_word = token
     else if (nest == 0 && token == "{") begin_braces()
     else if (nest == 0 && token == ";") { last[open_item] = line_no; to_items() }
-    else { nesting(token); note_word(token) }
+    else {
+        nesting(token)
+        note_word(token)
+        signature_text[open_item] = signature_text[open_item] token
+    }
 }
 
 function begin_braces() {

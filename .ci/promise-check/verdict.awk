@@ -35,13 +35,13 @@ function may_mean(item, by, other,    within) {
 
 function ends_in(text, end) { return substr(text, length(text) - length(end) + 1) == end }
 
-# Another public function has to be tried for itself: an edit of its own text does not count for this one.
-function is_tried(f,    queue, seen, head_at, tail, item, list, n, i) {
+# By one edit, or where none is named by any that counts for it.
+function is_tried(f, by,    queue, seen, head_at, tail, item, list, n, i) {
     tail = n = split(f own_definitions(crate_of[f], path_of[f], ensures[f]), queue, " ")
     for (i = 1; i <= n; i++) seen[queue[i]] = 1
     while (head_at < tail) {
         item = queue[++head_at]
-        if (item in edited && (item == f || kind[item] != "function" || !is_public(item))) return 1
+        if (item in edited && (by != "" ? index(edited[item], " " by " ") : counts_for(item, f))) return 1
         n = split(reaches(item), list, " ")
         for (i = 1; i <= n; i++) if (!(list[i] in seen)) {
             seen[list[i]] = 1
@@ -51,25 +51,10 @@ function is_tried(f,    queue, seen, head_at, tail, item, list, n, i) {
     return 0
 }
 
+# Another public function has to be tried for itself: an edit of its own text does not count for this one.
+function counts_for(item, f) { return item == f || kind[item] != "function" || !is_public(item) }
+
 # ---- the documents
-
-function read_promises(    line, part, n, i, fenced) {
-    while ((getline line < "docs/PROMISES.md") > 0) {
-        if (line ~ /^[ \t]*```/) fenced = !fenced
-        if (fenced) continue
-        gsub(/``+/, "`", line)
-        n = split(line, part, "`")
-        for (i = 2; i < n; i += 2) list_words(part[i])
-    }
-    close("docs/PROMISES.md")
-}
-
-function list_words(text) {
-    while (match(text, /[A-Za-z_][A-Za-z0-9_]*(::[A-Za-z_][A-Za-z0-9_]*)*/)) {
-        listed[substr(text, RSTART, RLENGTH)] = 1
-        text = substr(text, RSTART + RLENGTH)
-    }
-}
 
 function read_exceptions(    line, cell) {
     while ((getline line < "docs/EXCEPTIONS.md") > 0) {
@@ -128,43 +113,26 @@ function short_name(f,    name) {
 
 function is_promise(item) { return public[item] && name_of[item] == called && called ~ /^[A-Z]/ }
 
-# The first promise that the ensures names, or 0.
-function promise_of(f,    word, n, i, item, m, j) {
-    n = antt_words(ensures[f], word)
-    for (i = 1; i <= n; i++) {
-        m = split(cited(crate_of[f], path_of[f], word[i]), item, " ")
-        for (j = 1; j <= m; j++) if (is_promise(item[j])) return item[j]
-    }
-    return 0
-}
-
-# is_determined[promise], from the proofs of Determined.antt.
-function note_determined(proof,    word, n, i, item, m, j, times) {
-    if (!public[proof] || form_of[proof] != "") return
-    n = antt_words(signature[proof], word)
-    for (i = 1; i <= n; i++) {
-        m = split(cited(crate_of[proof], path_of[proof], word[i]), item, " ")
-        for (j = 1; j <= m; j++) if (is_promise(item[j]) && ++times[item[j]] == 2) is_determined[item[j]] = 1
-    }
-}
-
-function judge(f,    name, short, within) {
+function judge(f,    name, short, promise) {
     name = full_name(f)
     short = short_name(f)
-    within = crate_of[f]
     if ((f, "requires") in has_clause) fault(name, short, 1, "has a requires clause")
     if (!((f, "ensures") in has_clause)) fault(name, short, 2, "has no ensures clause")
-    if (!(name in listed || short in listed)) fault(name, short, 3, "is missing from docs/PROMISES.md")
-    if ((f, "ensures") in has_clause) judge_promise(name, short, within, promise_of(f))
-    if (!is_tried(f)) fault(name, short, 6, "no must-fail edit touches it, or a definition that its promise cites")
+    else promise = judge_promise(f, name, short)
+    judge_row(f, name, short, promise, outputs)
+    if (!is_tried(f, "")) fault(name, short, 6, "no must-fail edit touches it, or a definition that its promise cites")
 }
 
-# Without a promise there is nothing to look for in Determined.antt.
-function judge_promise(name, short, within, promise) {
-    if (!promise)
-        fault(name, short, 4, "its ensures names no promise, a pub definition with a capital in crates/" within "/specs")
-    else if (!(promise in is_determined))
-        fault(name, short, 5, "no pub signature of crates/" within "/proofs/Determined.antt names " name_of[promise] " twice")
+# The promise, or 0: without one there is nothing to look for in Determined.antt.
+function judge_promise(f, name, short,    wrong, place, n, i) {
+    wrong = read_ensures(f)
+    if (wrong != "") { fault(name, short, 4, wrong); return 0 }
+    if (!((promise_item, outputs) in law_for))
+        fault(name, short, 5, "no law of crates/" crate_of[f] "/proofs/Determined.antt says of " name_of[promise_item] " that it allows one answer and one exit of what is lent")
+    n = split(substr(outputs, 2, length(outputs) - 2), place, ",")
+    for (i = 1; i <= n; i++) if (!says(promise_item, place[i]))
+        fault(name, short, 8, "no equation of " name_of[promise_item] " says what stands at its place " place[i] ", or one says it by itself")
+    return promise_item
 }
 
 function judge_rows(    r) {
@@ -185,13 +153,14 @@ function read_crates(    line) {
 }
 
 BEGIN {
-    points = split("requires ensures listed promise determined must-fail comment", point_word, " ")
+    points = split("requires ensures listed promise determined must-fail comment says", point_word, " ")
     plain_but["antt"] = "\"|--|\\{-"
     opening["antt"] = "\"|--|\\{-"
     block_edge["antt"] = "\\{-|-\\}"
     plain_but["rt"] = "[\"/" quote "]|--"
     opening["rt"] = "\"|--|//|/\\*|" quote "([^" quote "\\\\]|\\\\.[^" quote "]*)" quote
     block_edge["rt"] = "/\\*|\\*/"
+    columns_needed = split("function/answers/promise/refusals, in order/determined by/must-fail edits", column_name, "/")
     read_crates()
     read_promises()
     read_exceptions()
@@ -214,13 +183,15 @@ END {
         split(path, part, "/")
         crate = part[2]
         scan_edit()
+        edit_there[crate, edit_word()] = path
     }
-    for (i = 1; i <= items; i++) if (kind[i] == "proof") note_determined(i)
+    for (i = 1; i <= items; i++) if (kind[i] == "proof") note_law(i)
     for (i = 1; i <= function_count; i++) if (is_public(functions[i])) {
         judged++
         bearers[name_without_modules(functions[i])]++
     }
     for (i = 1; i <= function_count; i++) if (is_public(functions[i])) judge(functions[i])
+    judge_table()
     judge_rows()
     if (faults) { print "promises: " faults " faults"; exit 1 }
     print "promises: " (judged + 0) " public functions, all promised"

@@ -4,8 +4,7 @@ use mathlib.Core.List.{List}
 use Prim.Native.Nat.{ℕ}
 use Rattle.refusal.proofs.Paper.{one, retract, readBack, number-back}
 use Rattle.position.specs.declared.State.{State}
-use Rattle.line_parse.specs.Line.{lineOf}
-use Rattle.line_parse.specs.Promises.{paper, Says}
+use Rattle.line_parse.specs.Promises.{paper, Parses}
 use Rattle.line_parse.specs.declared.Read.{Read}
 use Rattle.line_parse.specs.declared.Read.the-variants.{Position, Refused}
 use Rattle.line_parse.specs.declared.Parsed.{Parsed}
@@ -22,7 +21,7 @@ pub read-one : (r q : Read) → paper r ≡ paper q → r ≡ q
 read-one = retract paper (readBack position Refused) read-back
 
 -- ---- the function
-pub parse : (line : List ℕ) (r q : Parsed) → Says (lineOf line) r → Says (lineOf line) q → r ≡ q
+pub parse : (line : List ℕ) (r q : Parsed) → Parses line r → Parses line q → r ≡ q
 parse line r q p o =
     let a = read-one (r .answer) (q .answer) (one (p .answer) (o .answer)) in
     let b = one (p .board) (o .board) in

@@ -6,7 +6,7 @@ use Rattle.refusal.specs.Answer.{Answer, given, refused, refusalOf}
 use Rattle.refusal.specs.declared.Refusal.{Refusal}
 use Rattle.position.specs.declared.State.{State}
 use Rattle.line_ranks.specs.Promises.{bare}
-use Rattle.line_parse.specs.Line.{Line}
+use Rattle.line_parse.specs.Line.{Line, lineOf}
 use Rattle.line_parse.specs.declared.Read.{Read}
 use Rattle.line_parse.specs.declared.Read.the-variants.{Position, Refused}
 use Rattle.line_parse.specs.declared.Parsed.{Parsed}
@@ -31,7 +31,10 @@ pub record Says (a : Answer Line) (r : Parsed) : Type 0 where
   pub answer : paper (r .answer) ≡ valueOf a
   pub board : r .board ≡ boardAfter a bare
 
--- ---- a private function
+abbrev pub Parses : List ℕ → Parsed → Type 0
+Parses line r = Says (lineOf line) r
+
+-- ---- private functions
 pub record Turned (refusal : Refusal) (r : Parsed) : Type 0 where
   pub answer : r .answer ≡ Refused refusal
   pub board : r .board ≡ bare

@@ -1,8 +1,8 @@
 // What one line of a collection says, read by value: the state, the half points and the board, or a refusal.
 ghost use mathlib.Core.Path.{_≡_};
 ghost use Rattle.text_in.specs.Text.{placeIn};
-ghost use Rattle.line_parse.specs.Line.{sides, results, wordOf, fieldsSay, lineOf};
-ghost use Rattle.line_parse.specs.Promises.{Says, Turned};
+ghost use Rattle.line_parse.specs.Line.{sides, results, wordOf, fieldsSay};
+ghost use Rattle.line_parse.specs.Promises.{Says, Parses, Turned};
 use chess::color::Color;
 use chess::piece::Piece;
 use chess::square::Square;
@@ -102,7 +102,7 @@ const LONGEST: usize = 256;
 
 // LONG, BYTE, FIELD, and then what the two fields call for.
 pub fn parse(line: &[u8]) -> Parsed
-    ensures { λ r. ⌜ Says (lineOf (now (line .entry))) r ⌝ }
+    ensures { λ r. ⌜ Parses (now (line .entry)) r ⌝ }
 {
     if line.len() > LONGEST {
         return refused(Refusal::Long);

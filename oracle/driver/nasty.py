@@ -87,6 +87,16 @@ def places():
         yield b"8/8/8/8/8/8/8/4" + bytes([letter]) + b"3 w;1-0"
 
 
+def runs():
+    """Runs of empty squares before, between and behind letters (W-203): written whole, in two, in ones."""
+    for run, front in ((run, front) for run in range(1, 9) for front in range(9 - run)):
+        written = [str(run)] + [f"{part}{run - part}" for part in range(1, run)] + ["1" * run]
+        for text in dict.fromkeys(written):
+            listed = [b"1p1P1k1K"] + [b"8"] * 7
+            listed[(run + front) % 8] = b"p" * front + text.encode() + b"K" * (8 - run - front)
+            yield b"/".join(listed) + b" b;1-0"
+
+
 def sides():
     for side in (b"w", b"b", b"W", b"B", b"-", b"", b"ww", b"wb", b"w-", b"w;", b"white", b"w\t", b"w\t-", b"w\r-",
                  b"w -", b"\tw", b"\rw", b"\t w", b"w  ", b"x", b"0", b"1", b"/", b"w/", b"w.", b"bw", b"b\t", b"b\r",
@@ -154,7 +164,7 @@ def mutated(seed=SEED, count=MUTATED):
 
 def collection():
     """All lines, each once; the last has no LF and keeps its CR."""
-    groups = (plain, ended, lengths, each_byte, fields, places, sides, results, other_white_space, broken_together,
+    groups = (plain, ended, lengths, each_byte, fields, places, runs, sides, results, other_white_space, broken_together,
               mutated)
     lines = dict.fromkeys(line for group in groups for line in group())
     assert all(b"\n" not in line for line in lines)

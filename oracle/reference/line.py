@@ -27,10 +27,10 @@ def taken(byte):
 
 
 def rank_of(text):
-    """The eight codes of a rank; PLACE unless letters and digits total eight."""
+    """The eight codes of a rank; PLACE unless letters and digits total eight, and no digit follows a digit (02, W-203)."""
     codes = []
-    for byte in text:
-        refuse_unless(byte in PIECES or byte in DIGITS, PLACE)
+    for byte, before in zip(text, b"/" + text):
+        refuse_unless(byte in PIECES or byte in DIGITS and before not in DIGITS, PLACE)
         codes += [PIECES[byte]] if byte in PIECES else [EMPTY] * DIGITS[byte]
     refuse_unless(len(codes) == 8, PLACE)
     return codes

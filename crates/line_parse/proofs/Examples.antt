@@ -75,13 +75,18 @@ no-bytes : answers ("8/8/8/8/8/8/8/8 w;1-0\n" ∷ "8/8/8/8/8/8/8/8 w;1-0;\u{7f}"
 unfolding answers
 no-bytes = refl
 
--- taken: each result; `b`; blanks at the ends of the fields, a CR at the end of the line; several spaces; a third field; `44` and `53`
+-- taken: each result; `b`; blanks at the ends of the fields, a CR at the end of the line; several spaces; a third field
 takes :
     answers
-    ("8/8/8/8/8/8/8/8 w;0-1" ∷ "8/8/8/8/8/8/8/8 b;1/2-1/2" ∷ "8/8/8/8/8/8/8/8 b;1-0" ∷ "\t 8/8/8/8/8/8/8/8 w\t;\t1-0 \r" ∷ "8/8/8/8/8/8/8/8   w x;1-0;2-0;" ∷ "44/8/8/8/53/8/8/8 w;0-1" ∷ [])
-    ≡ 20 ∷ 31 ∷ 32 ∷ 22 ∷ 22 ∷ 20 ∷ []
+    ("8/8/8/8/8/8/8/8 w;0-1" ∷ "8/8/8/8/8/8/8/8 b;1/2-1/2" ∷ "8/8/8/8/8/8/8/8 b;1-0" ∷ "\t 8/8/8/8/8/8/8/8 w\t;\t1-0 \r" ∷ "8/8/8/8/8/8/8/8   w x;1-0;2-0;" ∷ [])
+    ≡ 20 ∷ 31 ∷ 32 ∷ 22 ∷ 22 ∷ []
 unfolding answers
 takes = refl
+
+-- W-203: a run written in two is PLACE, before a bad side
+cut-runs : answers ("44/8/8/8/8/8/8/8 w;0-1" ∷ "8/8/8/8/53/8/8/8 W;x" ∷ []) ≡ 11 ∷ 11 ∷ []
+unfolding answers
+cut-runs = refl
 
 -- the first in order: BYTE before FIELD, FIELD before PLACE, PLACE before SIDE and RESULT, SIDE before RESULT
 in-order : answers ("\n" ∷ "x" ∷ "x W;x" ∷ "8/8/8/8/8/8/8/8 W;x" ∷ []) ≡ 9 ∷ 10 ∷ 11 ∷ 12 ∷ []

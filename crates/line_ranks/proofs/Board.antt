@@ -1,8 +1,8 @@
 -- The board of eight ranks has 64 bytes, each 0 or a piece's code. Assumes nothing.
-use mathlib.Core.Path.{_≡_, refl, ap, ap₂, _∙_}
+use mathlib.Core.Path.{_≡_, _∙_}
 use mathlib.Core.Bool.{Bool, true, false, cond, _&&_}
-use mathlib.Core.List.{List, [], _∷_, _++_}
-use Prim.Native.Nat.{ℕ, zero, suc, _+_, _*_, _-_}
+use mathlib.Core.List.{List, [], _∷_}
+use Prim.Native.Nat.{ℕ, zero, suc, _+_, _*_}
 use native.Mathlib.Omega.{arith}
 use lib.Dec.{T, eqb, eqb→eq}
 use lib.ListN.{length, replicate, length-append}
@@ -10,13 +10,15 @@ use Rattle.laws.proofs.Truth.{and-l, and-r, and-i, true-T}
 use Rattle.chess.specs.Codes.{isPiece}
 use Rattle.text_in.specs.Text.{slash, every, before, after}
 use Rattle.text_in.proofs.Every.{every-both, every-run}
-use Rattle.line_ranks.specs.Ranks.{pieceOf, runOf, isMark, spelled, isRank, squaresOf, areRanks, stacked}
+use Rattle.line_ranks.specs.Ranks.{pieceOf, runOf, isMark, spelled, isRank, wholeRuns, squaresOf, areRanks, stacked}
 
 -- ---- how many squares
-rank-eight : (s : List ℕ) → T (isRank s) → length (squaresOf s) ≡ 8
-rank-eight s t = eqb→eq (length (squaresOf s)) 8 (and-r (every isMark s) (eqb (length (squaresOf s)) 8) t)
+pub rank-eight : (s : List ℕ) → T (isRank s) → length (squaresOf s) ≡ 8
+rank-eight s t =
+    eqb→eq (length (squaresOf s)) 8
+    (and-r (wholeRuns s) (eqb (length (squaresOf s)) 8) (and-r (every isMark s) (wholeRuns s && eqb (length (squaresOf s)) 8) t))
 
-board-many : (n : ℕ) (s : List ℕ) → T (areRanks n s) → length (stacked n s) ≡ 8 * n + 8
+pub board-many : (n : ℕ) (s : List ℕ) → T (areRanks n s) → length (stacked n s) ≡ 8 * n + 8
 unfolding areRanks stacked
 board-many zero s t = rank-eight s t
 board-many (suc n) s t =

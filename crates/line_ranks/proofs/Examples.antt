@@ -1,8 +1,7 @@
 -- Worked examples of the definitions, by computation. Assumes nothing.
 use mathlib.Core.Path.{_≡_, refl}
 use mathlib.Core.Bool.{Bool, true, false}
-use mathlib.Core.List.{List, [], _∷_, map}
-use Prim.Native.Nat.{ℕ}
+use mathlib.Core.List.{[], _∷_, map}
 use Prim.Native.String.{String}
 use Rattle.text_in.specs.Text.{text}
 use Rattle.line_ranks.specs.Ranks.{pieceOf, squaresOf, areRanks, stacked}
@@ -34,10 +33,19 @@ good : String → Bool
 unfolding areRanks
 good s = areRanks 7 (text s)
 
--- taken: the starting position; an empty board; a run written in two, `44` and `53`, until W-203
-taken : good "rnbqkbnr/pppppppp/8/8/8/8/PPPPPPPP/RNBQKBNR" ∷ good "8/8/8/8/8/8/8/8" ∷ good "44/8/8/8/53/8/8/8" ∷ good "8/8/8/8/8/8/8/11111111" ∷ [] ≡ true ∷ true ∷ true ∷ true ∷ []
+-- taken: the starting position; an empty board, digits of two ranks beside a `/`; digits on both sides of a letter
+taken :
+    good "rnbqkbnr/pppppppp/8/8/8/8/PPPPPPPP/RNBQKBNR" ∷ good "8/8/8/8/8/8/8/8" ∷ good "p6p/1p4p1/8/8/8/8/8/3K4" ∷ good "1p1p1p1p/8/8/8/8/8/8/8" ∷ []
+    ≡ true ∷ true ∷ true ∷ true ∷ []
 unfolding good
 taken = refl
+
+-- W-203: a run written in two or more, whole ranks and beside pieces
+cut-runs :
+    good "44/8/8/8/8/8/8/8" ∷ good "8/8/8/8/53/8/8/8" ∷ good "8/8/8/8/8/8/8/11111111" ∷ good "8/8/8/1p11p3/8/8/8/8" ∷ good "8/8/8/8/8/8/8/p34" ∷ good "pppppp11/8/8/8/8/8/8/8" ∷ []
+    ≡ false ∷ false ∷ false ∷ false ∷ false ∷ false ∷ []
+unfolding good
+cut-runs = refl
 
 -- refused: `0`, `9`, seven squares, nine squares, seven ranks, nine ranks, an empty rank, a `/` too many, a letter that is none, nothing at all
 not-taken :

@@ -1,6 +1,6 @@
 -- The invariant of `place`: what is passed stands on the board, and the rest of the text decides. Assumes nothing.
 use mathlib.Core.Path.{_≡_, refl, sym, ap, subst, _∙_}
-use mathlib.Core.Bool.{Bool, true, false, cond, _&&_, and-false}
+use mathlib.Core.Bool.{Bool, true, false, _&&_, and-false}
 use mathlib.Core.List.{List, [], _∷_, _++_, append-assoc, append-nil}
 use Prim.Native.Nat.{ℕ, zero, suc, _+_, _-_, _*_, _≤_, _<_}
 use native.Mathlib.Decide.{ℕ-discrete, decLe, decLt}
@@ -8,16 +8,15 @@ use native.Mathlib.Numerals.{add-one}
 use native.Mathlib.Omega.{arith}
 use lib.ListN.{length, drop, getD, set, replicate, length-set, length-append, length-replicate, replicate-append-replicate, drop-of-length-le}
 use lib.Seq.{drop-cons, set-at}
-use lib.Dec.{eqb}
 use borrow.Author.Tests.{eq-eqb, ne-eqb}
-use Rattle.text_in.specs.Text.{slash, every, before, after}
-use Rattle.line_ranks.specs.Ranks.{pieceOf, runOf, spelled, areRanks, stacked, squaresOf}
+use Rattle.text_in.specs.Text.{every, before, after}
+use Rattle.line_ranks.specs.Ranks.{pieceOf, runOf, digitFirst, wholeRuns, areRanks, stacked, squaresOf}
 use Rattle.line_ranks.specs.Steps.{stepOf}
 use Rattle.line_ranks.specs.Promises.{Places, Nothing, bare}
 use Rattle.line_ranks.specs.declared.inner.Placed.{Placed}
 use Rattle.line_ranks.specs.declared.inner.Next.{Next}
 use Rattle.line_ranks.specs.declared.inner.Next.the-variants.{Below, Piece, Empty, Wrong}
-use Rattle.line_ranks.proofs.Steps.{lowest, unfinished, below, too-many, empties, no-mark, full, piece}
+use Rattle.line_ranks.proofs.Steps.{lowest, unfinished, below, twice, too-many, empties, no-mark, full, piece}
 use Rattle.line_ranks.proofs.Rows
 
 abbrev zeros : ℕ → List ℕ
@@ -27,7 +26,7 @@ zeros-length : (n : ℕ) → length (zeros n) ≡ n
 zeros-length n = length-replicate n 0
 
 -- the squares of this rank that are passed are the row, and the ranks above it are done
-pub record Turn (s board : List ℕ) (rank file i : ℕ) : Type 0 where
+pub record Turn (s board : List ℕ) (rank file : ℕ) (digit : Bool) (i : ℕ) : Type 0 where
   pub row : List ℕ
   pub done : List ℕ
   pub most : i ≤ length s
@@ -36,10 +35,10 @@ pub record Turn (s board : List ℕ) (rank file i : ℕ) : Type 0 where
   pub within : file ≤ 8
   pub size : length board ≡ 64
   pub stands : board ≡ zeros (8 * rank) ++ (row ++ (zeros (8 - file) ++ done))
-  pub decides : areRanks 7 s ≡ Rows.goesOn rank file (drop i s)
+  pub decides : areRanks 7 s ≡ Rows.goesOn rank digit file (drop i s)
   pub spells : stacked 7 s ≡ Rows.comes rank row (drop i s) ++ done
 
-pub turn-first : (s : List ℕ) → Turn s bare 7 0 0
+pub turn-first : (s : List ℕ) → Turn s bare 7 0 false 0
 turn-first s =
     record {
       row = [];
@@ -89,27 +88,27 @@ down m file row done e =
 -- ---- one turn
 -- what the answer of `step` leaves to be true
 abbrev pub After : List ℕ → List ℕ → ℕ → ℕ → ℕ → Next → Type 0
-After s board i rank file Below = (0 < rank) × Turn s board (rank - 1) 0 (i + 1)
-After s board i rank file (Piece code) = (file < 8) × Turn s (set board (8 * rank + file) code) rank (file + 1) (i + 1)
-After s board i rank file (Empty n) = Turn s board rank (file + n) (i + 1)
+After s board i rank file Below = (0 < rank) × Turn s board (rank - 1) 0 false (i + 1)
+After s board i rank file (Piece code) = (file < 8) × Turn s (set board (8 * rank + file) code) rank (file + 1) false (i + 1)
+After s board i rank file (Empty n) = Turn s board rank (file + n) true (i + 1)
 After s board i rank file Wrong = areRanks 7 s ≡ false
 
 module _ (s board : List ℕ) (i : ℕ) (h : i < length s) where
   cut : drop i s ≡ getD s i 0 ∷ drop (i + 1) s
   cut = rw (drop-cons s i 0, add-one i)
 
-  module _ (rank file : ℕ) (t : Turn s board rank file i) where
-    decided : areRanks 7 s ≡ Rows.goesOn rank file (getD s i 0 ∷ drop (i + 1) s)
-    decided = t .decides ∙ ap (Rows.goesOn rank file) cut
+  module _ (rank file : ℕ) (digit : Bool) (t : Turn s board rank file digit i) where
+    decided : areRanks 7 s ≡ Rows.goesOn rank digit file (getD s i 0 ∷ drop (i + 1) s)
+    decided = t .decides ∙ ap (Rows.goesOn rank digit file) cut
 
     spelt : stacked 7 s ≡ Rows.comes rank (t .row) (getD s i 0 ∷ drop (i + 1) s) ++ t .done
     spelt = t .spells ∙ ap (λ (l : List ℕ). Rows.comes rank (t .row) l ++ t .done) cut
 
-    at-wrong : (getD s i 0 ≡ 47 → ⊥) → ((w : List ℕ) → Rows.goodRow file (getD s i 0 ∷ w) ≡ false) → areRanks 7 s ≡ false
-    at-wrong n g = decided ∙ Rows.on-wrong (getD s i 0) n rank file (drop (i + 1) s) g
+    at-wrong : (getD s i 0 ≡ 47 → ⊥) → ((w : List ℕ) → Rows.goodRow digit file (getD s i 0 ∷ w) ≡ false) → areRanks 7 s ≡ false
+    at-wrong n g = decided ∙ Rows.on-wrong (getD s i 0) n rank digit file (drop (i + 1) s) g
 
     at-piece : (getD s i 0 ≡ 47 → ⊥) → runOf (getD s i 0) ≡ 0 → (pieceOf (getD s i 0) ≡ 0 → ⊥) → file < 8
-        → Turn s (set board (8 * rank + file) (pieceOf (getD s i 0))) rank (file + 1) (i + 1)
+        → Turn s (set board (8 * rank + file) (pieceOf (getD s i 0))) rank (file + 1) false (i + 1)
     at-piece n e z l =
         let b : ℕ = getD s i 0 in
         record {
@@ -121,12 +120,13 @@ module _ (s board : List ℕ) (i : ℕ) (h : i < length s) where
           within = omega arith;
           size = length-set board (8 * rank + file) (pieceOf b) ∙ t .size;
           stands = ap (λ (l : List ℕ). set l (8 * rank + file) (pieceOf b)) (t .stands) ∙ put rank file (t .row) (t .done) (pieceOf b) (t .passed) l;
-          decides = decided ∙ Rows.on-row b n rank file (file + 1) (drop (i + 1) s) (λ w. Rows.row-piece b file w e z);
+          decides = decided ∙ Rows.on-row b n rank digit file false (file + 1) (drop (i + 1) s) (λ w. Rows.row-piece b file w digit e z);
           spells = spelt ∙ ap (λ (l : List ℕ). l ++ t .done) (Rows.comes-row b n rank (t .row) (pieceOf b ∷ []) (drop (i + 1) s) (rw (eq-eqb (runOf b) 0 e)));
         }
 
-    at-empty : (getD s i 0 ≡ 47 → ⊥) → (runOf (getD s i 0) ≡ 0 → ⊥) → file + runOf (getD s i 0) ≤ 8 → Turn s board rank (file + runOf (getD s i 0)) (i + 1)
-    at-empty n e l =
+    at-empty : (getD s i 0 ≡ 47 → ⊥) → (runOf (getD s i 0) ≡ 0 → ⊥) → digit ≡ false → file + runOf (getD s i 0) ≤ 8
+        → Turn s board rank (file + runOf (getD s i 0)) true (i + 1)
+    at-empty n e d l =
         let b : ℕ = getD s i 0 in
         record {
           row = t .row ++ zeros (runOf b);
@@ -137,12 +137,14 @@ module _ (s board : List ℕ) (i : ℕ) (h : i < length s) where
           within = l;
           size = t .size;
           stands = t .stands ∙ skip rank file (t .row) (t .done) (runOf b) l;
-          decides = decided ∙ Rows.on-row b n rank file (file + runOf b) (drop (i + 1) s) (λ w. Rows.row-empty b file w e);
+          decides =
+              decided ∙ ap (λ (x : Bool). Rows.goesOn rank x file (b ∷ drop (i + 1) s)) d
+              ∙ Rows.on-row b n rank false file true (file + runOf b) (drop (i + 1) s) (λ w. Rows.row-empty b file w e);
           spells = spelt ∙ ap (λ (l : List ℕ). l ++ t .done) (Rows.comes-row b n rank (t .row) (zeros (runOf b)) (drop (i + 1) s) (rw (ne-eqb (runOf b) 0 e)));
         }
 
-  at-below : (m file : ℕ) → Turn s board (suc m) file i → getD s i 0 ≡ 47 → file ≡ 8 → Turn s board m 0 (i + 1)
-  at-below m file t e q =
+  at-below : (m file : ℕ) (digit : Bool) → Turn s board (suc m) file digit i → getD s i 0 ≡ 47 → file ≡ 8 → Turn s board m 0 false (i + 1)
+  at-below m file digit t e q =
       record {
         row = [];
         done = t .row ++ t .done;
@@ -152,55 +154,65 @@ module _ (s board : List ℕ) (i : ℕ) (h : i < length s) where
         within = omega arith;
         size = t .size;
         stands = t .stands ∙ down m file (t .row) (t .done) q;
-        decides = decided (suc m) file t ∙ Rows.slash-below (getD s i 0) m file (drop (i + 1) s) e q;
-        spells = spelt (suc m) file t ∙ ap (λ (l : List ℕ). l ++ t .done) (Rows.slash-board (getD s i 0) m file (drop (i + 1) s) e (t .row)) ∙ append-assoc (Rows.comes m [] (drop (i + 1) s)) (t .row) (t .done);
+        decides = decided (suc m) file digit t ∙ Rows.slash-below (getD s i 0) m digit file (drop (i + 1) s) e q;
+        spells = spelt (suc m) file digit t ∙ ap (λ (l : List ℕ). l ++ t .done) (Rows.slash-board (getD s i 0) m digit file (drop (i + 1) s) e (t .row)) ∙ append-assoc (Rows.comes m [] (drop (i + 1) s)) (t .row) (t .done);
       }
 
-  at-slash : (rank file : ℕ) → Turn s board rank file i → getD s i 0 ≡ 47 → After s board i rank file (stepOf rank file (getD s i 0))
-  at-slash zero file t e =
-      subst (After s board i zero file) (lowest zero file (getD s i 0) e refl) (decided zero file t ∙ Rows.slash-lowest (getD s i 0) file (drop (i + 1) s) e)
-  at-slash (suc m) file t e =
+  at-slash : (rank file : ℕ) (digit : Bool) → Turn s board rank file digit i → getD s i 0 ≡ 47 → After s board i rank file (stepOf rank file digit (getD s i 0))
+  at-slash zero file digit t e =
+      subst (After s board i zero file) (lowest zero file digit (getD s i 0) e refl) (decided zero file digit t ∙ Rows.slash-lowest (getD s i 0) digit file (drop (i + 1) s) e)
+  at-slash (suc m) file digit t e =
       elim (ℕ-discrete file 8) [
         | yes q ↦
             let k : m ≡ suc m - 1 = omega arith in
-            subst (After s board i (suc m) file) (below (suc m) file (getD s i 0) e (λ z. omega arith) q)
-            (omega arith, subst (λ (x : ℕ). Turn s board x 0 (i + 1)) k (at-below m file t e q))
+            subst (After s board i (suc m) file) (below (suc m) file digit (getD s i 0) e (λ z. omega arith) q)
+            (omega arith, subst (λ (x : ℕ). Turn s board x 0 false (i + 1)) k (at-below m file digit t e q))
         | no q ↦
-            subst (After s board i (suc m) file) (unfinished (suc m) file (getD s i 0) e (λ z. omega arith) q)
-            (decided (suc m) file t ∙ Rows.slash-unfinished (getD s i 0) m file (drop (i + 1) s) e q)
+            subst (After s board i (suc m) file) (unfinished (suc m) file digit (getD s i 0) e (λ z. omega arith) q)
+            (decided (suc m) file digit t ∙ Rows.slash-unfinished (getD s i 0) m digit file (drop (i + 1) s) e q)
       ]
 
-  at-mark : (rank file : ℕ) → Turn s board rank file i → (getD s i 0 ≡ 47 → ⊥) → After s board i rank file (stepOf rank file (getD s i 0))
-  at-mark rank file t n =
+  -- a digit: the first of its run, or one too many
+  at-digit : (rank file : ℕ) (digit : Bool) → Turn s board rank file digit i → (getD s i 0 ≡ 47 → ⊥) → (runOf (getD s i 0) ≡ 0 → ⊥)
+      → After s board i rank file (stepOf rank file digit (getD s i 0))
+  at-digit rank file true t n e =
+      subst (After s board i rank file) (twice rank file true (getD s i 0) n (runOf (getD s i 0)) refl (omega arith) refl)
+      (at-wrong rank file true t n (λ w. Rows.row-twice (getD s i 0) file w e))
+  at-digit rank file false t n e =
+      elim (decLe (file + runOf (getD s i 0)) 8) [
+        | yes l ↦
+            subst (After s board i rank file) (empties rank file false (getD s i 0) n (runOf (getD s i 0)) refl (omega arith) refl l)
+            (at-empty rank file false t n e refl l)
+        | no l ↦
+            subst (After s board i rank file) (too-many rank file false (getD s i 0) n (runOf (getD s i 0)) refl (omega arith) refl (omega arith))
+            (at-wrong rank file false t n (λ w. Rows.row-too-many (getD s i 0) file w false e (omega arith)))
+      ]
+
+  at-mark : (rank file : ℕ) (digit : Bool) → Turn s board rank file digit i → (getD s i 0 ≡ 47 → ⊥) → After s board i rank file (stepOf rank file digit (getD s i 0))
+  at-mark rank file digit t n =
       elim (ℕ-discrete (runOf b) 0) [
         | yes e ↦
             elim (ℕ-discrete (pieceOf b) 0) [
               | yes z ↦
-                  subst (After s board i rank file) (no-mark rank file b n (runOf b) refl (omega arith) (pieceOf b) refl z)
-                  (at-wrong rank file t n (λ w. Rows.row-wrong b file w e z))
+                  subst (After s board i rank file) (no-mark rank file digit b n (runOf b) refl (omega arith) (pieceOf b) refl z)
+                  (at-wrong rank file digit t n (λ w. Rows.row-wrong b file w digit e z))
               | no z ↦
                   elim (decLt file 8) [
-                    | yes l ↦ subst (After s board i rank file) (piece rank file b n (runOf b) refl (omega arith) (pieceOf b) refl z l) (l, at-piece rank file t n e z l)
+                    | yes l ↦ subst (After s board i rank file) (piece rank file digit b n (runOf b) refl (omega arith) (pieceOf b) refl z l) (l, at-piece rank file digit t n e z l)
                     | no l ↦
-                        subst (After s board i rank file) (full rank file b n (runOf b) refl (omega arith) (pieceOf b) refl z (omega arith))
-                        (at-wrong rank file t n (λ w. Rows.row-full b file w e (omega arith)))
+                        subst (After s board i rank file) (full rank file digit b n (runOf b) refl (omega arith) (pieceOf b) refl z (omega arith))
+                        (at-wrong rank file digit t n (λ w. Rows.row-full b file w digit e (omega arith)))
                   ]
             ]
-        | no e ↦
-            elim (decLe (file + runOf b) 8) [
-              | yes l ↦ subst (After s board i rank file) (empties rank file b n (runOf b) refl (omega arith) l) (at-empty rank file t n e l)
-              | no l ↦
-                  subst (After s board i rank file) (too-many rank file b n (runOf b) refl (omega arith) (omega arith))
-                  (at-wrong rank file t n (λ w. Rows.row-too-many b file w e (omega arith)))
-            ]
+        | no e ↦ at-digit rank file digit t n e
       ]
     where
       b : ℕ
       b = getD s i 0
 
-  pub turn : (rank file : ℕ) → Turn s board rank file i → {r n : Next} → r ≡ stepOf rank file (getD s i 0) → r ≡ n → After s board i rank file n
-  turn rank file t e told =
-      subst (After s board i rank file) (sym e ∙ told) (elim (ℕ-discrete (getD s i 0) 47) [ yes q ↦ at-slash rank file t q | no q ↦ at-mark rank file t q ])
+  pub turn : (rank file : ℕ) (digit : Bool) → Turn s board rank file digit i → {r n : Next} → r ≡ stepOf rank file digit (getD s i 0) → r ≡ n → After s board i rank file n
+  turn rank file digit t e told =
+      subst (After s board i rank file) (sym e ∙ told) (elim (ℕ-discrete (getD s i 0) 47) [ yes q ↦ at-slash rank file digit t q | no q ↦ at-mark rank file digit t q ])
 
 -- ---- the end of the text
 pub none-left : (n : ℕ) → areRanks n [] ≡ false
@@ -211,25 +223,25 @@ none-left (suc n) = refl
 pub refused : (s : List ℕ) (r : Placed) → Nothing r → areRanks 7 s ≡ false → Places s r
 refused s r n e = record { ok = n .ok ∙ sym e; board = n .board ∙ rw e }
 
-module _ (s board : List ℕ) (file i : ℕ) (h : length s ≤ i) where
-  ended : (rank : ℕ) → Turn s board rank file i → areRanks 7 s ≡ Rows.goesOn rank file []
-  ended rank t = t .decides ∙ ap (Rows.goesOn rank file) (drop-of-length-le s h)
+module _ (s board : List ℕ) (file : ℕ) (digit : Bool) (i : ℕ) (h : length s ≤ i) where
+  ended : (rank : ℕ) → Turn s board rank file digit i → areRanks 7 s ≡ Rows.goesOn rank digit file []
+  ended rank t = t .decides ∙ ap (Rows.goesOn rank digit file) (drop-of-length-le s h)
 
-  pub too-few : (rank : ℕ) → Turn s board rank file i → (rank ≡ 0 → ⊥) → areRanks 7 s ≡ false
+  pub too-few : (rank : ℕ) → Turn s board rank file digit i → (rank ≡ 0 → ⊥) → areRanks 7 s ≡ false
   unfolding before after
   too-few zero t n = absurd (n refl)
-  too-few (suc m) t n = ended (suc m) t ∙ ap (λ (x : Bool). Rows.goodRow file [] && x) (none-left m) ∙ and-false (Rows.goodRow file [])
+  too-few (suc m) t n = ended (suc m) t ∙ ap (λ (x : Bool). Rows.goodRow digit file [] && x) (none-left m) ∙ and-false (Rows.goodRow digit file [])
 
-  pub too-short : (rank : ℕ) → Turn s board rank file i → rank ≡ 0 → file < 8 → areRanks 7 s ≡ false
-  unfolding every squaresOf
-  too-short zero t e n = ended zero t ∙ rw (ne-eqb (file + 0) 8 (omega arith))
+  pub too-short : (rank : ℕ) → Turn s board rank file digit i → rank ≡ 0 → file < 8 → areRanks 7 s ≡ false
+  unfolding every digitFirst wholeRuns squaresOf
+  too-short zero t e n = ended zero t ∙ rw (and-false digit, ne-eqb (file + 0) 8 (omega arith))
   too-short (suc m) t e n = absurd (omega arith)
 
-  pub complete : (rank : ℕ) → Turn s board rank file i → rank ≡ 0 → 8 ≤ file → Places s (record { ok = true; board = board })
-  unfolding every squaresOf
+  pub complete : (rank : ℕ) → Turn s board rank file digit i → rank ≡ 0 → 8 ≤ file → Places s (record { ok = true; board = board })
+  unfolding every digitFirst wholeRuns squaresOf
   complete (suc m) t e q = absurd (omega arith)
   complete zero t e q =
-      let good : areRanks 7 s ≡ true = ended zero t ∙ rw (eq-eqb (file + 0) 8 (omega (arith, t .within))) in
+      let good : areRanks 7 s ≡ true = ended zero t ∙ rw (and-false digit, eq-eqb (file + 0) 8 (omega (arith, t .within))) in
       let z : 8 - file ≡ 0 = omega arith in
       let spelt : stacked 7 s ≡ t .row ++ t .done =
       t .spells ∙ ap (λ (l : List ℕ). Rows.comes 0 (t .row) l ++ t .done) (drop-of-length-le s h) ∙ ap (λ (l : List ℕ). l ++ t .done) (append-nil (t .row))

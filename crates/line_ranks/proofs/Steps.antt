@@ -1,5 +1,5 @@
 -- One byte of the ranks: each way through `step` gives what its definition says. Assumes nothing.
-use mathlib.Core.Path.{_≡_, refl, sym, ap, _∙_}
+use mathlib.Core.Path.{_≡_, refl}
 use mathlib.Core.Bool.{Bool, true, false, cond, _&&_}
 use Prim.Native.Nat.{ℕ, _+_, _-_, _≤_, _<_}
 use native.Mathlib.Omega.{arith}
@@ -7,7 +7,6 @@ use lib.Dec.{leb}
 use borrow.Author.Tests.{eq-eqb, ne-eqb, le-leb, lt-leb, lt-ltb, le-ltb, leb-true}
 use Rattle.line_ranks.specs.Ranks.{pieceOf, runOf}
 use Rattle.line_ranks.specs.Steps.{stepOf}
-use Rattle.line_ranks.specs.declared.inner.Next.{Next}
 use Rattle.line_ranks.specs.declared.inner.Next.the-variants.{Below, Piece, Empty, Wrong}
 
 -- a digit stands for eight squares at most
@@ -20,30 +19,33 @@ run-le b = go (leb 49 b) (leb b 56) refl
     go true false e = omega arith
     go false t e = omega arith
 
-module _ (rank file b : ℕ) where
+module _ (rank file : ℕ) (digit : Bool) (b : ℕ) where
   module _ (e : b ≡ 47) where
-    pub lowest : rank ≡ 0 → Wrong ≡ stepOf rank file b
+    pub lowest : rank ≡ 0 → Wrong ≡ stepOf rank file digit b
     lowest r = rw (eq-eqb b 47 e, eq-eqb rank 0 r)
 
-    pub unfinished : (rank ≡ 0 → ⊥) → (file ≡ 8 → ⊥) → Wrong ≡ stepOf rank file b
+    pub unfinished : (rank ≡ 0 → ⊥) → (file ≡ 8 → ⊥) → Wrong ≡ stepOf rank file digit b
     unfinished r f = rw (eq-eqb b 47 e, ne-eqb rank 0 r, ne-eqb file 8 f)
 
-    pub below : (rank ≡ 0 → ⊥) → file ≡ 8 → Below ≡ stepOf rank file b
+    pub below : (rank ≡ 0 → ⊥) → file ≡ 8 → Below ≡ stepOf rank file digit b
     below r f = rw (eq-eqb b 47 e, ne-eqb rank 0 r, eq-eqb file 8 f)
 
   module _ (n : b ≡ 47 → ⊥) (empty : ℕ) (q : empty ≡ runOf b) where
-    pub too-many : 0 < empty → 8 < file + empty → Wrong ≡ stepOf rank file b
-    too-many h l = rw (ne-eqb b 47 n, ← q, ne-eqb empty 0 (omega arith), lt-leb (file + empty) 8 l)
+    pub twice : 0 < empty → digit ≡ true → Wrong ≡ stepOf rank file digit b
+    twice h d = rw (ne-eqb b 47 n, ← q, ne-eqb empty 0 (omega arith), d)
 
-    pub empties : 0 < empty → file + empty ≤ 8 → Empty empty ≡ stepOf rank file b
-    empties h l = rw (ne-eqb b 47 n, ← q, ne-eqb empty 0 (omega arith), le-leb (file + empty) 8 l)
+    pub too-many : 0 < empty → digit ≡ false → 8 < file + empty → Wrong ≡ stepOf rank file digit b
+    too-many h d l = rw (ne-eqb b 47 n, ← q, ne-eqb empty 0 (omega arith), d, lt-leb (file + empty) 8 l)
+
+    pub empties : 0 < empty → digit ≡ false → file + empty ≤ 8 → Empty empty ≡ stepOf rank file digit b
+    empties h d l = rw (ne-eqb b 47 n, ← q, ne-eqb empty 0 (omega arith), d, le-leb (file + empty) 8 l)
 
     module _ (h : empty ≤ 0) (code : ℕ) (p : code ≡ pieceOf b) where
-      pub no-mark : code ≡ 0 → Wrong ≡ stepOf rank file b
+      pub no-mark : code ≡ 0 → Wrong ≡ stepOf rank file digit b
       no-mark z = rw (ne-eqb b 47 n, ← q, eq-eqb empty 0 (omega arith), ← p, eq-eqb code 0 z)
 
-      pub full : (code ≡ 0 → ⊥) → 8 ≤ file → Wrong ≡ stepOf rank file b
+      pub full : (code ≡ 0 → ⊥) → 8 ≤ file → Wrong ≡ stepOf rank file digit b
       full z l = rw (ne-eqb b 47 n, ← q, eq-eqb empty 0 (omega arith), ← p, ne-eqb code 0 z, le-ltb file 8 l)
 
-      pub piece : (code ≡ 0 → ⊥) → file < 8 → Piece code ≡ stepOf rank file b
+      pub piece : (code ≡ 0 → ⊥) → file < 8 → Piece code ≡ stepOf rank file digit b
       piece z l = rw (ne-eqb b 47 n, ← q, eq-eqb empty 0 (omega arith), ← p, ne-eqb code 0 z, lt-ltb file 8 l)

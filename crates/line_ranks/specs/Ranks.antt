@@ -1,5 +1,5 @@
 -- Eight ranks, as the PGN standard's FEN writes them (document 01, "A collection's line"), and the board that they spell. Definitions only.
-use mathlib.Core.Bool.{Bool, cond, not, _||_, _&&_}
+use mathlib.Core.Bool.{Bool, true, false, cond, not, _||_, _&&_}
 use mathlib.Core.List.{List, [], _∷_, _++_}
 use Prim.Native.Nat.{ℕ, zero, suc, _-_}
 use Prim.Native.Char.{code}
@@ -22,9 +22,12 @@ pieceOf b =
 unfoldable pub runOf : ℕ → ℕ
 runOf b = cond (leb (code "1") b && leb b (code "8")) (b - code "0") 0
 
+abbrev pub isDigit : ℕ → Bool
+isDigit b = not (eqb (runOf b) 0)
+
 -- a letter or a digit
 abbrev pub isMark : ℕ → Bool
-isMark b = not (eqb (pieceOf b) 0) || not (eqb (runOf b) 0)
+isMark b = not (eqb (pieceOf b) 0) || isDigit b
 
 -- the squares that it stands for: a digit so many empty ones, a letter its piece
 abbrev pub spelled : ℕ → List ℕ
@@ -36,13 +39,25 @@ unfolding pieceOf runOf
 squaresOf [] = []
 squaresOf (b ∷ s) = spelled b ++ squaresOf s
 
--- a rank: "letters PNBRQKpnbrqk and digits 1 to 8 totalling eight"
+-- a digit comes first
+unfoldable pub digitFirst : List ℕ → Bool
+unfolding runOf
+digitFirst [] = false
+digitFirst (b ∷ s) = isDigit b
+
+-- W-203: "the run must be written whole", so no digit comes right after a digit
+unfoldable pub wholeRuns : List ℕ → Bool
+unfolding runOf digitFirst
+wholeRuns [] = true
+wholeRuns (b ∷ s) = not (isDigit b && digitFirst s) && wholeRuns s
+
+-- a rank: "letters PNBRQKpnbrqk and digits 1 to 8 totalling eight", and W-203: "Two digits in a row are refused"
 abbrev pub isRank : List ℕ → Bool
-isRank s = every isMark s && eqb (length (squaresOf s)) 8
+isRank s = every isMark s && (wholeRuns s && eqb (length (squaresOf s)) 8)
 
 -- ranks "joined by `/`": this one, and n more below it
 unfoldable pub areRanks : ℕ → List ℕ → Bool
-unfolding every before after pieceOf runOf squaresOf
+unfolding every before after pieceOf runOf digitFirst wholeRuns squaresOf
 areRanks zero s = isRank s
 areRanks (suc n) s = isRank (before slash s) && areRanks n (after slash s)
 

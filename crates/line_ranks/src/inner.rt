@@ -16,25 +16,29 @@ pub struct Placed {
     pub board: [u8; Square::COUNT],
 }
 
-// The code of a letter's piece; that of an empty square for a byte that is none of the twelve letters.
+// Three digits for each letter of the alphabet, A at 3: half the code of its white piece, 0 for a letter that is no piece's.
+const LETTERS: u64 = 0x0171_0806_0000_0100;
+
+// The code of a letter's piece; that of an empty square for a byte that is none of the twelve letters. Small letters stand 32 after capitals, as a black
+// piece's code is one more than the white one's. A match would be a jump for each letter, and no jump of a position is like the last.
 fn piece(b: u8) -> u8
     ensures { λ r. ⌜ r ≡ pieceOf b ⌝ }
 {
-    match b {
-        b'P' => Piece::WHITE_PAWN.code(),
-        b'p' => Piece::BLACK_PAWN.code(),
-        b'N' => Piece::WHITE_KNIGHT.code(),
-        b'n' => Piece::BLACK_KNIGHT.code(),
-        b'B' => Piece::WHITE_BISHOP.code(),
-        b'b' => Piece::BLACK_BISHOP.code(),
-        b'R' => Piece::WHITE_ROOK.code(),
-        b'r' => Piece::BLACK_ROOK.code(),
-        b'Q' => Piece::WHITE_QUEEN.code(),
-        b'q' => Piece::BLACK_QUEEN.code(),
-        b'K' => Piece::WHITE_KING.code(),
-        b'k' => Piece::BLACK_KING.code(),
-        _ => Piece::EMPTY,
+    if b < b'B' {
+        return Piece::EMPTY;
     }
+    if b > b'r' {
+        return Piece::EMPTY;
+    }
+    let letter = b % 32;
+    if letter > 18 {
+        return Piece::EMPTY;
+    }
+    let half = (LETTERS >> (3 * letter)) % 8;
+    if half == 0 {
+        return Piece::EMPTY;
+    }
+    2 * (half as u8) + b / 32 % 2
 }
 
 // How many empty squares a digit stands for; 0 for a byte that is none of 1 to 8.
@@ -67,10 +71,10 @@ enum Next {
     Wrong,
 }
 
-// `rank` ranks are to come below this one, and `file` squares of it are passed.
-fn step(rank: usize, file: usize, b: u8) -> Next
+// `rank` ranks are to come below this one, and `file` squares of it are passed; `digit`: the byte before was a digit of it.
+fn step(rank: usize, file: usize, digit: bool, b: u8) -> Next
     requires { ⌜ file ≤ 8 ⌝ }
-    ensures { λ r. ⌜ r ≡ stepOf rank file b ⌝ }
+    ensures { λ r. ⌜ r ≡ stepOf rank file digit b ⌝ }
 {
     if b == b'/' {
         if rank == 0 {
@@ -83,6 +87,9 @@ fn step(rank: usize, file: usize, b: u8) -> Next
     }
     let empty = run(b);
     if empty > 0 {
+        if digit {
+            return Next::Wrong;
+        }
         if file + empty > FILES {
             return Next::Wrong;
         }
@@ -105,21 +112,25 @@ pub fn place(s: &[u8]) -> Placed
     let mut board = [Piece::EMPTY; Square::COUNT];
     let mut rank: usize = 7;
     let mut file: usize = 0;
+    let mut digit = false;
     let mut i = 0;
     while i < s.len() {
         let b = s[i];
         i += 1;
-        match step(rank, file, b) {
+        match step(rank, file, digit, b) {
             Next::Below => {
                 rank -= 1;
                 file = 0;
+                digit = false; // `8/8`: a rank begins anew
             }
             Next::Piece(code) => {
                 board[FILES * rank + file] = code;
                 file += 1;
+                digit = false; // `1p1`: a letter ends the run
             }
             Next::Empty(empty) => {
                 file += empty;
+                digit = true;
             }
             Next::Wrong => {
                 return nothing();

@@ -1,11 +1,13 @@
--- What stands before a byte, and what is left when a text is trimmed, are parts of the text. Assumes nothing.
+-- What stands before a byte, and what is left when a text is trimmed, are parts of the text; a text is cut at its first mark. Assumes nothing.
 use mathlib.Core.Path.{_≡_, refl, sym, ap, _∙_}
 use mathlib.Core.Bool.{Bool, true, false, cond}
 use mathlib.Core.List.{List, [], _∷_, _++_, reverse, append-assoc, append-nil, reverse-append, reverse-reverse}
 use Prim.Native.Nat.{ℕ}
+use lib.Dec.{eqb}
 use lib.ListN.{length, take, drop, take-append-drop}
 use lib.Seq.{take-append-seam, drop-append-seam}
-use Rattle.text_in.specs.Text.{isBlank, before, without, withoutLast, trim}
+use borrow.Author.Tests.{eqb-true}
+use Rattle.text_in.specs.Text.{isBlank, before, after, without, withoutLast, trim}
 use Rattle.text_in.proofs.Parts.{before-take}
 
 -- the whole is the part with something in front of it and something behind
@@ -47,6 +49,17 @@ before-within mark s =
       back = drop (length (before mark s)) s;
       is = sym (take-append-drop (length (before mark s)) s) ∙ ap (λ (l : List ℕ). l ++ drop (length (before mark s)) s) (before-take mark s);
     }
+
+-- a text is what stands before its first mark, the mark, and what comes after it, where something does
+pub cut-at : (mark : ℕ) (s : List ℕ) → (after mark s ≡ [] → ⊥) → before mark s ++ (mark ∷ after mark s) ≡ s
+unfolding before after
+cut-at mark [] n = absurd (n refl)
+cut-at mark (b ∷ s) n = go (λ m. cut-at mark s m) (eqb b mark) refl n
+  where
+    go : ((after mark s ≡ [] → ⊥) → before mark s ++ (mark ∷ after mark s) ≡ s)
+        → (t : Bool) → eqb b mark ≡ t → (cond t s (after mark s) ≡ [] → ⊥) → cond t [] (b ∷ before mark s) ++ (mark ∷ cond t s (after mark s)) ≡ b ∷ s
+    go h true e m = ap (λ (x : ℕ). x ∷ s) (sym (eqb-true b mark e))
+    go h false e m = ap (λ (l : List ℕ). b ∷ l) (h m)
 
 module _ (test : ℕ → Bool) where
   skipped : (s : List ℕ) → (front : List ℕ) × (s ≡ front ++ without test s)

@@ -1,0 +1,4 @@
+pub mod Marks
+pub mod Normal
+pub mod OneText
+pub mod Examples

@@ -120,10 +120,10 @@ pub record Moved (b s : ℕ) (r : ℕ) : Type 0 where
 abbrev pub Shifts : ℕ → ℕ → ℕ → Type 0
 Shifts b s r = (Moved b s r) × (b ≡ b)
 
-pub record Fills {A : Type 0} (old : List A) (with : A) (r : ℕ)
-    (new : List A) : Type 0 where
+pub record Fills (old : List ℕ) (with : ℕ) (r : ℕ)
+    (new : List ℕ) : Type 0 where
   pub answer : r ≡ length old -- the result
-  pub lent : new ≡ replicate (length old) with
+  pub lent : new ≡ replicate {A = ℕ} (length old) with
   pub within : r ≤ length new
 
 module _ (n : ℕ)
@@ -210,6 +210,10 @@ END
 # Promises
 
 `bits::prose` is a word.
+
+### bits
+
+Tried by count_wrong, shift_wrong, made_wrong, steps_wrong and others.
 
 | what | is no table of functions |
 |---|---|

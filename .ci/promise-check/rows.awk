@@ -1,14 +1,23 @@
 # The tables of docs/PROMISES.md: one row for each public function, in the columns that the table's head names.
 
 # row_of[name]: the number of its row; cell_of[row, column] its cells. A name in prose is no row.
-function read_promises(    line, fenced, in_table, column) {
+function read_promises(    line, fenced, in_table, column, section) {
     while ((getline line < "docs/PROMISES.md") > 0) {
+        if (line ~ /^#/) { section = line; gsub(/^#+ */, "", section) }
+        note_section(section, line)
         if (line ~ /^[ \t]*```/) fenced = !fenced
         if (fenced || line !~ /^\|.*\|[ \t]*$/) in_table = 0
         else if (!in_table) in_table = table_head(line, column)
         else if (line !~ /^[|: -]+$/ && in_table > 1) add_row(line, column)
     }
     close("docs/PROMISES.md")
+}
+
+# in_section[crate, word]: every word of the section that has the crate's name
+function note_section(section, line,    word, n, i) {
+    gsub(/[^A-Za-z0-9_]+/, " ", line)
+    n = split(line, word, " ")
+    for (i = 1; i <= n; i++) in_section[section, word[i]] = 1
 }
 
 # 2 for a table of functions, 1 for another.

@@ -127,6 +127,7 @@ function read_ensures(f,    text, result, term, n, wanted, i, wrong) {
     n = applied(text, term, "")
     promise_item = promise_named(crate_of[f], path_of[f], term[1])
     if (text ~ /⌜|⌝|→/ || !promise_item || (path_of[f], "now") in imported_as) { promise_item = 0; return not_one(f) }
+    if (head_of(promise_item) ~ /\{/) return "its promise " name_of[promise_item] " has an argument that is not written"
     wrong = want_all(f, result, wanted)
     if (wrong != "") return wrong
     for (i = 2; i <= n; i++) {
@@ -136,6 +137,13 @@ function read_ensures(f,    text, result, term, n, wanted, i, wrong) {
     }
     for (i in wanted) wrong = i
     return wrong == "" ? "" : "its promise " name_of[promise_item] " is not applied to " wrong
+}
+
+# What stands before a record's fields, or the whole signature.
+function head_of(item,    text) {
+    text = signature[item]
+    sub(/ where( .*)?$/, "", text)
+    return text
 }
 
 function not_one(f) { return "its ensures is not one promise, a pub definition with a capital in crates/" crate_of[f] "/specs, applied to names" }
@@ -227,7 +235,7 @@ function is_own(item, word) { return cited(crate_of[item], path_of[item], word) 
 # with a name of its own for every place, the same for what is given, two for what the function gives, and nothing else.
 function note_law(proof,    part, n, i, first_at, one, other, m, key, free, bound) {
     if (!public[proof] || form_of[proof] != "" || nested[proof]) return
-    if (imported_from_module[path_of[proof], "≡"] != "mathlib.Core.Path" || (path_of[proof], "_≡_") in declared || (path_of[proof], "_×_") in declared) return
+    if (!has_library_symbols(path_of[proof])) return
     n = split_at(past_colon(signature[proof]), "→", part)
     for (i = 1; i <= n && is_binder(part[i], bound); i++) continue
     first_at = i
@@ -238,6 +246,11 @@ function note_law(proof,    part, n, i, first_at, one, other, m, key, free, boun
     if (key == "" || !concludes(part[n], one, other, key)) return
     i = promise_named(crate_of[proof], path_of[proof], one[1])
     if (i) law_for[i, key] = law_for[i, key] " " name_of[proof] " "
+}
+
+# ≡ is the library's, and × the language's.
+function has_library_symbols(file) {
+    return imported_from_module[file, "≡"] == "mathlib.Core.Path" && !((file, "×") in imported_as) && !((file, "_≡_") in declared) && !((file, "_×_") in declared)
 }
 
 function past_colon(text) { return substr(text, index(text, " : ") + 3) }

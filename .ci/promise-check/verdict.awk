@@ -184,6 +184,7 @@ END {
         crate = part[2]
         scan_edit()
         edit_there[crate, edit_word()] = path
+        if (!((crate, edit_word()) in in_section)) fault(edit_name(), edit_name(), 3, "is not named in the section " crate " of docs/PROMISES.md")
     }
     for (i = 1; i <= items; i++) if (kind[i] == "proof") note_law(i)
     for (i = 1; i <= function_count; i++) if (is_public(functions[i])) {

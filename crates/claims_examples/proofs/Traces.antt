@@ -37,7 +37,7 @@ unfolding exactBy traceOf entryAt squareWeight
 crowd-exact = refl
 
 -- kings e1, e8 and the pawn e2, White to move: entries of the pawn at 24, of the kings at 648 and 649
-abbrev pawn : List ℕ
+abbrev pub pawn : List ℕ
 pawn = 0x1010 ∷ 0x1000000000000000 ∷ 0x1000 ∷ 0 ∷ 0 ∷ 0 ∷ 0x10 ∷ 0x1000000000000000 ∷ 0 ∷ 0 ∷ 0 ∷ 0 ∷ 0 ∷ 0 ∷ []
 
 pawn-entries : entryAt pawn 24 ∷ entryAt pawn 648 ∷ entryAt pawn 649 ∷ entryAt pawn 25 ∷ entryAt pawn 104 ∷ entryAt pawn 761 ∷ [] ≡ 1 ∷ 1 ∷ 1 ∷ 0 ∷ 0 ∷ 0 ∷ []

@@ -1,10 +1,10 @@
--- Laws of whole numbers that sums need: four terms in another order, products over sums, and a number that counts or does not.
--- Assumes nothing.
+-- Laws of whole numbers that sums need: four terms in another order, products over sums, a difference turned round, and a number that counts
+-- or does not. Assumes nothing.
 use mathlib.Core.Path.{_≡_, refl, sym, ap, ap₂, _∙_}
 use mathlib.Core.Bool.{Bool, true, false}
-use Prim.Native.Nat.{ℕ, suc, _+_, _*_}
+use Prim.Native.Nat.{ℕ, zero, suc, _+_, _*_}
 use native.Mathlib.Nat.{add-mul, one-mul}
-use lib.IntN.{ℤ, pos, negsuc, negℤ, negℤ-+ℤ, _+ℤ_, _*ℤ_, +ℤ-assoc, +ℤ-comm, *ℤ-negsuc, zero-*ℤ}
+use lib.IntN.{ℤ, pos, negsuc, negℤ, negℤ-negℤ, negℤ-+ℤ, _+ℤ_, _-ℤ_, _*ℤ_, +ℤ-assoc, +ℤ-comm, *ℤ-zero, *ℤ-negsuc, zero-*ℤ}
 use Rattle.laws.proofs.Diff.{up, dn, diff-of, diff-add, diff-scale, diff-eq}
 
 pub cross : (a b c d : ℤ) → (a +ℤ b) +ℤ (c +ℤ d) ≡ (a +ℤ c) +ℤ (b +ℤ d)
@@ -31,6 +31,21 @@ times a b (negsuc n) =
 pub once : (z : ℤ) → pos 1 *ℤ z ≡ z
 once (pos n) = ap pos (one-mul n)
 once (negsuc n) = ap (λ (m : ℕ). negℤ (pos m)) (one-mul (suc n))
+
+-- a difference turned round, by itself, in a product, and in a sum of two products
+pub times-neg : (y z : ℤ) → y *ℤ negℤ z ≡ negℤ (y *ℤ z)
+times-neg y (pos zero) = *ℤ-zero y ∙ ap negℤ (sym (*ℤ-zero y))
+times-neg y (pos (suc n)) = *ℤ-negsuc y n
+times-neg y (negsuc n) = sym (ap negℤ (*ℤ-negsuc y n) ∙ negℤ-negℤ (y *ℤ pos (suc n)))
+
+pub minus-turned : (a b : ℤ) → a -ℤ b ≡ negℤ (b -ℤ a)
+minus-turned a b = +ℤ-comm a (negℤ b) ∙ ap (λ (x : ℤ). negℤ b +ℤ x) (sym (negℤ-negℤ a)) ∙ sym (negℤ-+ℤ b (negℤ a))
+
+pub times-turned : (y a b : ℤ) → y *ℤ (a -ℤ b) ≡ negℤ (y *ℤ (b -ℤ a))
+times-turned y a b = ap (λ (x : ℤ). y *ℤ x) (minus-turned a b) ∙ times-neg y (b -ℤ a)
+
+pub products-turned : (y z a b c d : ℤ) → y *ℤ (a -ℤ b) +ℤ z *ℤ (c -ℤ d) ≡ negℤ (y *ℤ (b -ℤ a) +ℤ z *ℤ (d -ℤ c))
+products-turned y z a b c d = ap₂ _+ℤ_ (times-turned y a b) (times-turned z c d) ∙ sym (negℤ-+ℤ (y *ℤ (b -ℤ a)) (z *ℤ (d -ℤ c)))
 
 -- a number, or none
 abbrev pub gated : Bool → ℤ → ℤ

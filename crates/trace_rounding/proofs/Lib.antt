@@ -1,0 +1,5 @@
+pub mod Nearest
+pub mod Near
+pub mod Whole
+pub mod Quotients
+pub mod Doubles

@@ -1,0 +1,9 @@
+pub mod Margin
+pub mod Ranged
+pub mod Named
+pub mod Squares
+pub mod Folded
+pub mod Sums
+pub mod Strayed
+pub mod Shown
+pub mod Needed

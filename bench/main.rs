@@ -35,19 +35,14 @@ mod drawn;
 mod functions;
 mod ledger;
 mod ours;
+mod processor;
 mod rays;
 
+use processor::seconds;
 use std::hint::black_box;
 use std::io::{self, BufReader, BufWriter, Write};
-use std::time::Instant;
 
-fn seconds(run: impl FnOnce()) -> f64 {
-    let start = Instant::now();
-    run();
-    start.elapsed().as_secs_f64()
-}
-
-/// Both ledgers over collections of growing size, in turn, the least time of some rounds.
+/// Both ledgers over collections of growing size, in turn, the least processor time of some rounds.
 fn ledgers(most: usize, rounds: usize) {
     println!("{:<14} {:>10} {:>10} {:>7}   lines a second: ours, theirs", "ledger lines", "ours ns", "theirs ns", "ratio");
     let text = drawn::lines(most);

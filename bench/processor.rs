@@ -1,0 +1,29 @@
+// The processor time that this process has used: what else runs on the machine is not in it.
+
+/// `struct rusage` of 64-bit Linux: two pairs of seconds and microseconds, of the process and of the system for it, and what is not read here.
+#[repr(C)]
+#[derive(Default)]
+struct Usage {
+    user: [i64; 2],
+    system: [i64; 2],
+    rest: [i64; 14],
+}
+
+extern "C" {
+    fn getrusage(who: i32, usage: *mut Usage) -> i32;
+}
+
+const SELF: i32 = 0;
+
+fn used() -> f64 {
+    let mut usage = Usage::default();
+    assert_eq!(unsafe { getrusage(SELF, &mut usage) }, 0);
+    [usage.user, usage.system].iter().map(|[seconds, micros]| *seconds as f64 + *micros as f64 / 1e6).sum()
+}
+
+/// The seconds of processor time that a run takes.
+pub fn seconds(run: impl FnOnce()) -> f64 {
+    let start = used();
+    run();
+    used() - start
+}

@@ -25,29 +25,29 @@ write-requires c κs = search needs
 enum-told : tie.Need-enum-told
 enum-told c = search needs
 
-slice-aggregate-say : tie.Need-slice-aggregate-say
-slice-aggregate-say c = search needs
+slice-aggregate-stop : tie.Need-slice-aggregate-stop
+slice-aggregate-stop c = search needs
 
-say-requires : tie.Need-say-requires
-say-requires c κs = search needs
+stop-requires : tie.Need-stop-requires
+stop-requires c κs = search needs
 
 enum-told-2 : tie.Need-enum-told-2
 enum-told-2 c = search needs
 
-slice-aggregate-say-2 : tie.Need-slice-aggregate-say-2
-slice-aggregate-say-2 c = search needs
+slice-aggregate-stop-2 : tie.Need-slice-aggregate-stop-2
+slice-aggregate-stop-2 c = search needs
 
-say-requires-2 : tie.Need-say-requires-2
-say-requires-2 c κs = search needs
+stop-requires-2 : tie.Need-stop-requires-2
+stop-requires-2 c κs = search needs
 
 enum-told-3 : tie.Need-enum-told-3
 enum-told-3 c = search needs
 
-slice-aggregate-say-3 : tie.Need-slice-aggregate-say-3
-slice-aggregate-say-3 c = search needs
+slice-aggregate-stop-3 : tie.Need-slice-aggregate-stop-3
+slice-aggregate-stop-3 c = search needs
 
-say-requires-3 : tie.Need-say-requires-3
-say-requires-3 c κs = search needs
+stop-requires-3 : tie.Need-stop-requires-3
+stop-requires-3 c κs = search needs
 
 same-length : tie.Need-same-length
 same-length c = search needs
@@ -83,14 +83,14 @@ finish-spec =
     slice-aggregate-write
     write-requires
     enum-told
-    slice-aggregate-say
-    say-requires
+    slice-aggregate-stop
+    stop-requires
     enum-told-2
-    slice-aggregate-say-2
-    say-requires-2
+    slice-aggregate-stop-2
+    stop-requires-2
     enum-told-3
-    slice-aggregate-say-3
-    say-requires-3
+    slice-aggregate-stop-3
+    stop-requires-3
     same-length
     returns
     same-length-2

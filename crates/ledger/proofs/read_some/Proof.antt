@@ -3,57 +3,51 @@ use mathlib.Core.Path.{sym}
 use native.Mathlib.Omega.{arith}
 use lib.Seq.{length-take-le}
 use borrow.Author.Needs.{needs}
-use Rattle.ledger.proofs.Within.{fed-within}
+use Rattle.stream_io.proofs.Within.{taken-within}
 use Rattle.ledger.proofs.read_some.Statement.{statement}
 use Rattle.ledger.proofs.read_some.Tie as tie
+
+slice-aggregate-read : tie.Need-slice-aggregate-read
+slice-aggregate-read c = search needs
 
 read-requires : tie.Need-read-requires
 read-requires c κs = search needs
 
-same-length : tie.Need-same-length
-same-length c = search needs
-
-returns : tie.Need-returns
-returns c = search needs
-
-try-again-requires : tie.Need-try-again-requires
-try-again-requires c κs = search needs
-
-same-length-2 : tie.Need-same-length-2
-same-length-2 c = search needs
-
-returns-2 : tie.Need-returns-2
-returns-2 c = search needs
-
-count-requires : tie.Need-count-requires
-count-requires c κs = search needs
+enum-known-n : tie.Need-enum-known-n
+enum-known-n c = search needs
 
 slice-reshare-prefix-feed : tie.Need-slice-reshare-prefix-feed
-slice-reshare-prefix-feed c = search needs
+slice-reshare-prefix-feed c = omega (arith, taken-within (c .before .before .before .before .before .before .read .ensures) _ (c .before .before .n .given .1), c .before .before .before .before .before .before .read .kept)
 
 slice-aggregate-feed : tie.Need-slice-aggregate-feed
-slice-aggregate-feed c = search needs
+slice-aggregate-feed c = sym (length-take-le _ _ (omega (arith, taken-within (c .before .before .before .before .before .before .before .read .ensures) _ (c .before .before .before .n .given .1), c .before .before .before .before .before .before .before .read .kept)))
 
 feed-requires : tie.Need-feed-requires
 feed-requires c κs = search needs
 
-enum-known-next : tie.Need-enum-known-next
-enum-known-next c = search needs
+enum-told : tie.Need-enum-told
+enum-told c = search needs
 
-slice-reshare-prefix-write : tie.Need-slice-reshare-prefix-write
-slice-reshare-prefix-write c = omega (arith, fed-within (c .before .before .before .before .before .before .before .feed .ensures) _ _ (c .before .next .given .1), c .before .before .before .before .before .before .before .feed .kept)
+enum-told-2 : tie.Need-enum-told-2
+enum-told-2 c = search needs
 
-slice-aggregate-write : tie.Need-slice-aggregate-write
-slice-aggregate-write c = sym (length-take-le _ _ (omega (arith, fed-within (c .before .before .before .before .before .before .before .before .feed .ensures) _ _ (c .before .before .next .given .1), c .before .before .before .before .before .before .before .before .feed .kept)))
+same-length : tie.Need-same-length
+same-length c = search needs
 
-write-requires : tie.Need-write-requires
-write-requires c κs = search needs
+same-length-2 : tie.Need-same-length-2
+same-length-2 c = search needs
 
 same-length-3 : tie.Need-same-length-3
 same-length-3 c = search needs
 
+returns : tie.Need-returns
+returns c = search needs
+
 same-length-4 : tie.Need-same-length-4
 same-length-4 c = search needs
+
+returns-2 : tie.Need-returns-2
+returns-2 c = search needs
 
 same-length-5 : tie.Need-same-length-5
 same-length-5 c = search needs
@@ -61,125 +55,23 @@ same-length-5 c = search needs
 returns-3 : tie.Need-returns-3
 returns-3 c = search needs
 
-enum-told : tie.Need-enum-told
-enum-told c = search needs
-
-slice-aggregate-stop : tie.Need-slice-aggregate-stop
-slice-aggregate-stop c = search needs
-
-stop-requires : tie.Need-stop-requires
-stop-requires c κs = search needs
-
-enum-told-2 : tie.Need-enum-told-2
-enum-told-2 c = search needs
-
-slice-aggregate-stop-2 : tie.Need-slice-aggregate-stop-2
-slice-aggregate-stop-2 c = search needs
-
-stop-requires-2 : tie.Need-stop-requires-2
-stop-requires-2 c κs = search needs
-
-enum-told-3 : tie.Need-enum-told-3
-enum-told-3 c = search needs
-
-slice-aggregate-stop-3 : tie.Need-slice-aggregate-stop-3
-slice-aggregate-stop-3 c = search needs
-
-stop-requires-3 : tie.Need-stop-requires-3
-stop-requires-3 c κs = search needs
-
-same-length-6 : tie.Need-same-length-6
-same-length-6 c = search needs
-
-same-length-7 : tie.Need-same-length-7
-same-length-7 c = search needs
-
-same-length-8 : tie.Need-same-length-8
-same-length-8 c = search needs
-
-returns-4 : tie.Need-returns-4
-returns-4 c = search needs
-
-same-length-9 : tie.Need-same-length-9
-same-length-9 c = search needs
-
-same-length-10 : tie.Need-same-length-10
-same-length-10 c = search needs
-
-same-length-11 : tie.Need-same-length-11
-same-length-11 c = search needs
-
-returns-5 : tie.Need-returns-5
-returns-5 c = search needs
-
-same-length-12 : tie.Need-same-length-12
-same-length-12 c = search needs
-
-same-length-13 : tie.Need-same-length-13
-same-length-13 c = search needs
-
-same-length-14 : tie.Need-same-length-14
-same-length-14 c = search needs
-
-returns-6 : tie.Need-returns-6
-returns-6 c = search needs
-
-same-length-15 : tie.Need-same-length-15
-same-length-15 c = search needs
-
-same-length-16 : tie.Need-same-length-16
-same-length-16 c = search needs
-
-same-length-17 : tie.Need-same-length-17
-same-length-17 c = search needs
-
-returns-7 : tie.Need-returns-7
-returns-7 c = search needs
-
 pub read-some-spec : {M : Type 1} → statement M
 read-some-spec =
     tie.close
     (tie.spec
+    slice-aggregate-read
     read-requires
-    same-length
-    returns
-    try-again-requires
-    same-length-2
-    returns-2
-    count-requires
+    enum-known-n
     slice-reshare-prefix-feed
     slice-aggregate-feed
     feed-requires
-    enum-known-next
-    slice-reshare-prefix-write
-    slice-aggregate-write
-    write-requires
-    same-length-3
-    same-length-4
-    same-length-5
-    returns-3
     enum-told
-    slice-aggregate-stop
-    stop-requires
     enum-told-2
-    slice-aggregate-stop-2
-    stop-requires-2
-    enum-told-3
-    slice-aggregate-stop-3
-    stop-requires-3
-    same-length-6
-    same-length-7
-    same-length-8
-    returns-4
-    same-length-9
-    same-length-10
-    same-length-11
-    returns-5
-    same-length-12
-    same-length-13
-    same-length-14
-    returns-6
-    same-length-15
-    same-length-16
-    same-length-17
-    returns-7)
+    same-length
+    same-length-2
+    same-length-3
+    returns
+    same-length-4
+    returns-2
+    same-length-5
+    returns-3)

@@ -1,18 +1,19 @@
 -- `ledger::write_ledger` is safe and ends: the turns are counted. Assumes nothing.
-use mathlib.Core.Path.{_≡_, refl, sym, _∙_}
-use Prim.Native.Nat.{_≤_, _-_}
+use mathlib.Core.Path.{_≡_}
+use Prim.Native.Nat.{_≤_, _-_, _^_}
 use native.Mathlib.Omega.{arith}
 use lib.ListN.{length}
 use borrow.Author.Needs.{needs}
+use Rattle.stream.proofs.Calls.{may-count}
 use Rattle.ledger.proofs.write_ledger.Statement.{statement}
 use Rattle.ledger.proofs.write_ledger.Tie as tie
 
 abbrev Inv-loop : tie.InvT-loop
 Inv-loop chunk₀ out₀ line₀ state₀ turns₀ t7 chunk out line state turns =
-    (turns ≤ 4611686018427387904) × (length chunk ≡ length chunk₀) × (length out ≡ length out₀) × (length line ≡ 256)
+    (turns ≤ 2 ^ 62) × (length chunk ≡ length chunk₀) × (length out ≡ length out₀) × (length line ≡ 256)
 
 abbrev μ-loop : tie.MeasureT-loop
-μ-loop chunk₀ out₀ line₀ state₀ turns₀ t7 chunk out line state turns = 4611686018427387904 - turns
+μ-loop chunk₀ out₀ line₀ state₀ turns₀ t7 chunk out line state turns = 2 ^ 62 - turns
 
 start-requires : tie.Need-start-requires Inv-loop μ-loop
 start-requires c κs = search needs
@@ -20,8 +21,11 @@ start-requires c κs = search needs
 loop-holds : tie.Need-loop-holds Inv-loop μ-loop
 loop-holds c = search needs
 
+may-go-on-requires : tie.Need-may-go-on-requires Inv-loop μ-loop
+may-go-on-requires c κs = search needs
+
 add-turns : tie.Need-add-turns Inv-loop μ-loop
-add-turns c = search needs
+add-turns c = record { fits = omega (arith, may-count (c .before .may-go-on .ensures) (c .if1 .taken)) }
 
 slice-aggregate-read-some : tie.Need-slice-aggregate-read-some Inv-loop μ-loop
 slice-aggregate-read-some c = search needs
@@ -33,10 +37,10 @@ enum-known-next : tie.Need-enum-known-next Inv-loop μ-loop
 enum-known-next c = search needs
 
 loop-less : tie.Need-loop-less Inv-loop μ-loop
-loop-less c = omega arith
+loop-less c = omega (arith, may-count (c .before .before .before .before .before .before .before .before .before .before .before .before .before .may-go-on .ensures) (c .before .before .before .before .before .before .before .before .before .before .before .before .if1 .taken))
 
 loop-again : tie.Need-loop-again Inv-loop μ-loop
-loop-again c = search needs
+loop-again c = (omega (arith, may-count (c .before .before .before .before .before .before .before .before .before .before .before .before .before .may-go-on .ensures) (c .before .before .before .before .before .before .before .before .before .before .before .before .if1 .taken)), search needs, search needs, search needs)
 
 enum-told : tie.Need-enum-told Inv-loop μ-loop
 enum-told c = search needs
@@ -68,11 +72,11 @@ same-length-4 c = search needs
 returns-2 : tie.Need-returns-2 Inv-loop μ-loop
 returns-2 c = search needs
 
-slice-aggregate-say : tie.Need-slice-aggregate-say Inv-loop μ-loop
-slice-aggregate-say c = search needs
+slice-aggregate-stop : tie.Need-slice-aggregate-stop Inv-loop μ-loop
+slice-aggregate-stop c = search needs
 
-say-requires : tie.Need-say-requires Inv-loop μ-loop
-say-requires c κs = search needs
+stop-requires : tie.Need-stop-requires Inv-loop μ-loop
+stop-requires c κs = search needs
 
 same-length-5 : tie.Need-same-length-5 Inv-loop μ-loop
 same-length-5 c = search needs
@@ -91,6 +95,7 @@ write-ledger-spec =
     μ-loop
     start-requires
     loop-holds
+    may-go-on-requires
     add-turns
     slice-aggregate-read-some
     read-some-requires
@@ -107,8 +112,8 @@ write-ledger-spec =
     same-length-3
     same-length-4
     returns-2
-    slice-aggregate-say
-    say-requires
+    slice-aggregate-stop
+    stop-requires
     same-length-5
     same-length-6
     returns-3)

@@ -5,6 +5,7 @@ use Prim.Native.Nat.{ℕ}
 use lib.Ieee.{Float}
 use lib.IntN.{ℤ}
 use Rattle.refusal.specs.Answer.{Answer, given, refused}
+use Rattle.position.specs.Checked.{ofSide}
 use Rattle.position.specs.declared.State.{State}
 use Rattle.trace_counts.specs.declared.Trace.{Trace}
 use Rattle.line_parse.specs.Line.{Line}
@@ -34,9 +35,9 @@ passed-both {first = first} {second = second} {old = old} {old2 = old2} e h g k 
 -- ---- the doors that lend more
 pub traced : (bbs bytes : List ℕ) (side : ℕ) {counts mobility : List ℤ} {sign pieces : ℤ} {entries : List ℤ}
     {x : Answer Trace} {n : ℕ} {counts′ mobility′ : List ℤ} {sign′ pieces′ : ℤ} {entries′ : List ℤ}
-    → x ≡ tracedOf bbs bytes side entries → n ≡ codeOf x → counts′ ≡ after countsOf counts x → mobility′ ≡ after (λ (t : Trace). t .mobility) mobility x
+    → x ≡ tracedOf bbs bytes (ofSide side) entries → n ≡ codeOf x → counts′ ≡ after countsOf counts x → mobility′ ≡ after (λ (t : Trace). t .mobility) mobility x
     → sign′ ≡ after (λ (t : Trace). t .side) sign x → pieces′ ≡ after (λ (t : Trace). t .«piece_count») pieces x
-    → entries′ ≡ entriesAfter (tracedOf bbs bytes side entries) bbs entries
+    → entries′ ≡ entriesAfter (tracedOf bbs bytes (ofSide side) entries) bbs entries
     → ComputesTrace bbs bytes side counts mobility sign pieces entries n counts′ mobility′ sign′ pieces′ entries′
 traced bbs bytes side {counts} {mobility} {sign} {pieces} e h g m s p k = record {
   code = h ∙ ap codeOf e;

@@ -7,6 +7,7 @@ use lib.Ieee.{Float}
 use lib.IntN.{ℤ}
 use lib.ListN.{length}
 use Rattle.refusal.specs.Answer.{Answer}
+use Rattle.position.specs.Checked.{ofSide}
 use Rattle.attack.specs.Answers.{pieceAttacksOf}
 use Rattle.attack_to.specs.Answers.{attacksToOf, isAttackedOf, isCheckOf}
 use Rattle.exchange_least.specs.Answers.{lvpOf}
@@ -51,45 +52,45 @@ same a = a
 
 -- ---- scores
 abbrev pub EvalsEnding : List ℕ → List ℕ → ℕ → ℕ → ℕ → ℕ → Type 0
-EvalsEnding bitboards board side verdict r verdict′ = Door (endingOf bitboards board side) verdictCode verdict r verdict′
+EvalsEnding bitboards board side verdict r verdict′ = Door (endingOf bitboards board (ofSide side)) verdictCode verdict r verdict′
 
 abbrev pub EvalsMaterial : List ℕ → List ℕ → ℕ → ℕ → ℤ → ℕ → ℤ → Type 0
-EvalsMaterial bitboards board side colour material r material′ = Door (materialOf bitboards board side colour) same material r material′
+EvalsMaterial bitboards board side colour material r material′ = Door (materialOf bitboards board (ofSide side) colour) same material r material′
 
 abbrev pub Evals : List ℕ → List ℕ → ℕ → ℕ → ℤ → ℕ → ℕ → ℤ → Type 0
 Evals bitboards board side verdict score r verdict′ score′ =
-    Doors (evalOf bitboards board side) outcomeVerdict outcomeScore verdict score r verdict′ score′
+    Doors (evalOf bitboards board (ofSide side)) outcomeVerdict outcomeScore verdict score r verdict′ score′
 
 -- ---- attacks
 abbrev pub PieceAttacks : ℕ → ℕ → ℕ → ℕ → ℕ → ℕ → Type 0
 PieceAttacks piece square occupied squares r squares′ = Door (pieceAttacksOf piece square occupied) same squares r squares′
 
 abbrev pub AttacksTo : List ℕ → List ℕ → ℕ → ℕ → ℕ → ℕ → ℕ → ℕ → Type 0
-AttacksTo bitboards board side square occupied squares r squares′ = Door (attacksToOf bitboards board side square occupied) same squares r squares′
+AttacksTo bitboards board side square occupied squares r squares′ = Door (attacksToOf bitboards board (ofSide side) square occupied) same squares r squares′
 
 abbrev pub IsAttacked : List ℕ → List ℕ → ℕ → ℕ → ℕ → Bool → ℕ → Bool → Type 0
-IsAttacked bitboards board side square colour attacked r attacked′ = Door (isAttackedOf bitboards board side square colour) same attacked r attacked′
+IsAttacked bitboards board side square colour attacked r attacked′ = Door (isAttackedOf bitboards board (ofSide side) square colour) same attacked r attacked′
 
 abbrev pub IsCheck : List ℕ → List ℕ → ℕ → ℕ → Bool → ℕ → Bool → Type 0
-IsCheck bitboards board side colour check r check′ = Door (isCheckOf bitboards board side colour) same check r check′
+IsCheck bitboards board side colour check r check′ = Door (isCheckOf bitboards board (ofSide side) colour) same check r check′
 
 -- ---- exchanges
 abbrev pub Lvp : List ℕ → List ℕ → ℕ → ℕ → ℕ → ℕ → Bool → ℕ → ℕ → Bool → ℕ → Type 0
 Lvp bitboards board side colour attacks occupied found square r found′ square′ =
-    Doors (lvpOf bitboards board side colour attacks occupied) anyone squareOr found square r found′ square′
+    Doors (lvpOf bitboards board (ofSide side) colour attacks occupied) anyone squareOr found square r found′ square′
 
 abbrev pub See : List ℕ → List ℕ → ℕ → ℕ → ℕ → ℤ → ℕ → ℤ → Type 0
-See bitboards board side from to worth r worth′ = Door (seeOf bitboards board side from to) same worth r worth′
+See bitboards board side from to worth r worth′ = Door (seeOf bitboards board (ofSide side) from to) same worth r worth′
 
 -- ---- traces
 pub record ComputesTrace (bitboards board : List ℕ) (side : ℕ) (counts mobility : List ℤ) (sign pieces : ℤ) (entries : List ℤ)
     (r : ℕ) (counts′ mobility′ : List ℤ) (sign′ pieces′ : ℤ) (entries′ : List ℤ) : Type 0 where
-  pub code : r ≡ codeOf (tracedOf bitboards board side entries)
-  pub counted : counts′ ≡ after countsOf counts (tracedOf bitboards board side entries)
-  pub moved : mobility′ ≡ after (λ (t : Trace). t .mobility) mobility (tracedOf bitboards board side entries)
-  pub turn : sign′ ≡ after (λ (t : Trace). t .side) sign (tracedOf bitboards board side entries)
-  pub total : pieces′ ≡ after (λ (t : Trace). t .«piece_count») pieces (tracedOf bitboards board side entries)
-  pub marked : entries′ ≡ entriesAfter (tracedOf bitboards board side entries) bitboards entries
+  pub code : r ≡ codeOf (tracedOf bitboards board (ofSide side) entries)
+  pub counted : counts′ ≡ after countsOf counts (tracedOf bitboards board (ofSide side) entries)
+  pub moved : mobility′ ≡ after (λ (t : Trace). t .mobility) mobility (tracedOf bitboards board (ofSide side) entries)
+  pub turn : sign′ ≡ after (λ (t : Trace). t .side) sign (tracedOf bitboards board (ofSide side) entries)
+  pub total : pieces′ ≡ after (λ (t : Trace). t .«piece_count») pieces (tracedOf bitboards board (ofSide side) entries)
+  pub marked : entries′ ≡ entriesAfter (tracedOf bitboards board (ofSide side) entries) bitboards entries
 
 abbrev pub EvalsTrace : List ℤ → List ℤ → ℤ → ℤ → List ℤ → List Float → List Float → Float → ℕ → Float → Type 0
 EvalsTrace counts mobility sign pieces entries weights squares value r value′ =

@@ -12,13 +12,13 @@ use Rattle.attack_to.specs.declared.Told.{Told}
 
 -- ---- the doors
 abbrev pub AttacksTo : List ℕ → List ℕ → State → ℕ → ℕ → Found → Type 0
-AttacksTo bitboards board state square occupied r = found r ≡ attacksToOf bitboards board (state .side) square occupied
+AttacksTo bitboards board state square occupied r = found r ≡ attacksToOf bitboards board state square occupied
 
 abbrev pub IsAttacked : List ℕ → List ℕ → State → ℕ → ℕ → Told → Type 0
-IsAttacked bitboards board state square colour r = told r ≡ isAttackedOf bitboards board (state .side) square colour
+IsAttacked bitboards board state square colour r = told r ≡ isAttackedOf bitboards board state square colour
 
 abbrev pub IsCheck : List ℕ → List ℕ → State → ℕ → Told → Type 0
-IsCheck bitboards board state colour r = told r ≡ isCheckOf bitboards board (state .side) colour
+IsCheck bitboards board state colour r = told r ≡ isCheckOf bitboards board state colour
 
 -- ---- the inner functions
 abbrev pub Attackers : List ℕ → ℕ → ℕ → ℕ → Type 0

@@ -11,7 +11,7 @@ use Rattle.bits.specs.Bitboard.{has, those, some, howMany, board}
 use Rattle.position_boards.specs.Boards.{bitboardsOf}
 use Rattle.position_boards.specs.Sound.{boardsWith, ofColour}
 use Rattle.position_consistent.specs.Consistent.{consistent}
-use Rattle.position.specs.Checked.{checked}
+use Rattle.position.specs.Checked.{ofSide, checked}
 use Rattle.attack.specs.Attacks.{occupied}
 use Rattle.attack_to.specs.Attackers.{attackers}
 use Rattle.claims_examples.specs.Placed.{Placed, on, bytesOf}
@@ -25,7 +25,7 @@ use Rattle.exchange.specs.Answers.{seeOf}
 -- the door's answer with White to move, refusals and all
 unfoldable answered : List Placed → ℕ → ℕ → Answer ℤ
 unfolding bytesOf bitboardsOf tabulate those has some howMany allBelow boardsWith ofColour consistent checked mayCapture uncrowded exchangeOf
-answered ps from to = let bytes : List ℕ = bytesOf ps in let bbs : List ℕ = bitboardsOf bytes in seeOf bbs bytes 0 from to
+answered ps from to = let bytes : List ℕ = bytesOf ps in let bbs : List ℕ = bitboardsOf bytes in seeOf bbs bytes (ofSide 0) from to
 
 -- queen d1 takes pawn d5, pawn e4 behind her; knight f6, bishop b7 defend; kings g1, g8
 abbrev queenCase : List Placed
@@ -103,7 +103,7 @@ squares = refl
 -- BOARD where a byte is not its board's, before SQUARE; SHAPE where the side is none, before BOARD
 unfoldable amiss : ℕ → ℕ → Answer ℤ
 unfolding bytesOf bitboardsOf tabulate those has some howMany allBelow boardsWith ofColour consistent checked mayCapture uncrowded exchangeOf
-amiss side from = let bbs : List ℕ = bitboardsOf (bytesOf queenCase) in seeOf bbs (bytesOf (on 2 8 ∷ queenCase)) side from 35
+amiss side from = let bbs : List ℕ = bitboardsOf (bytesOf queenCase) in seeOf bbs (bytesOf (on 2 8 ∷ queenCase)) (ofSide side) from 35
 
 amiss-is : amiss 0 3 ∷ amiss 0 64 ∷ amiss 2 3 ∷ [] ≡ refused 2 [] ∷ refused 2 [] ∷ refused 1 [] ∷ []
 unfolding amiss
@@ -115,7 +115,7 @@ unfolding bytesOf bitboardsOf tabulate those has some howMany allBelow boardsWit
 leastOn colour still =
     let bytes : List ℕ = bytesOf (on 5 50 ∷ on 5 52 ∷ queenCase) in
     let bbs : List ℕ = bitboardsOf bytes in
-    lvpOf bbs bytes 0 colour (attackers bbs 35 (occupied bbs)) (board still)
+    lvpOf bbs bytes (ofSide 0) colour (attackers bbs 35 (occupied bbs)) (board still)
 
 -- the pawn before the queen; the queen alone; of two knights the lower, before the bishop; the bishop alone; the king, which does not attack; no colour
 least-are : leastOn 0 (3 ∷ 28 ∷ []) ∷ leastOn 0 (3 ∷ []) ∷ leastOn 1 (49 ∷ 52 ∷ 50 ∷ []) ∷ leastOn 1 (49 ∷ []) ∷ leastOn 1 (62 ∷ []) ∷ leastOn 2 (49 ∷ []) ∷ []

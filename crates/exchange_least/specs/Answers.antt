@@ -3,6 +3,7 @@ use mathlib.Core.List.{List, [], _∷_}
 use Prim.Native.Nat.{ℕ}
 use Rattle.refusal.specs.Answer.{Answer, given, refusalOf}
 use Rattle.position.specs.Checked.{checked}
+use Rattle.position.specs.declared.State.{State}
 use Rattle.attack.specs.Answers.{withColour}
 use Rattle.exchange_least.specs.Least.{Attacker, nobody, attacker, leastOf, order}
 use Rattle.exchange_least.specs.declared.Least.{Least}
@@ -15,9 +16,9 @@ abbrev pub squareOf : Attacker → List ℕ
 squareOf nobody = []
 squareOf (attacker s kind) = s ∷ []
 
-abbrev pub lvpOf : List ℕ → List ℕ → ℕ → ℕ → ℕ → ℕ → Answer (List ℕ)
-lvpOf bbs bytes side colour attacks occ =
-    withColour colour (checked bbs bytes side (given (squareOf (leastOf order bbs colour attacks occ))))
+abbrev pub lvpOf : List ℕ → List ℕ → State → ℕ → ℕ → ℕ → Answer (List ℕ)
+lvpOf bbs bytes state colour attacks occ =
+    withColour colour (checked bbs bytes state (given (squareOf (leastOf order bbs colour attacks occ))))
 
 -- ---- the code's answers on the paper
 abbrev pub least : Least → Answer (List ℕ)

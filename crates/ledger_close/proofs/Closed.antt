@@ -3,7 +3,6 @@ use mathlib.Core.Path.{_≡_, refl, sym, ap, subst}
 use mathlib.Core.Bool.{Bool, true, false, cond}
 use mathlib.Core.List.{List}
 use Prim.Native.Nat.{ℕ, _≤_, _<_}
-use native.Mathlib.Omega.{arith}
 use lib.Dec.{ltb}
 use lib.IntN.{ℤ}
 use lib.ListN.{length, take}
@@ -11,11 +10,12 @@ use borrow.Author.Tests.{lt-ltb, le-ltb}
 use Rattle.refusal.specs.Answer.{Answer, refusalOf}
 use Rattle.refusal.specs.Refusals.{numberOf}
 use Rattle.refusal.specs.declared.Refusal.the-variants as R
+use Rattle.refusal.proofs.Paper.{number-small}
+use Rattle.position.specs.declared.State.{State}
 use Rattle.attack_steps.specs.Steps.{stepTables}
-use Rattle.attack.specs.Attacks.{attacks}
-use Rattle.score_pst.specs.Pst.{pstOf, pstTable}
+use Rattle.score_pst.specs.Pst.{pstTable}
 use Rattle.line_parse.specs.Line.{Line, lineOf}
-use Rattle.score.specs.Score.{Outcome, scoreOf}
+use Rattle.score.specs.Score.{Outcome}
 use Rattle.text_out.specs.Text.{Puts, Adds, place, afterOf}
 use Rattle.text_out.specs.declared.Placed.{Placed}
 use Rattle.text_out.proofs.Added.{adds-or}
@@ -27,7 +27,7 @@ use Rattle.ledger_row.proofs.Lent.{told-row}
 use Rattle.ledger_close.specs.Ended.{saidOf}
 
 -- ---- long or read
-module _ (rule : List ℕ → ℕ → Answer Outcome) (number : ℕ) (line old new : List ℕ) (at size : ℕ) where
+module _ (rule : List ℕ → State → Answer Outcome) (number : ℕ) (line old new : List ℕ) (at size : ℕ) where
   pub close-long : length line < size → (p : Placed) → Puts old new at (refusedRow number (numberOf R.Long)) p
       → PutsRow old new at (saidOf line size) (rowBy rule number (saidOf line size)) (record { placed = p; loaded = false })
   close-long h p q =
@@ -43,12 +43,11 @@ module _ (rule : List ℕ → ℕ → Answer Outcome) (number : ℕ) (line old n
 
 -- ---- no longer than 32 bytes
 pub said-32 : (number : ℕ) (line : List ℕ) (size : ℕ) → length (rowOf number (saidOf line size)) ≤ 32
-unfolding scoreOf
 said-32 number line size = go (ltb (length line) size)
   where
     go : (t : Bool) → length (rowOf number (cond t (refusalOf R.Long) (lineOf (take size line)))) ≤ 32
-    go true = refused-32 number 8 (omega arith)
-    go false = row-32 attacks pstOf number (take size line)
+    go true = refused-32 number (numberOf R.Long) (number-small R.Long)
+    go false = row-32 number (take size line)
 
 -- ---- as a text that is added, by 01's tables
 pub closed-adds : (tables : List (List ℕ)) (pst : List ℤ) → tables ≡ stepTables → pst ≡ pstTable → (number : ℕ) (old new : List ℕ) (at : ℕ) (said : Answer Line) (r : Row)

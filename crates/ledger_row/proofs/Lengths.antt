@@ -15,15 +15,17 @@ use Rattle.refusal.specs.declared.Refusal.{Refusal}
 use Rattle.refusal.specs.declared.Refusal.the-variants as R
 use Rattle.refusal.proofs.Paper.{number-small}
 use Rattle.position_boards.specs.Boards.{bitboardsOf}
+use Rattle.attack.specs.Attacks.{attacks}
 use Rattle.text_in.specs.Text.{text, semicolon, isText, every, holds}
 use Rattle.line_ranks.specs.Ranks.{areEightRanks}
 use Rattle.line_parse.specs.Line.{Line, sides, results, isOneOf, ranksOf, sideWord, positionField, resultField, fieldsSay, lineOf}
 use Rattle.line_parse.proofs.Given.{given-spells}
+use Rattle.score_pst.specs.Pst.{pstOf}
 use Rattle.score_taper.specs.Parts.{in16}
 use Rattle.score_verdict.specs.Verdict.{lost, won, drawn, none}
-use Rattle.score.specs.Score.{Outcome, verdict, score, scoreBy}
+use Rattle.score.specs.Score.{Outcome, verdict, score, scoreOf}
 use Rattle.text_out.specs.Text.{digitsUpTo, decimalOf, signedOf}
-use Rattle.ledger_row.specs.Row.{spaced, shownOf, rowBy, loadedRow, refusedRow}
+use Rattle.ledger_row.specs.Row.{spaced, shownOf, rowOf, loadedRow, refusedRow}
 use Rattle.ledger_row.proofs.Fits.{length-spaced}
 use Rattle.ledger_row.proofs.Rows.{score-short}
 
@@ -89,12 +91,13 @@ loaded-32 number half a h k =
     let s = length-append (decimalOf half) (text " ") in
     omega (arith, length-spaced number, length-below 20 0 half (omega arith))
 
-pub row-32 : (attack : ℕ → ℕ → ℕ → ℕ → ℕ) (weight : ℕ → ℕ → ℕ → ℤ) (number : ℕ) (line : List ℕ) → length (rowBy (scoreBy attack weight) number (lineOf line)) ≤ 32
-row-32 attack weight number line = go (lineOf line) refl
+pub row-32 : (number : ℕ) (line : List ℕ) → length (rowOf number (lineOf line)) ≤ 32
+unfolding scoreOf
+row-32 number line = go (lineOf line) refl
   where
-    go : (a : Answer Line) → a ≡ lineOf line → length (rowBy (scoreBy attack weight) number a) ≤ 32
+    go : (a : Answer Line) → a ≡ lineOf line → length (rowOf number a) ≤ 32
     go (refused n v) e = refused-32 number n (line-small line n v e)
     go (given l) e =
         let half = given-spells line l (sym e) .half in
-        loaded-32 number (l .half) (scoreBy attack weight (bitboardsOf (l .board)) (l .state .side)) (omega arith)
-        (shown-6 (scoreBy attack weight (bitboardsOf (l .board)) (l .state .side)) (score-short attack weight (bitboardsOf (l .board)) (l .state .side)))
+        loaded-32 number (l .half) (scoreOf (bitboardsOf (l .board)) (l .state)) (omega arith)
+        (shown-6 (scoreOf (bitboardsOf (l .board)) (l .state)) (score-short attacks pstOf (bitboardsOf (l .board)) (l .state .side)))

@@ -15,7 +15,7 @@ use Rattle.ledger_row.specs.Row.{rowBy, rowOf, loadedRow}
 use Rattle.ledger_row.specs.Promises.{scoreWith}
 
 pub lent-row : (number : ℕ) (a : Answer Line) → rowBy (scoreWith stepTables pstTable) number a ≡ rowOf number a
-lent-row number (given l) = ap (loadedRow number (l .half)) (lent-score (bitboardsOf (l .board)) (l .state .side))
+lent-row number (given l) = ap (loadedRow number (l .half)) (lent-score (bitboardsOf (l .board)) (l .state))
 lent-row number (refused n v) = refl
 
 -- whatever tables a call made
@@ -23,6 +23,6 @@ pub told-row : (tables : List (List ℕ)) (pst : List ℤ) → tables ≡ stepTa
 told-row tables pst e f number a = ap₂ (λ (t : List (List ℕ)) (w : List ℤ). rowBy (scoreWith t w) number a) e f ∙ lent-row number a
 
 -- neither SHAPE nor BOARD comes before a row's score
-pub shown-eval : (line : List ℕ) (l : Line) → lineOf line ≡ given l → evalOf (bitboardsOf (l .board)) (l .board) (l .state .side) ≡ scoreOf (bitboardsOf (l .board)) (l .state .side)
+pub shown-eval : (line : List ℕ) (l : Line) → lineOf line ≡ given l → evalOf (bitboardsOf (l .board)) (l .board) (l .state) ≡ scoreOf (bitboardsOf (l .board)) (l .state)
 unfolding evalOf
-shown-eval line l e = loaded-checked line l e (scoreOf (bitboardsOf (l .board)) (l .state .side))
+shown-eval line l e = loaded-checked line l e (scoreOf (bitboardsOf (l .board)) (l .state))

@@ -56,7 +56,7 @@ pub scored-short : (attack : ℕ → ℕ → ℕ → ℕ → ℕ) (weight : ℕ 
 scored-short attack weight bbs side r e z q = score-short attack weight bbs side z (sym (ap scored q) ∙ e)
 
 -- ---- the row of a line that is refused, and of one that is loaded
-module _ (rule : List ℕ → ℕ → Answer Outcome) (number : ℕ) (line old new : List ℕ) (at : ℕ) (read : Loaded) (reads : Loads line read) where
+module _ (rule : List ℕ → State → Answer Outcome) (number : ℕ) (line old new : List ℕ) (at : ℕ) (read : Loaded) (reads : Loads line read) where
   pub row-refused : (q : Refusal) → read .answer ≡ Refused q → (p : Placed) → Puts old new at (refusedRow number (numberOf q)) p
       → PutsRow old new at (lineOf line) (rowBy rule number (lineOf line)) (record { placed = p; loaded = false })
   row-refused q told p h = go (lineOf line) (sym (ap paper told) ∙ reads .answer)
@@ -65,7 +65,7 @@ module _ (rule : List ℕ → ℕ → Answer Outcome) (number : ℕ) (line old n
       go (given l) e = given-not (sym e)
       go (refused n v) e = record { puts = subst (λ (k : ℕ). Puts old new at (refusedRow number k) p) (cc e) h; loaded = refl }
 
-  pub row-loaded : (state : State) (half : ℕ) → read .answer ≡ Position state half → (a : Answer Outcome) → a ≡ rule (read .bitboards) (state .side)
+  pub row-loaded : (state : State) (half : ℕ) → read .answer ≡ Position state half → (a : Answer Outcome) → a ≡ rule (read .bitboards) state
       → (p : Placed) → Puts old new at (loadedRow number half a) p
       → PutsRow old new at (lineOf line) (rowBy rule number (lineOf line)) (record { placed = p; loaded = true })
   row-loaded state half told a s p h = go (lineOf line) (sym (ap paper told) ∙ reads .answer) (reads .boards)
@@ -75,7 +75,7 @@ module _ (rule : List ℕ → ℕ → Answer Outcome) (number : ℕ) (line old n
       go (refused n v) e f = given-not e
       go (given l) e f =
           let both : _≡_ {A = State × ℕ} (state, half) (l .state, l .half) = cc in
-          let d : state .side ≡ l .state .side = ap (λ (x : State × ℕ). x .0 .side) both in
+          let d : state ≡ l .state = ap (λ (x : State × ℕ). x .0) both in
           let k : half ≡ l .half = ap (λ (x : State × ℕ). x .1) both in
-          let g : a ≡ rule (bitboardsOf (l .board)) (l .state .side) = s ∙ ap₂ rule f d in
+          let g : a ≡ rule (bitboardsOf (l .board)) (l .state) = s ∙ ap₂ rule f d in
           record { puts = subst (λ (t : List ℕ). Puts old new at t p) (ap₂ (loadedRow number) k g) h; loaded = refl }

@@ -7,6 +7,7 @@ use lib.IntN.{ℤ}
 use Rattle.refusal.specs.Answer.{Answer}
 use Rattle.refusal.specs.Refusals.{numberOf}
 use Rattle.refusal.specs.declared.Refusal.{Refusal}
+use Rattle.position.specs.declared.State.{State}
 use Rattle.attack.specs.Lent.{attacksWith}
 use Rattle.score_pst.specs.Pst.{weightIn}
 use Rattle.line_parse.specs.Line.{Line, lineOf}
@@ -20,8 +21,8 @@ use Rattle.ledger_row.specs.Row.{rowBy, refusedRow, isLoaded}
 use Rattle.ledger_row.specs.declared.Row.{Row}
 
 -- the score by whatever tables are lent
-abbrev pub scoreWith : List (List ℕ) → List ℤ → List ℕ → ℕ → Answer Outcome
-scoreWith tables pst bitboards side = scoreBy (attacksWith tables) (weightIn pst) bitboards side
+abbrev pub scoreWith : List (List ℕ) → List ℤ → List ℕ → State → Answer Outcome
+scoreWith tables pst bitboards state = scoreBy (attacksWith tables) (weightIn pst) bitboards (state .side)
 
 -- a text is put, and it is said whether the line was loaded
 pub record PutsRow (old new : List ℕ) (at : ℕ) (said : Answer Line) (text : List ℕ) (r : Row) : Type 0 where

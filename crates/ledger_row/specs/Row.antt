@@ -8,6 +8,7 @@ use Rattle.text_in.specs.Text.{text}
 use Rattle.line_parse.specs.Line.{Line}
 use Rattle.score_verdict.specs.Verdict.{lost, won, drawn, none}
 use Rattle.score_verdict.specs.Verdict.{Verdict}
+use Rattle.position.specs.declared.State.{State}
 use Rattle.score.specs.Score.{Outcome, verdict, score, scoreOf}
 use Rattle.text_out.specs.Text.{decimalOf, signedOf}
 
@@ -37,8 +38,8 @@ unfoldable pub loadedRow : ℕ → ℕ → Answer Outcome → List ℕ
 loadedRow number half scored = spaced number ++ (spaced half ++ (shownOf scored ++ text "\n"))
 
 -- the row of a line, by what the line says and by any rule of the score
-abbrev pub rowBy : (List ℕ → ℕ → Answer Outcome) → ℕ → Answer Line → List ℕ
-rowBy rule number (given l) = loadedRow number (l .half) (rule (bitboardsOf (l .board)) (l .state .side))
+abbrev pub rowBy : (List ℕ → State → Answer Outcome) → ℕ → Answer Line → List ℕ
+rowBy rule number (given l) = loadedRow number (l .half) (rule (bitboardsOf (l .board)) (l .state))
 rowBy rule number (refused n beside) = refusedRow number n
 
 -- the row by 01's score

@@ -45,7 +45,7 @@ module _ (line : List ℕ) (l : Line) (e : lineOf line ≡ given l) where
   loaded-only bitboards n small c = only-made bitboards (l .board) c n small
 
   -- neither SHAPE nor BOARD stands before what is asked of it
-  pub loaded-checked : {A : Type 0} (rest : Answer A) → checked (bitboardsOf (l .board)) (l .board) (l .state .side) rest ≡ rest
+  pub loaded-checked : {A : Type 0} (rest : Answer A) → checked (bitboardsOf (l .board)) (l .board) (l .state) rest ≡ rest
   loaded-checked rest =
-      sym (sound (bitboardsOf (l .board)) (l .board) (l .state .side) rest
-      (in-shape (bitboardsOf (l .board)) (l .board) (l .state .side) (made-length (l .board)) loaded-64 (given-spells line l e .side)) loaded-consistent)
+      sym (sound (bitboardsOf (l .board)) (l .board) (l .state) rest
+      (in-shape (bitboardsOf (l .board)) (l .board) (l .state) (made-length (l .board)) loaded-64 (given-spells line l e .side)) loaded-consistent)

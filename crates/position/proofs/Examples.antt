@@ -9,11 +9,11 @@ use Rattle.bits.specs.Bitboard.{has, some, howMany}
 use Rattle.position_boards.specs.Sound.{boardsWith, ofColour}
 use Rattle.position_boards.proofs.Examples.{startBoards, startBytes}
 use Rattle.position_consistent.specs.Consistent.{consistent}
-use Rattle.position.specs.Checked.{checked}
+use Rattle.position.specs.Checked.{ofSide, checked}
 
 -- ---- SHAPE, then BOARD, then whatever comes after them
 abbrev answer : List ℕ → List ℕ → ℕ → Answer ℕ
-answer bbs bytes side = checked bbs bytes side (given 11)
+answer bbs bytes side = checked bbs bytes (ofSide side) (given 11)
 
 -- White and Black to move; side 2; 13 bitboards; 63 bytes; a1 empty by its byte; the same with side 2
 answers : List (Answer ℕ)

@@ -7,11 +7,16 @@ use lib.ListN.{length}
 use Rattle.refusal.specs.Answer.{Answer, orRefuse}
 use Rattle.refusal.specs.declared.Refusal.the-variants as R
 use Rattle.position_consistent.specs.Consistent.{consistent}
+use Rattle.position.specs.declared.State.{State}
+
+-- "a side" to move, and nothing else of a state
+abbrev pub ofSide : ℕ → State
+ofSide side = record { side = side }
 
 -- SHAPE: "not 14 bitboards, 64 bytes ..; side .. not 0 or 1"
-abbrev pub shaped : List ℕ → List ℕ → ℕ → Bool
-shaped bbs bytes side = eqb (length bbs) 14 && eqb (length bytes) 64 && ltb side 2
+abbrev pub shaped : List ℕ → List ℕ → State → Bool
+shaped bbs bytes state = eqb (length bbs) 14 && eqb (length bytes) 64 && ltb (state .side) 2
 
 -- what comes before every answer about a position: SHAPE, then BOARD, "not consistent"
-unfoldable pub checked : {A : Type 0} → List ℕ → List ℕ → ℕ → Answer A → Answer A
-checked bbs bytes side rest = orRefuse (shaped bbs bytes side) R.Shape (orRefuse (consistent bbs bytes) R.Board rest)
+unfoldable pub checked : {A : Type 0} → List ℕ → List ℕ → State → Answer A → Answer A
+checked bbs bytes state rest = orRefuse (shaped bbs bytes state) R.Shape (orRefuse (consistent bbs bytes) R.Board rest)

@@ -14,4 +14,4 @@ paper Fit = given tt
 paper (Refused r) = refusalOf r
 
 abbrev pub Checks : List ℕ → List ℕ → State → Checked → Type 0
-Checks bitboards board state r = paper r ≡ checked bitboards board (state .side) (given tt)
+Checks bitboards board state r = paper r ≡ checked bitboards board state (given tt)

@@ -2,9 +2,8 @@
 use mathlib.Core.Path.{_≡_, sym, ap}
 use mathlib.Core.Bool.{Bool}
 use Prim.Native.Nat.{ℕ, _<_, _≤_}
-use lib.Dec.{ltb}
 use borrow.Author.Tests.{lt-ltb, le-ltb}
-use Rattle.refusal.specs.Answer.{Answer, given, refusalOf, orRefuse, below}
+use Rattle.refusal.specs.Answer.{given, refusalOf, orRefuse, below}
 use Rattle.refusal.specs.declared.Refusal.{Refusal}
 
 pub within : (bound : ℕ) (r : Refusal) (n : ℕ) → n < bound → given n ≡ below bound r n

@@ -4,7 +4,7 @@ use mathlib.Core.List.{List, [], _∷_}
 use Prim.Native.Nat.{ℕ, _<_}
 use native.Mathlib.Omega.{arith}
 use lib.ListN.{getD}
-use Rattle.refusal.specs.Answer.{Answer, given, refused, refusalOf}
+use Rattle.refusal.specs.Answer.{Answer, given, refused}
 use Rattle.refusal.specs.Refusals.{numberOf, besideOf}
 use Rattle.refusal.specs.declared.Refusal.{Refusal}
 use Rattle.refusal.specs.declared.Refusal.the-variants as R

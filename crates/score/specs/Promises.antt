@@ -11,7 +11,7 @@ use Rattle.score.specs.Answers.{scored}
 use Rattle.score.specs.declared.Scored.{Scored}
 
 abbrev pub Evals : List ℕ → List ℕ → State → Scored → Type 0
-Evals bitboards board state r = scored r ≡ evalOf bitboards board (state .side)
+Evals bitboards board state r = scored r ≡ evalOf bitboards board state
 
 -- the inner function, on any bitboards, by whatever tables are lent
 abbrev pub EvalsWith : List (List ℕ) → List ℤ → List ℕ → ℕ → Scored → Type 0

@@ -3,8 +3,8 @@ use mathlib.Core.List.{List}
 use Prim.Native.Nat.{ℕ}
 use lib.IntN.{ℤ}
 use Rattle.refusal.specs.Answer.{Answer, given, refused}
-use Rattle.refusal.specs.declared.Refusal.the-variants as R
 use Rattle.position.specs.Checked.{checked}
+use Rattle.position.specs.declared.State.{State}
 use Rattle.attack.specs.Attacks.{other, attacks}
 use Rattle.score_pst.specs.Pst.{pstOf}
 use Rattle.score_taper.specs.Parts.{pointsOf}
@@ -37,11 +37,11 @@ unfolding verdictOf weighedBy material mobilityBy pieces
 scoreBy attack weight bbs side = settled (verdictOf bbs side) (pointsBy attack weight bbs side)
 
 -- the score by 01's attacks and square weights
-unfoldable pub scoreOf : List ℕ → ℕ → Answer Outcome
+unfoldable pub scoreOf : List ℕ → State → Answer Outcome
 unfolding scoreBy attacks pstOf
-scoreOf = scoreBy attacks pstOf
+scoreOf bbs state = scoreBy attacks pstOf bbs (state .side)
 
 -- the door: "Score ..: 1, 2, 3"
-unfoldable pub evalOf : List ℕ → List ℕ → ℕ → Answer Outcome
+unfoldable pub evalOf : List ℕ → List ℕ → State → Answer Outcome
 unfolding checked scoreOf
-evalOf bbs bytes side = checked bbs bytes side (scoreOf bbs side)
+evalOf bbs bytes state = checked bbs bytes state (scoreOf bbs state)

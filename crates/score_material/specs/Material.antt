@@ -11,6 +11,7 @@ use Rattle.chess.specs.Codes.{isPiece, kindOf}
 use Rattle.chess.specs.Values.{valueOf}
 use Rattle.refusal.specs.declared.Refusal.the-variants as R
 use Rattle.position.specs.Checked.{checked}
+use Rattle.position.specs.declared.State.{State}
 use Rattle.attack.specs.Answers.{withColour}
 use Rattle.score_material.specs.Pieces.{count}
 
@@ -38,8 +39,8 @@ unfolding worth pair
 material bbs colour = worth bbs colour + pair bbs colour * pairValue
 
 -- "`eval_material` gives SCORE exactly if its total is above 32767", after SHAPE and BOARD
-unfoldable pub materialOf : List ℕ → List ℕ → ℕ → ℕ → Answer ℤ
+unfoldable pub materialOf : List ℕ → List ℕ → State → ℕ → Answer ℤ
 unfolding checked worth
-materialOf bbs bytes side colour =
+materialOf bbs bytes state colour =
     let total : ℕ = worth bbs colour in
-    withColour colour (checked bbs bytes side (orRefuse (leb total 32767) R.Score (given (pos total))))
+    withColour colour (checked bbs bytes state (orRefuse (leb total 32767) R.Score (given (pos total))))

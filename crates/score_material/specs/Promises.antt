@@ -16,7 +16,7 @@ material (Is z) = given z
 material (Refused r) = refusalOf r
 
 abbrev pub EvalsMaterial : List ℕ → List ℕ → State → ℕ → Material → Type 0
-EvalsMaterial bitboards board state colour r = material r ≡ materialOf bitboards board (state .side) colour
+EvalsMaterial bitboards board state colour r = material r ≡ materialOf bitboards board state colour
 
 -- ---- the inner functions, on any bitboards
 abbrev pub Numbers : List ℕ → ℕ → ℕ → ℕ → Type 0

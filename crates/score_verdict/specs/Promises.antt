@@ -9,7 +9,7 @@ use Rattle.score_verdict.specs.declared.Verdict.{Verdict}
 use Rattle.score_verdict.specs.declared.Ending.{Ending}
 
 abbrev pub EvalsEnding : List ℕ → List ℕ → State → Ending → Type 0
-EvalsEnding bitboards board state r = ending r ≡ endingOf bitboards board (state .side)
+EvalsEnding bitboards board state r = ending r ≡ endingOf bitboards board state
 
 -- the inner function, on any bitboards
 abbrev pub Ends : List ℕ → ℕ → Verdict → Type 0

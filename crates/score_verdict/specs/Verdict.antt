@@ -6,6 +6,7 @@ use lib.Dec.{eqb, ltb}
 use Rattle.refusal.specs.Answer.{Answer, given}
 use Rattle.chess.specs.Codes.{asColour}
 use Rattle.position.specs.Checked.{checked}
+use Rattle.position.specs.declared.State.{State}
 use Rattle.score_material.specs.Pieces.{count, pieces}
 
 pub data Verdict : Type 0 where
@@ -38,6 +39,6 @@ verdictOf bbs side =
     cond (fewKings bbs) (cond (eqb king 0) lost won) (cond (bare bbs) drawn none)
 
 -- the door: "Verdict ..: 1, 2"
-unfoldable pub endingOf : List ℕ → List ℕ → ℕ → Answer Verdict
+unfoldable pub endingOf : List ℕ → List ℕ → State → Answer Verdict
 unfolding checked verdictOf
-endingOf bbs bytes side = checked bbs bytes side (given (verdictOf bbs side))
+endingOf bbs bytes state = checked bbs bytes state (given (verdictOf bbs (state .side)))

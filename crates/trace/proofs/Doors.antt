@@ -24,18 +24,18 @@ use Rattle.trace.specs.declared.Traced.{Traced}
 -- a refusal, with no trace and the entries as they were
 module _ (bbs bytes : List ℕ) (state : State) (entries : List ℤ) where
   abbrev rest : Answer Trace
-  rest = checked bbs bytes (state .side) (given (traceOf bbs (state .side)))
+  rest = checked bbs bytes state (given (traceOf bbs (state .side)))
 
   abbrev after : Answer Trace → List ℤ
   after a = entriesAfter a bbs entries
 
-  refuses : (r : Traced) (q : Refusal) → r ≡ refusedWith q → refusalOf q ≡ tracedOf bbs bytes (state .side) entries → Traces bbs bytes state entries r entries
+  refuses : (r : Traced) (q : Refusal) → r ≡ refusedWith q → refusalOf q ≡ tracedOf bbs bytes state entries → Traces bbs bytes state entries r entries
   refuses r q c e = (ap paper c ∙ e, ap (λ (t : Traced). t .trace) c ∙ ap traceFrom e, ap after e)
 
   pub wrong-entries : (r : Traced) → (length entries ≡ 768 → ⊥) → r ≡ refusedWith R.Shape → Traces bbs bytes state entries r entries
   wrong-entries r n c = refuses r R.Shape c (sym (ap (λ (b : Bool). orRefuse b R.Shape rest) (ne-eqb (length entries) 768 n)))
 
-  right : length entries ≡ 768 → rest ≡ tracedOf bbs bytes (state .side) entries
+  right : length entries ≡ 768 → rest ≡ tracedOf bbs bytes state entries
   right e = sym (ap (λ (b : Bool). orRefuse b R.Shape rest) (eq-eqb (length entries) 768 e))
 
   pub passed-on : (r : Traced) (q : Refusal) → length entries ≡ 768 → refusalOf q ≡ rest → r ≡ refusedWith q → Traces bbs bytes state entries r entries
@@ -47,6 +47,6 @@ module _ (bbs bytes : List ℕ) (state : State) (entries : List ℤ) where
       → Traces bbs bytes state entries (record { checked = Fit; trace = t }) marked
   unfolding traceOf
   traced tables t mobility blank marked e p et em t-is l z m =
-      let a : given (traceOf bbs (state .side)) ≡ tracedOf bbs bytes (state .side) entries = p ∙ right e in
+      let a : given (traceOf bbs (state .side)) ≡ tracedOf bbs bytes state entries = p ∙ right e in
       let d : t ≡ traceOf bbs (state .side) = t-is ∙ ap (traceWith bbs (state .side)) (em ∙ ap (λ (x : List (List ℕ)). mobilityWith x bbs) et ∙ lent-mobility bbs) in
       (ap given d ∙ a, d ∙ ap traceFrom a, m ∙ filled-is bbs blank l z ∙ ap after a)

@@ -16,9 +16,9 @@ use Rattle.trace.specs.Trace.{traceOf, entriesOf, noTrace}
 use Rattle.trace.specs.declared.Traced.{Traced}
 
 -- "trace ..: 1, 2": SHAPE, also if "not .. 768 trace entries", then BOARD
-abbrev pub tracedOf : List ℕ → List ℕ → ℕ → List ℤ → Answer Trace
-tracedOf bbs bytes side entries =
-    orRefuse (eqb (length entries) 768) R.Shape (checked bbs bytes side (given (traceOf bbs side)))
+abbrev pub tracedOf : List ℕ → List ℕ → State → List ℤ → Answer Trace
+tracedOf bbs bytes state entries =
+    orRefuse (eqb (length entries) 768) R.Shape (checked bbs bytes state (given (traceOf bbs (state .side))))
 
 -- the answer on the paper: an array can't stand in an enum, so the trace stands beside the test's outcome
 abbrev pub paperOf : Checked → Trace → Answer Trace
@@ -40,6 +40,6 @@ entriesAfter (refused n l) bbs entries = entries
 
 abbrev pub Traces : List ℕ → List ℕ → State → List ℤ → Traced → List ℤ → Type 0
 Traces bitboards board state before r after =
-    (paper r ≡ tracedOf bitboards board (state .side) before)
-    × (r .trace ≡ traceFrom (tracedOf bitboards board (state .side) before))
-    × (after ≡ entriesAfter (tracedOf bitboards board (state .side) before) bitboards before)
+    (paper r ≡ tracedOf bitboards board state before)
+    × (r .trace ≡ traceFrom (tracedOf bitboards board state before))
+    × (after ≡ entriesAfter (tracedOf bitboards board state before) bitboards before)

@@ -13,7 +13,7 @@ use Rattle.attack_to.proofs.is_check.Tie as tie
 returns : tie.Need-returns
 returns c =
     let a = c .before .before .before .args in
-    no-colour (a .color) (checked (a .bitboards .now) (a .board .now) (a .state .side) (given (isCheck (a .bitboards .now) (a .color)))) (omega arith)
+    no-colour (a .color) (checked (a .bitboards .now) (a .board .now) (a .state) (given (isCheck (a .bitboards .now) (a .color)))) (omega arith)
 
 check-requires : tie.Need-check-requires
 check-requires c κs = search needs
@@ -27,7 +27,7 @@ returns-2 c =
     let a = k .before .before .before .before .args in
     pass-on (a .bitboards .now) (a .board .now) (a .state) (k .check .result) (k .check .ensures)
     (given (isCheck (a .bitboards .now) (a .color))) (c .before .refusal .given .0 .0) (c .before .refusal .given .1)
-    ∙ a-colour (a .color) (checked (a .bitboards .now) (a .board .now) (a .state .side) (given (isCheck (a .bitboards .now) (a .color)))) (omega arith)
+    ∙ a-colour (a .color) (checked (a .bitboards .now) (a .board .now) (a .state) (given (isCheck (a .bitboards .now) (a .color)))) (omega arith)
 
 enum-told : tie.Need-enum-told
 enum-told c = search needs
@@ -42,7 +42,7 @@ returns-3 c =
     let a = k .before .before .before .before .args in
     ap given (c .is-check .ensures)
     ∙ fit-rest (a .bitboards .now) (a .board .now) (a .state) (k .check .result) (k .check .ensures) (given (isCheck (a .bitboards .now) (a .color))) (e .enum-told .given .1)
-    ∙ a-colour (a .color) (checked (a .bitboards .now) (a .board .now) (a .state .side) (given (isCheck (a .bitboards .now) (a .color)))) (omega arith)
+    ∙ a-colour (a .color) (checked (a .bitboards .now) (a .board .now) (a .state) (given (isCheck (a .bitboards .now) (a .color)))) (omega arith)
 
 pub is-check-spec : {M : Type 1} → statement M
 is-check-spec =

@@ -14,7 +14,7 @@ use Rattle.exchange_least.proofs.lvp.Tie as tie
 returns : tie.Need-returns
 returns c =
     let a = c .before .before .before .args in
-    no-colour (a .color) (checked (a .bitboards .now) (a .board .now) (a .state .side) (given (squareOf (leastOf order (a .bitboards .now) (a .color) (a .attacks) (a .occupied))))) (omega arith)
+    no-colour (a .color) (checked (a .bitboards .now) (a .board .now) (a .state) (given (squareOf (leastOf order (a .bitboards .now) (a .color) (a .attacks) (a .occupied))))) (omega arith)
 
 check-requires : tie.Need-check-requires
 check-requires c κs = search needs
@@ -28,7 +28,7 @@ returns-2 c =
     let a = k .before .before .before .before .args in
     let rest = given (squareOf (leastOf order (a .bitboards .now) (a .color) (a .attacks) (a .occupied))) in
     pass-on (a .bitboards .now) (a .board .now) (a .state) (k .check .result) (k .check .ensures) rest (c .before .refusal .given .0 .0) (c .before .refusal .given .1)
-    ∙ a-colour (a .color) (checked (a .bitboards .now) (a .board .now) (a .state .side) rest) (omega arith)
+    ∙ a-colour (a .color) (checked (a .bitboards .now) (a .board .now) (a .state) rest) (omega arith)
 
 enum-told : tie.Need-enum-told
 enum-told c = search needs
@@ -54,7 +54,7 @@ returns-3 c =
     let rest = given (squareOf (leastOf order (a .bitboards .now) (a .color) (a .attacks) (a .occupied))) in
     ap (λ x. given (squareOf x)) (sym (ap told (c .enum-told2 .given .1)) ∙ p .pick .ensures)
     ∙ fit-rest (a .bitboards .now) (a .board .now) (a .state) (k .check .result) (k .check .ensures) rest (e .enum-told .given .1)
-    ∙ a-colour (a .color) (checked (a .bitboards .now) (a .board .now) (a .state .side) rest) (omega arith)
+    ∙ a-colour (a .color) (checked (a .bitboards .now) (a .board .now) (a .state) rest) (omega arith)
 
 returns-4 : tie.Need-returns-4
 returns-4 c =
@@ -65,7 +65,7 @@ returns-4 c =
     let rest = given (squareOf (leastOf order (a .bitboards .now) (a .color) (a .attacks) (a .occupied))) in
     ap (λ x. given (squareOf x)) (sym (ap told (c .before .square .given .1)) ∙ p .pick .ensures)
     ∙ fit-rest (a .bitboards .now) (a .board .now) (a .state) (k .check .result) (k .check .ensures) rest (e .enum-told .given .1)
-    ∙ a-colour (a .color) (checked (a .bitboards .now) (a .board .now) (a .state .side) rest) (omega arith)
+    ∙ a-colour (a .color) (checked (a .bitboards .now) (a .board .now) (a .state) rest) (omega arith)
 
 pub lvp-spec : {M : Type 1} → statement M
 lvp-spec =

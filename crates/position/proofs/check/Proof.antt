@@ -17,12 +17,12 @@ use Rattle.position.proofs.check.Tie as tie
 returns : tie.Need-returns
 returns c =
     let a = c .before .before .before .args in
-    misshapen (a .bitboards .now) (a .board .now) (a .state .side) (given tt) (no-boards (a .bitboards .now) (a .board .now) (a .state .side) (c .if1 .taken))
+    misshapen (a .bitboards .now) (a .board .now) (a .state) (given tt) (no-boards (a .bitboards .now) (a .board .now) (a .state) (c .if1 .taken))
 
 returns-2 : tie.Need-returns-2
 returns-2 c =
     let a = c .before .before .before .before .args in
-    misshapen (a .bitboards .now) (a .board .now) (a .state .side) (given tt) (no-bytes (a .bitboards .now) (a .board .now) (a .state .side) (c .if2 .taken))
+    misshapen (a .bitboards .now) (a .board .now) (a .state) (given tt) (no-bytes (a .bitboards .now) (a .board .now) (a .state) (c .if2 .taken))
 
 index-requires : tie.Need-index-requires
 index-requires c κs = search needs
@@ -30,7 +30,7 @@ index-requires c κs = search needs
 returns-3 : tie.Need-returns-3
 returns-3 c =
     let a = c .before .before .before .before .before .before .args in
-    misshapen (a .bitboards .now) (a .board .now) (a .state .side) (given tt) (no-side (a .bitboards .now) (a .board .now) (a .state .side) (omega arith))
+    misshapen (a .bitboards .now) (a .board .now) (a .state) (given tt) (no-side (a .bitboards .now) (a .board .now) (a .state) (omega arith))
 
 fits-requires : tie.Need-fits-requires
 fits-requires c κs = search needs
@@ -44,8 +44,8 @@ returns-4 c =
     let s = c .before .before in
     let b = s .before .before in
     let a = b .before .before .before .before .args in
-    inconsistent (a .bitboards .now) (a .board .now) (a .state .side) (given tt)
-    (in-shape (a .bitboards .now) (a .board .now) (a .state .side) (b .before .if1 .left) (b .if2 .left) (omega arith))
+    inconsistent (a .bitboards .now) (a .board .now) (a .state) (given tt)
+    (in-shape (a .bitboards .now) (a .board .now) (a .state) (b .before .if1 .left) (b .if2 .left) (omega arith))
     (decided (a .bitboards .now) (a .board .now) (c .before .fits2 .result) (b .before .if1 .left) (b .if2 .left) (c .before .fits2 .ensures) ∙ not-true (c .before .fits2 .result) (c .if4 .taken))
 
 returns-5 : tie.Need-returns-5
@@ -53,8 +53,8 @@ returns-5 c =
     let s = c .before .before in
     let b = s .before .before in
     let a = b .before .before .before .before .args in
-    sound (a .bitboards .now) (a .board .now) (a .state .side) (given tt)
-    (in-shape (a .bitboards .now) (a .board .now) (a .state .side) (b .before .if1 .left) (b .if2 .left) (omega arith))
+    sound (a .bitboards .now) (a .board .now) (a .state) (given tt)
+    (in-shape (a .bitboards .now) (a .board .now) (a .state) (b .before .if1 .left) (b .if2 .left) (omega arith))
     (decided (a .bitboards .now) (a .board .now) (c .before .fits2 .result) (b .before .if1 .left) (b .if2 .left) (c .before .fits2 .ensures) ∙ not-false (c .before .fits2 .result) (c .if4 .left))
 
 pub check-spec : {M : Type 1} → statement M

@@ -36,7 +36,7 @@ returns : tie.Need-returns
 unfolding materialOf
 returns c =
     let a = c .before .before .before .args in
-    no-colour (a .color) (checked (a .bitboards .now) (a .board .now) (a .state .side) (total (a .bitboards .now) (a .color))) (omega arith)
+    no-colour (a .color) (checked (a .bitboards .now) (a .board .now) (a .state) (total (a .bitboards .now) (a .color))) (omega arith)
 
 check-requires : tie.Need-check-requires
 check-requires c κs = search needs
@@ -50,7 +50,7 @@ returns-2 c =
     let k = c .before .before .before in
     let a = k .before .before .before .before .args in
     pass-on (a .bitboards .now) (a .board .now) (a .state) (k .check .result) (k .check .ensures) (total (a .bitboards .now) (a .color)) (c .before .refusal .given .0 .0) (c .before .refusal .given .1)
-    ∙ a-colour (a .color) (checked (a .bitboards .now) (a .board .now) (a .state .side) (total (a .bitboards .now) (a .color))) (omega arith)
+    ∙ a-colour (a .color) (checked (a .bitboards .now) (a .board .now) (a .state) (total (a .bitboards .now) (a .color))) (omega arith)
 
 enum-told : tie.Need-enum-told
 enum-told c = search needs
@@ -61,13 +61,13 @@ material-requires c κs = search needs
 -- a total that is not refused is the rest of the definition
 passed : (c : tie.After-enum-told)
     → total (c .before .before .before .before .before .before .args .bitboards .now) (c .before .before .before .before .before .before .args .color)
-    ≡ materialOf (c .before .before .before .before .before .before .args .bitboards .now) (c .before .before .before .before .before .before .args .board .now) (c .before .before .before .before .before .before .args .state .side) (c .before .before .before .before .before .before .args .color)
+    ≡ materialOf (c .before .before .before .before .before .before .args .bitboards .now) (c .before .before .before .before .before .before .args .board .now) (c .before .before .before .before .before .before .args .state) (c .before .before .before .before .before .before .args .color)
 unfolding materialOf
 passed c =
     let k = c .before .before in
     let a = k .before .before .before .before .args in
     fit-rest (a .bitboards .now) (a .board .now) (a .state) (k .check .result) (k .check .ensures) (total (a .bitboards .now) (a .color)) (c .enum-told .given .1)
-    ∙ a-colour (a .color) (checked (a .bitboards .now) (a .board .now) (a .state .side) (total (a .bitboards .now) (a .color))) (omega arith)
+    ∙ a-colour (a .color) (checked (a .bitboards .now) (a .board .now) (a .state) (total (a .bitboards .now) (a .color))) (omega arith)
 
 returns-3 : tie.Need-returns-3
 returns-3 c = let m = c .before in over (m .material .result) _ (m .material .ensures) (c .if2 .taken) ∙ passed (m .before)

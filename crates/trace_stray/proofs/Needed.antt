@@ -5,6 +5,7 @@ use Prim.Native.Nat.{_*_}
 use native.Mathlib.Omega.{arith}
 use lib.IntN.{pos, negsuc, negℤ, _*ℤ_}
 use lib.Ieee.{Float, fin}
+use Rattle.position.specs.Checked.{ofSide}
 use Rattle.score_material.specs.Pieces.{count}
 use Rattle.claims_examples.proofs.Fitted.{high, high-fitted}
 use Rattle.claims.proofs.Reached.{highBytes, highest}
@@ -18,4 +19,4 @@ pub needed : Needed
 unfolding count
 needed shown =
     beyond
-    (subst (λ (x : Float). CloserThan (85 * million) x (negℤ (pos 3406) *ℤ pos 30)) high-fitted (shown high highBytes 0 (negℤ (pos 3406)) refl (highest .scored)))
+    (subst (λ (x : Float). CloserThan (85 * million) x (negℤ (pos 3406) *ℤ pos 30)) high-fitted (shown high highBytes (ofSide 0) (negℤ (pos 3406)) refl (highest .scored)))

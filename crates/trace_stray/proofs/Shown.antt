@@ -55,6 +55,7 @@ turned-back side s E = go (eqb side 0)
         diff-abs (E -ℤ negℤ s *ℤ pos 30) (up E + up s * 30) (dn E + dn s * 30) 85 (diff-minus E (negℤ s *ℤ pos 30) _ _ _ _ (diff-of E) (diff-scale (negℤ s) 30 _ _ (diff-neg s _ _ (diff-of s)))) (omega (arith, q .0, q .1)) (omega (arith, q .0, q .1))
 
 pub shown : Shown
-shown bbs bytes side s kings e =
+shown bbs bytes state s kings e =
+    let side : ℕ = state .side in
     together (fitted bbs side) (exact bbs side) (turned side s *ℤ pos 30) (is-near bbs side)
-    (turned-back side s (exact bbs side) (agreement bbs bytes side s kings e))
+    (turned-back side s (exact bbs side) (agreement bbs bytes state s kings e))

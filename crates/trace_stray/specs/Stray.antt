@@ -7,6 +7,7 @@ use Prim.Native.Nat.{ℕ, suc, _+_, _*_, _^_, _<_}
 use lib.IntN.{ℤ, pos, negsuc, negℤ, natAbs, _-ℤ_, _*ℤ_}
 use lib.Ieee.{Float, nan, inf, fin}
 use Rattle.refusal.specs.Answer.{given}
+use Rattle.position.specs.declared.State.{State}
 use Rattle.position_consistent.specs.Consistent.{consistent}
 use Rattle.score_material.specs.Pieces.{count}
 use Rattle.score.specs.Score.{evalOf, score}
@@ -62,8 +63,8 @@ EveryTrace =
 -- wherever demand 3 speaks, the score, its sign turned if Black is to move, lies less than `most` thirty-millionths of a point from the double
 abbrev pub ShownCloserThan : ℕ → Type 0
 ShownCloserThan most =
-    (bbs bytes : List ℕ) (side : ℕ) (s : ℤ) → count bbs 5 0 ≡ count bbs 5 1 → evalOf bbs bytes side ≡ given (score s)
-    → CloserThan most (fitted bbs side) (turned side s *ℤ pos 30)
+    (bbs bytes : List ℕ) (state : State) (s : ℤ) → count bbs 5 0 ≡ count bbs 5 1 → evalOf bbs bytes state ≡ given (score s)
+    → CloserThan most (fitted bbs (state .side)) (turned (state .side) s *ℤ pos 30)
 
 -- "the bound that this and demand 3 give on the shown score": less than 85/30 and a millionth
 abbrev pub Shown : Type 0

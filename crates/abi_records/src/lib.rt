@@ -3,9 +3,12 @@ ghost use mathlib.Core.Path.{_≡_};
 ghost use Prim.Native.Nat.{_+_, _<_};
 ghost use Rattle.abi_records.specs.Records.{pairOf};
 ghost use Rattle.abi_records.specs.Promises.{Counts, Traces, Names, Weighs};
+use chess::color::BLACKS;
 use chess::color::Color;
+use chess::color::WHITES;
 use chess::kind::Kind;
 use chess::piece::Piece;
+use places::weight;
 use places::weight::Weight;
 use trace_counts::Trace;
 use trace_counts::Weights;
@@ -28,18 +31,18 @@ pub fn counts_of(trace: Trace) -> [i32; COUNTS]
     let queens = trace.queens;
     let bishop_pair = trace.bishop_pair;
     [
-        pawns[0],
-        pawns[1],
-        knights[0],
-        knights[1],
-        bishops[0],
-        bishops[1],
-        rooks[0],
-        rooks[1],
-        queens[0],
-        queens[1],
-        bishop_pair[0],
-        bishop_pair[1],
+        pawns[WHITES],
+        pawns[BLACKS],
+        knights[WHITES],
+        knights[BLACKS],
+        bishops[WHITES],
+        bishops[BLACKS],
+        rooks[WHITES],
+        rooks[BLACKS],
+        queens[WHITES],
+        queens[BLACKS],
+        bishop_pair[WHITES],
+        bishop_pair[BLACKS],
     ]
 }
 
@@ -74,17 +77,17 @@ pub fn weights_of(named: &[f64; NAMED]) -> Weights
     ensures { λ r. ⌜ Weighs (now (named .entry)) r ⌝ }
 {
     Weights {
-        pawn: named[0],
-        knight: named[1],
-        bishop: named[2],
-        rook: named[3],
-        queen: named[4],
-        bishop_pair: named[5],
-        knight_mobility: named[6],
-        bishop_mobility: named[7],
-        rook_mobility: named[8],
-        queen_mobility: named[9],
-        tempo: named[10],
+        pawn: named[weight::P],
+        knight: named[weight::N],
+        bishop: named[weight::B],
+        rook: named[weight::R],
+        queen: named[weight::Q],
+        bishop_pair: named[weight::BP],
+        knight_mobility: named[weight::MOB_N],
+        bishop_mobility: named[weight::MOB_B],
+        rook_mobility: named[weight::MOB_R],
+        queen_mobility: named[weight::MOB_Q],
+        tempo: named[weight::T],
     }
 }
 

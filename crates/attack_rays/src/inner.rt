@@ -9,7 +9,7 @@ ghost use Rattle.attack_rays.specs.Mirror.{ahead, mirrored, partner, pai
 ghost use Rattle.attack_rays.specs.Promises.{Rays, Bishops, Rooks, Queens};
 use chess::square::LAST;
 
-// On the first four the squares rise; each of the others is opposite to the one four before it.
+// On the first four the squares rise. Each of the others is opposite to the one four before it: SOUTH, west, southeast, SOUTHWEST.
 pub const NORTH: u8 = 0;
 
 pub const EAST: u8 = 1;
@@ -19,10 +19,6 @@ pub const NORTHWEST: u8 = 2;
 pub const NORTHEAST: u8 = 3;
 
 pub const SOUTH: u8 = 4;
-
-pub const WEST: u8 = 5;
-
-pub const SOUTHEAST: u8 = 6;
 
 pub const SOUTHWEST: u8 = 7;
 

@@ -1,18 +1,26 @@
 -- Each public function is determined by its promise: two results that it allows are equal. Assumes nothing.
 use mathlib.Core.Path.{_≡_, refl, ap}
+use mathlib.Core.List.{List}
 use Prim.Native.Nat.{ℕ}
 use Rattle.chess.specs.declared.color.Color.{Color}
 use Rattle.chess.specs.declared.kind.Kind.{Kind}
 use Rattle.chess.specs.declared.square.Square.{Square}
 use Rattle.refusal.proofs.Paper.{one, retract, readBack, number-back}
-use Rattle.places.specs.Phases.{NewPhase, PhaseIndex, paper as phase-paper}
-use Rattle.places.specs.Places.{EntryPlace, WeightPlace, EntryOf, EntryIndex, SquareWeightOf, SquareWeightIndex, WeightOf, WeightIndex}
+use Rattle.places.specs.Phases.{AllPhases, NewPhase, PhaseIndex, paper as phase-paper}
+use Rattle.places.specs.Places.{AllNamed, EntryPlace, WeightPlace, EntryOf, EntryIndex, SquareWeightOf, SquareWeightIndex, WeightOf, WeightIndex}
 use Rattle.places.specs.declared.phase.Phase.{Phase}
 use Rattle.places.specs.declared.phase.Made.{Made as PhaseMade}
 use Rattle.places.specs.declared.phase.Made.the-variants as phase-made
 use Rattle.places.specs.declared.entry.Entry.{Entry}
 use Rattle.places.specs.declared.weight.SquareWeight.{SquareWeight}
 use Rattle.places.specs.declared.weight.Weight.{Weight}
+
+-- ---- the lists of the named constants
+pub phase-all : (r s : List Phase) → AllPhases r → AllPhases s → r ≡ s
+phase-all r s p q = one p q
+
+pub weight-all-named : (r s : List Weight) → AllNamed r → AllNamed s → r ≡ s
+weight-all-named r s p q = one p q
 
 -- ---- what holds one number is told by it
 abbrev phase : ℕ → Phase

@@ -1,8 +1,10 @@
 -- Where a trace has its entries, and the fit its weights (document 01, "The trace"). Definitions only.
 use mathlib.Core.Path.{_≡_}
 use mathlib.Core.Bool.{cond}
+use mathlib.Core.List.{List}
 use Prim.Native.Nat.{ℕ, _+_, _*_, _/_, _%_}
 use lib.Dec.{ltb}
+use Rattle.laws.specs.Tables.{tabulate}
 use Rattle.chess.specs.Codes.{colourOf, Same}
 use Rattle.chess.specs.declared.color.Color.{Color}
 use Rattle.chess.specs.declared.kind.Kind.{Kind}
@@ -47,6 +49,10 @@ SquareWeightOf k p s r = r .0 ≡ weightPlace (k .0) (p .0) (s .0)
 
 abbrev pub SquareWeightIndex : SquareWeight → ℕ → Type 0
 SquareWeightIndex w r = Same (w .0) r
+
+-- "a constant of the kind it belongs to": the eleven weights that have a name, entry k is place k
+abbrev pub AllNamed : List Weight → Type 0
+AllNamed r = r ≡ tabulate 11 (λ k. record { 0 = k })
 
 -- the square weights come after the eleven that are named; a place past 767, which none has, counts as the first
 abbrev pub WeightOf : SquareWeight → Weight → Type 0

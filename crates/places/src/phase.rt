@@ -1,5 +1,5 @@
 // A phase of the game: the opening is 0, the ending 1.
-ghost use Rattle.places.specs.Phases.{NewPhase, PhaseIndex};
+ghost use Rattle.places.specs.Phases.{AllPhases, NewPhase, PhaseIndex};
 use refusal::Refusal;
 
 // The phases as plain numbers.
@@ -22,6 +22,15 @@ impl Phase {
     pub const OPENING: Phase = Phase(OPENING);
 
     pub const ENDING: Phase = Phase(ENDING);
+
+    // Both, the opening first: entry k is phase k.
+    pub const ALL: [Phase; Phase::COUNT] = [Phase::OPENING, Phase::ENDING];
+
+    pub fn all() -> [Phase; Phase::COUNT]
+        ensures { λ r. ⌜ AllPhases r ⌝ }
+    {
+        Phase::ALL
+    }
 
     pub fn new(index: u8) -> Made
         ensures { λ r. ⌜ NewPhase index r ⌝ }

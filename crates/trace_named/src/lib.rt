@@ -5,7 +5,9 @@ ghost use lib.ListN.{getD};
 ghost use Prim.Native.Nat.{_+_, _*_, _<_};
 ghost use Rattle.trace_named.specs.Named as D;
 ghost use Rattle.trace_named.specs.Named.{counted, moved, Sums};
+use chess::color::BLACKS;
 use chess::color::Color;
+use chess::color::WHITES;
 use chess::piece::Piece;
 use trace_counts::Trace;
 use trace_counts::Weights;
@@ -23,7 +25,7 @@ const QUEEN: usize = chess::kind::QUEEN as usize;
 fn count_added(score: f64, counts: [i32; 2], weight: f64) -> f64
     ensures { λ r. ⌜ r ≡ counted score counts weight ⌝ }
 {
-    score + (counts[0] as i64 - counts[1] as i64) as f64 * weight
+    score + (counts[WHITES] as i64 - counts[BLACKS] as i64) as f64 * weight
 }
 
 // White's attacked squares of a kind, weighed, are added, and then Black's subtracted.

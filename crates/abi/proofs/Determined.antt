@@ -8,7 +8,7 @@ use lib.IntN.{ℤ}
 use Rattle.refusal.specs.Answer.{Answer}
 use Rattle.refusal.proofs.Paper.{one}
 use Rattle.abi.specs.Promises.{Door, Doors, EvalsEnding, EvalsMaterial, Evals, PieceAttacks, AttacksTo, IsAttacked, IsCheck, Lvp, See, ComputesTrace, EvalsTrace, Ships, ReadsLine, GivesPart, FeedsLedger, FinishesLedger}
-use Rattle.abi.specs.declared.lines.Part.{Part}
+use Rattle.line.specs.declared.Part.{Part}
 
 -- ---- a door that lends one number, and one that lends two
 door : {A B : Type 0} {a : Answer A} {part : A → B} {old : B} {r s : ℕ} {new new′ : B} → Door a part old r new → Door a part old s new′ → (r ≡ s) × (new ≡ new′)

@@ -1,4 +1,3 @@
 pub mod Doors
-pub mod Part
 pub mod Ledger
 pub mod Promises

@@ -13,7 +13,8 @@ use Rattle.attack_to.specs.Answers.{attacksToOf, isAttackedOf, isCheckOf}
 use Rattle.exchange_least.specs.Answers.{lvpOf}
 use Rattle.exchange.specs.Answers.{seeOf}
 use Rattle.line_parse.specs.Line.{Line}
-use Rattle.line.specs.Field.{fieldOf}
+use Rattle.line.specs.Field.{fieldOf, startOf}
+use Rattle.line.specs.declared.Part.{Part}
 use Rattle.line_parse.specs.Promises.{boardAfter}
 use Rattle.line.specs.Promises.{readOf, bitboardsAfter}
 use Rattle.score.specs.Score.{evalOf}
@@ -25,9 +26,7 @@ use Rattle.trace.specs.Promises.{tracedOf, entriesAfter}
 use Rattle.trace_shipped.specs.Promises.{writtenOf, squaresAfter}
 use Rattle.trace_shipped.specs.Weights.{shipped}
 use Rattle.abi.specs.Doors.{codeOf, after, verdictCode, outcomeVerdict, outcomeScore, anyone, squareOr}
-use Rattle.abi.specs.Part.{startOf}
 use Rattle.abi_records.specs.Records.{countsOf, traceOf, namedOf, weightsOf}
-use Rattle.abi.specs.declared.lines.Part.{Part}
 use Rattle.text_out.specs.Text.{writtenOf as bufferOf}
 use Rattle.ledger_feed.specs.Machine.{Machine}
 use Rattle.ledger_feed.specs.Promises as Rows

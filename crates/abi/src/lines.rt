@@ -1,15 +1,8 @@
 // One line of a collection.
 ghost use Rattle.abi.specs.Promises.{ReadsLine, GivesPart};
 use crate::GIVEN;
+use line::Part;
 use line_parse::Read;
-use text_in::inner::find;
-
-// A part of the caller's line.
-#[repr(C)]
-pub struct Part {
-    pub start: usize,
-    pub length: usize,
-}
 
 // The position, the side to move and the half points: SHAPE, LONG, BYTE, FIELD, PLACE, SIDE, RESULT.
 #[no_mangle]
@@ -38,11 +31,5 @@ pub extern "C" fn chess_read_line(
 pub extern "C" fn chess_position_field(line: &[u8]) -> Part
     ensures { λ r. ⌜ GivesPart (now (line .entry)) r ⌝ }
 {
-    let field = line::position_field(line);
-    let length = field.len();
-    if length == 0 {
-        return Part { start: 0, length };
-    }
-    let start = find(line, field[0]);
-    Part { start, length }
+    line::field_part(line)
 }

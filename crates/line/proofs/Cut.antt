@@ -1,20 +1,19 @@
--- The start and the length that `chess_position_field` gives cut the position field out of the line. Assumes nothing.
-use mathlib.Core.Path.{_≡_, refl, sym, ap, _∙_}
+-- The start and the length that `field_part` gives cut the position field out of the line. Assumes nothing.
+use mathlib.Core.Path.{_≡_, refl, sym, ap, ap₂, _∙_}
 use mathlib.Core.Bool.{Bool, true, false, cond, true≢false}
 use mathlib.Core.List.{List, [], _∷_, _++_, append-assoc, append-nil}
-use Prim.Native.Nat.{ℕ, zero, suc, _-_, _<_}
+use Prim.Native.Nat.{ℕ, zero, suc, _+_, _-_, _<_, _≤_}
 use native.Mathlib.Omega.{arith}
 use lib.Dec.{eqb}
-use lib.ListN.{length, take, drop, getD, length-take, take-append-drop}
+use lib.ListN.{length, take, drop, getD, length-take, length-drop, take-append-drop}
 use lib.Seq.{take-append-seam}
-use borrow.Author.Tests.{eq-eqb, eqb-true}
+use borrow.Author.Tests.{eq-eqb, eqb-true, eqb-false}
 use Rattle.refusal.specs.Answer.{Answer, given, refused}
 use Rattle.text_in.specs.Text.{semicolon, isBlank, before, without, withoutLast, trim}
 use Rattle.text_in.proofs.Parts.{before-take}
 use Rattle.text_in.proofs.Texts.{last-more, last-stop, last-none}
 use Rattle.line_parse.specs.Line.{Line, positionField, lineOf}
-use Rattle.line.specs.Field.{unlessRefused, fieldOf}
-use Rattle.abi.specs.Part.{startIn, startOf}
+use Rattle.line.specs.Field.{unlessRefused, fieldOf, startIn, startOf}
 
 module _ (test : ℕ → Bool) where
   -- the first byte that is left does not pass the test
@@ -81,3 +80,31 @@ module _ (line : List ℕ) where
       go : (a : Answer Line) → take (length (unlessRefused a (positionField line))) (drop (startIn (unlessRefused a (positionField line)) line) line) ≡ unlessRefused a (positionField line)
       go (given l) = trimmed (positionField line) refl
       go (refused n v) = refl
+
+-- a part that a start and a length cut out of a text lies within it, unless it is empty
+within : (n s : ℕ) (l f : List ℕ) → take n (drop s l) ≡ f → length f ≡ n → (n ≡ 0 → s ≡ 0) → s + n ≤ length l
+within n s l f e h z = go (eqb n 0) refl
+  where
+    long : n ≤ length l - s
+    long = omega (arith, length-take n (drop s l), length-drop s l, ap length e)
+
+    go : (t : Bool) → eqb n 0 ≡ t → s + n ≤ length l
+    go true q = omega (arith, z (eqb-true n 0 q), eqb-true n 0 q)
+    go false q = omega (arith, long, eqb-false n 0 q)
+
+empty-start : (f line : List ℕ) → length f ≡ 0 → startIn f line ≡ 0
+empty-start [] line e = refl
+empty-start (b ∷ s) line e = omega arith
+
+pub part-within : (line : List ℕ) → startOf line + length (fieldOf line) ≤ length line
+unfolding startOf
+part-within line = within (length (fieldOf line)) (startOf line) line (fieldOf line) (part-is line) refl (empty-start (fieldOf line) line)
+
+-- the same of any start and length that are these
+pub cut-by : (line : List ℕ) (s n : ℕ) → s ≡ startOf line → n ≡ length (fieldOf line) → take (s + n - s) (drop s line) ≡ fieldOf line
+cut-by line s n e h =
+    let k : s + n - s ≡ n = omega arith in
+    ap (λ (m : ℕ). take m (drop s line)) k ∙ ap₂ (λ (k m : ℕ). take m (drop k line)) e h ∙ part-is line
+
+pub by-within : (line : List ℕ) (s n : ℕ) → s ≡ startOf line → n ≡ length (fieldOf line) → s + n ≤ length line
+by-within line s n e h = omega (arith, part-within line, e, h)

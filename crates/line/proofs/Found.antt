@@ -5,8 +5,7 @@ use Prim.Native.Nat.{ℕ}
 use native.Mathlib.Omega.{arith}
 use lib.ListN.{length, getD}
 use Rattle.text_in.specs.Text.{before}
-use Rattle.line.specs.Field.{fieldOf}
-use Rattle.abi.specs.Part.{startIn, startOf}
+use Rattle.line.specs.Field.{fieldOf, startIn, startOf}
 
 empty-in : (f line : List ℕ) → length f ≡ 0 → 0 ≡ startIn f line
 empty-in [] line e = refl

@@ -82,7 +82,7 @@ fn block(games: &[Game], positions: &[Position], first: bool, best: &mut [Best; 
         ),
         counts == counted,
         games.iter().zip(&traces).all(|(game, trace)| {
-            ours::compute_trace(game, &mut Counts::default(), &mut entries) == 0 && trace.pst.as_flattened().as_flattened() == entries
+            ours::compute_trace(game, &mut Counts::default(), &mut entries).number == 0 && trace.pst.as_flattened().as_flattened() == entries
         }),
     ];
     alike.iter().filter(|alike| !**alike).count()

@@ -1,8 +1,8 @@
 // Two ledgers of the same input: the library's, fed in pieces, and a straightforward one in Rust over the original's eval.
+use crate::chess_scores::doors::{chess_ledger_feed, chess_ledger_finish};
 use crate::common::{Score, INF};
 use crate::eval::{self, Eval};
 use crate::game::Game;
-use crate::ours;
 use crate::piece::{Piece, PieceChar, EMPTY};
 use crate::placement;
 use std::io::{BufRead, Read, Write};
@@ -17,14 +17,14 @@ pub fn ours(mut input: impl Read, mut output: impl Write) -> std::io::Result<()>
         if count == 0 {
             break;
         }
-        let number = unsafe {
-            ours::chess_ledger_feed(state.as_mut_ptr(), line.as_mut_ptr(), line.len(), piece.as_ptr(), count, out.as_mut_ptr(), out.len(), &mut wrote)
+        let code = unsafe {
+            chess_ledger_feed(state.as_mut_ptr(), line.as_mut_ptr(), line.len(), piece.as_ptr(), count, out.as_mut_ptr(), out.len(), &mut wrote)
         };
-        assert_eq!(number, 0);
+        assert_eq!(code.number, 0);
         output.write_all(&out[..wrote])?;
     }
-    let number = unsafe { ours::chess_ledger_finish(state.as_ptr(), line.as_ptr(), line.len(), out.as_mut_ptr(), out.len(), &mut wrote) };
-    assert_eq!(number, 0);
+    let code = unsafe { chess_ledger_finish(state.as_ptr(), line.as_ptr(), line.len(), out.as_mut_ptr(), out.len(), &mut wrote) };
+    assert_eq!(code.number, 0);
     output.write_all(&out[..wrote])
 }
 

@@ -30,6 +30,8 @@ mod play;
 #[path = "../oracle/harness/random.rs"]
 mod random;
 
+#[path = "../include/chess_scores.rs"]
+mod chess_scores;
 #[path = "positions.rs"]
 mod drawn;
 mod functions;

@@ -1,16 +1,6 @@
-// The library's doors, as include/chess_scores.h declares them.
-extern "C" {
-    pub fn chess_piece_attacks(piece: u8, square: u8, occupied: u64, squares: *mut u64) -> u8;
-    pub fn chess_eval(bitboards: *const u64, b: usize, board: *const u8, s: usize, side: u8, verdict: *mut u8, score: *mut i16) -> u8;
-    pub fn chess_eval_material(bitboards: *const u64, b: usize, board: *const u8, s: usize, side: u8, color: u8, material: *mut i16) -> u8;
-    pub fn chess_is_check(bitboards: *const u64, b: usize, board: *const u8, s: usize, side: u8, color: u8, check: *mut bool) -> u8;
-    pub fn chess_see(bitboards: *const u64, b: usize, board: *const u8, s: usize, side: u8, from: u8, to: u8, worth: *mut i16) -> u8;
-    pub fn chess_compute_trace(bitboards: *const u64, b: usize, board: *const u8, s: usize, side: u8, counts: *mut i32, mobility: *mut i32, sign: *mut i32, pieces: *mut i32, entries: *mut i32, e: usize) -> u8;
-    pub fn chess_trace_eval(counts: *const i32, mobility: *const i32, sign: i32, pieces: i32, entries: *const i32, e: usize, weights: *const f64, squares: *const f64, w: usize, value: *mut f64) -> u8;
-    pub fn chess_ledger_feed(state: *mut u64, line: *mut u8, l: usize, piece: *const u8, p: usize, out: *mut u8, o: usize, wrote: *mut usize) -> u8;
-    pub fn chess_ledger_finish(state: *const u64, line: *const u8, l: usize, out: *mut u8, o: usize, wrote: *mut usize) -> u8;
-}
-
+// The library's doors, by the declarations of its Rust face, with no more around them than the original's functions have.
+use crate::chess_scores::doors::*;
+use crate::chess_scores::Code;
 use crate::color::WHITE;
 use crate::game::Game;
 use crate::tune;
@@ -37,16 +27,16 @@ impl Counts {
 /// What stands for a refusal among the answers: no answer of the original.
 const REFUSED: i64 = 1 << 40;
 
-fn answer(number: u8, given: i64) -> i64 {
-    if number == 0 { given } else { REFUSED + number as i64 }
+fn answer(code: Code, given: i64) -> i64 {
+    if code.number == 0 { given } else { REFUSED + code.number as i64 }
 }
 
 // Of each call: the pointers are those of the position's arrays, of slices and of locals, with their lengths.
 pub fn eval(game: &Game) -> i64 {
     let (mut verdict, mut score) = (0, 0);
-    let number = unsafe { chess_eval(game.bitboards.as_ptr(), 14, game.board.as_ptr(), 64, game.side(), &mut verdict, &mut score) };
+    let code = unsafe { chess_eval(game.bitboards.as_ptr(), 14, game.board.as_ptr(), 64, game.side(), &mut verdict, &mut score) };
     let inf = crate::common::INF as i64;
-    answer(number, [score as i64, -inf, inf, 0][verdict as usize])
+    answer(code, [score as i64, -inf, inf, 0][verdict as usize])
 }
 
 pub fn eval_material(game: &Game) -> i64 {
@@ -66,12 +56,12 @@ pub fn see(game: &Game, from: u8, to: u8) -> i64 {
 
 pub fn piece_attacks(piece: u8, square: u8, occupied: u64) -> u64 {
     let mut squares = 0;
-    let number = unsafe { chess_piece_attacks(piece, square, occupied, &mut squares) };
-    assert!(number == 0, "refused {number}");
+    let code = unsafe { chess_piece_attacks(piece, square, occupied, &mut squares) };
+    assert!(code.number == 0, "refused {}", code.number);
     squares
 }
 
-pub fn compute_trace(game: &Game, counts: &mut Counts, entries: &mut [i32]) -> u8 {
+pub fn compute_trace(game: &Game, counts: &mut Counts, entries: &mut [i32]) -> Code {
     unsafe {
         chess_compute_trace(game.bitboards.as_ptr(), 14, game.board.as_ptr(), 64, game.side(), counts.counts.as_mut_ptr(), counts.mobility.as_mut_ptr(),
             &mut counts.sign, &mut counts.pieces, entries.as_mut_ptr(), entries.len())

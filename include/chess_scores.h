@@ -1,7 +1,7 @@
 /* Chess scores, exchanges and traces, every one proved: the doors for C.
  *
- * Every function but chess_position_field returns 0 where it has an answer, and the answer's numbers then stand where the last pointers
- * point; or it returns the number of a refusal, the first in the order that is named with the function, and has written nothing.
+ * Every function but chess_position_field returns the number 0 where it has an answer, and the answer's numbers then stand where the last
+ * pointers point; or it returns a refusal, the first in the order that is named with the function, and has written nothing.
  *
  * A slice is a pointer and a length. A length that is not the one asked for is refused (SHAPE); what C must see to itself is that the
  * pointers are valid for their lengths, that no pointer is null, not even that of an empty slice, that those written through overlap
@@ -25,21 +25,48 @@ enum { CHESS_BITBOARDS = 14, CHESS_SQUARES = 64, CHESS_COUNTS = 12, CHESS_NAMED_
 
 enum { CHESS_WHITE = 0, CHESS_BLACK = 1 };
 
-/* Refusals. */
+/* What a call returns: 0, or the number of the refusal, and the square that it names; CHESS_NO_SQUARE where it names none. */
+typedef struct {
+    uint8_t number;
+    uint8_t square;
+} chess_code;
+
+enum { CHESS_NO_SQUARE = 255 };
+
+/* Refusals. Those from 14 on are in the table already, and no call gives them yet. */
 enum {
-    CHESS_SHAPE = 1,   /* a length, a side, a colour or a piece code that none has */
-    CHESS_BOARD = 2,   /* bitboards and board bytes that do not agree */
-    CHESS_SCORE = 3,   /* a number leaves 16 bits on the way to the score */
-    CHESS_SQUARE = 4,  /* a square above 63 */
-    CHESS_MOVE = 5,    /* no capture by the side to move */
-    CHESS_CROWD = 6,   /* over 32 pieces, or two or more kings of one colour */
-    CHESS_TRACE = 7,   /* a number of a trace out of its range */
-    CHESS_LONG = 8,    /* a line over 256 bytes */
-    CHESS_BYTE = 9,    /* a byte other than 32 to 126, tab and CR */
-    CHESS_FIELD = 10,  /* no `;` */
-    CHESS_PLACE = 11,  /* bad ranks */
-    CHESS_SIDE = 12,   /* bad side */
-    CHESS_RESULT = 13  /* unknown result */
+    CHESS_SHAPE = 1,      /* a length, a side, a colour or a piece code that none has */
+    CHESS_BOARD = 2,      /* bitboards and board bytes that do not agree */
+    CHESS_SCORE = 3,      /* a number leaves 16 bits on the way to the score */
+    CHESS_SQUARE = 4,     /* a square above 63 */
+    CHESS_MOVE = 5,       /* no capture by the side to move */
+    CHESS_CROWD = 6,      /* over 32 pieces, or two or more kings of one colour */
+    CHESS_TRACE = 7,      /* a number of a trace out of its range */
+    CHESS_LONG = 8,       /* a line over 256 bytes */
+    CHESS_BYTE = 9,       /* a byte other than 32 to 126, tab and CR */
+    CHESS_FIELD = 10,     /* no `;` */
+    CHESS_PLACE = 11,     /* bad ranks */
+    CHESS_SIDE = 12,      /* bad side */
+    CHESS_RESULT = 13,    /* unknown result */
+    CHESS_OVERLAP = 14,   /* two piece boards overlap; with the lowest such square */
+    CHESS_UNION = 15,     /* a colour's union is wrong; with the lowest such square */
+    CHESS_BYTEBOARD = 16, /* a board byte disagrees; with the lowest such square */
+    CHESS_ROOM = 17,      /* too little room for what is written */
+    CHESS_LENGTH = 18,    /* records that are no multiple of 34 bytes, or a place that is not 34 */
+    CHESS_CODE = 19,      /* a half byte that is no piece's; with the lowest such square */
+    CHESS_ORDER = 20,     /* six kinds that are not each kind once */
+    CHESS_ENTRY = 21,     /* a list of a trace out of its ranges, out of order or too long */
+    CHESS_MANY = 22,      /* more lines or records than are taken */
+    CHESS_ITERATION = 23, /* an iteration number of zero or above 1,000,000 */
+    CHESS_KINGS = 24,     /* not one king a colour */
+    CHESS_PAWNS = 25,     /* over eight pawns of a colour */
+    CHESS_PIECES = 26,    /* over sixteen pieces of a colour */
+    CHESS_RANK = 27,      /* a pawn on the first or last rank; with the lowest such square */
+    CHESS_CHECK = 28,     /* the side that just moved is in check; with the king's square */
+    CHESS_RIGHTS = 29,    /* bad castling rights */
+    CHESS_PASSANT = 30,   /* bad en passant square */
+    CHESS_COUNTER = 31,   /* bad counter */
+    CHESS_ABSENT = 32     /* no such record */
 };
 
 /* Verdicts. */
@@ -55,8 +82,8 @@ typedef struct {
 
 /* Reads one line of a collection, `POSITION;RESULT`, without its LF and the CR before that: 14 bitboards, 64 bytes, the side to move
  * and the half points for White (1-0 is 2, 1/2-1/2 is 1, 0-1 is 0). SHAPE, LONG, BYTE, FIELD, PLACE, SIDE, RESULT. */
-uint8_t chess_read_line(const uint8_t *line, size_t line_length, uint64_t *bitboards, size_t bitboards_length, uint8_t *board,
-                        size_t board_length, uint8_t *side, uint8_t *half_points);
+chess_code chess_read_line(const uint8_t *line, size_t line_length, uint64_t *bitboards, size_t bitboards_length, uint8_t *board,
+                           size_t board_length, uint8_t *side, uint8_t *half_points);
 
 /* Where the trimmed position field stands in the line; of length 0, and at 0, exactly if the line is refused. */
 chess_part chess_position_field(const uint8_t *line, size_t line_length);
@@ -65,45 +92,45 @@ chess_part chess_position_field(const uint8_t *line, size_t line_length);
 
 /* The verdict: fewer than two kings in all is lost or won; fewer than four pieces and only kings, knights and bishops is drawn; else
  * none. SHAPE, BOARD. */
-uint8_t chess_eval_ending(const uint64_t *bitboards, size_t bitboards_length, const uint8_t *board, size_t board_length, uint8_t side,
-                          uint8_t *verdict);
+chess_code chess_eval_ending(const uint64_t *bitboards, size_t bitboards_length, const uint8_t *board, size_t board_length, uint8_t side,
+                             uint8_t *verdict);
 
 /* What a colour's pieces are worth, without the pair of bishops. SHAPE (the colour too), BOARD, SCORE. */
-uint8_t chess_eval_material(const uint64_t *bitboards, size_t bitboards_length, const uint8_t *board, size_t board_length, uint8_t side,
-                            uint8_t color, int16_t *material);
+chess_code chess_eval_material(const uint64_t *bitboards, size_t bitboards_length, const uint8_t *board, size_t board_length, uint8_t side,
+                               uint8_t color, int16_t *material);
 
 /* A verdict, and 0 for the score; or CHESS_NONE, and the score. SHAPE, BOARD, SCORE. */
-uint8_t chess_eval(const uint64_t *bitboards, size_t bitboards_length, const uint8_t *board, size_t board_length, uint8_t side,
-                   uint8_t *verdict, int16_t *score);
+chess_code chess_eval(const uint64_t *bitboards, size_t bitboards_length, const uint8_t *board, size_t board_length, uint8_t side,
+                      uint8_t *verdict, int16_t *score);
 
 /* ---- attacks */
 
 /* The squares that a piece of a code attacks from a square, each ray up to and including the first square of `occupied`.
  * SHAPE (the code), SQUARE. */
-uint8_t chess_piece_attacks(uint8_t piece, uint8_t square, uint64_t occupied, uint64_t *squares);
+chess_code chess_piece_attacks(uint8_t piece, uint8_t square, uint64_t occupied, uint64_t *squares);
 
 /* The squares of the pieces of both colours that attack a square, whether they stand in `occupied` or not. SHAPE, BOARD, SQUARE. */
-uint8_t chess_attacks_to(const uint64_t *bitboards, size_t bitboards_length, const uint8_t *board, size_t board_length, uint8_t side,
-                         uint8_t square, uint64_t occupied, uint64_t *squares);
+chess_code chess_attacks_to(const uint64_t *bitboards, size_t bitboards_length, const uint8_t *board, size_t board_length, uint8_t side,
+                            uint8_t square, uint64_t occupied, uint64_t *squares);
 
 /* Whether a piece of the colour other than the one named attacks a square. SHAPE (the colour too), BOARD, SQUARE. */
-uint8_t chess_is_attacked(const uint64_t *bitboards, size_t bitboards_length, const uint8_t *board, size_t board_length, uint8_t side,
-                          uint8_t square, uint8_t color, bool *attacked);
+chess_code chess_is_attacked(const uint64_t *bitboards, size_t bitboards_length, const uint8_t *board, size_t board_length, uint8_t side,
+                             uint8_t square, uint8_t color, bool *attacked);
 
 /* Whether the colour's king is attacked, the lowest if it has several; true if it has none. SHAPE (the colour too), BOARD. */
-uint8_t chess_is_check(const uint64_t *bitboards, size_t bitboards_length, const uint8_t *board, size_t board_length, uint8_t side,
-                       uint8_t color, bool *check);
+chess_code chess_is_check(const uint64_t *bitboards, size_t bitboards_length, const uint8_t *board, size_t board_length, uint8_t side,
+                          uint8_t color, bool *check);
 
 /* ---- exchanges */
 
 /* Whether the colour has a piece in `attacks` and `occupied`, and the lowest square of the first kind that has one, in the order
  * pawn, knight, bishop, rook, queen, king; 0 beside false. SHAPE (the colour too), BOARD. */
-uint8_t chess_lvp(const uint64_t *bitboards, size_t bitboards_length, const uint8_t *board, size_t board_length, uint8_t side,
-                  uint8_t color, uint64_t attacks, uint64_t occupied, bool *found, uint8_t *square);
+chess_code chess_lvp(const uint64_t *bitboards, size_t bitboards_length, const uint8_t *board, size_t board_length, uint8_t side,
+                     uint8_t color, uint64_t attacks, uint64_t occupied, bool *found, uint8_t *square);
 
 /* What the exchange that the capture `from`-`to` starts is worth to the side to move. SHAPE, BOARD, SQUARE, MOVE, CROWD. */
-uint8_t chess_see(const uint64_t *bitboards, size_t bitboards_length, const uint8_t *board, size_t board_length, uint8_t side,
-                  uint8_t from, uint8_t to, int16_t *worth);
+chess_code chess_see(const uint64_t *bitboards, size_t bitboards_length, const uint8_t *board, size_t board_length, uint8_t side,
+                     uint8_t from, uint8_t to, int16_t *worth);
 
 /* ---- traces
  *
@@ -112,39 +139,40 @@ uint8_t chess_see(const uint64_t *bitboards, size_t bitboards_length, const uint
  * White to move and -1 for Black. entries[128 * kind + 2 * square + colour] is 1 where a piece stands, Black's squares xor 56. */
 
 /* The trace of a position. SHAPE (also not 768 entries), BOARD. */
-uint8_t chess_compute_trace(const uint64_t *bitboards, size_t bitboards_length, const uint8_t *board, size_t board_length, uint8_t side,
-                            int32_t counts[CHESS_COUNTS], int32_t mobility[CHESS_COUNTS], int32_t *sign, int32_t *piece_count,
-                            int32_t *entries, size_t entries_length);
+chess_code chess_compute_trace(const uint64_t *bitboards, size_t bitboards_length, const uint8_t *board, size_t board_length, uint8_t side,
+                               int32_t counts[CHESS_COUNTS], int32_t mobility[CHESS_COUNTS], int32_t *sign, int32_t *piece_count,
+                               int32_t *entries, size_t entries_length);
 
 /* The double of a trace under weights, in the order of the original's operations, one rounding for each: the eleven named weights are
  * pawn, knight, bishop, rook, queen, pair of bishops, mobility of knight, bishop, rook and queen, and tempo; a square weight is at
  * 128 * kind + 64 * phase + square. SHAPE, TRACE. */
-uint8_t chess_trace_eval(const int32_t counts[CHESS_COUNTS], const int32_t mobility[CHESS_COUNTS], int32_t sign, int32_t piece_count,
-                         const int32_t *entries, size_t entries_length, const double weights[CHESS_NAMED_WEIGHTS], const double *squares,
-                         size_t squares_length, double *value);
+chess_code chess_trace_eval(const int32_t counts[CHESS_COUNTS], const int32_t mobility[CHESS_COUNTS], int32_t sign, int32_t piece_count,
+                            const int32_t *entries, size_t entries_length, const double weights[CHESS_NAMED_WEIGHTS], const double *squares,
+                            size_t squares_length, double *value);
 
 /* The weights that the score has. SHAPE (not room for just 768 square weights). */
-uint8_t chess_shipped_weights(double weights[CHESS_NAMED_WEIGHTS], double *squares, size_t squares_length);
+chess_code chess_shipped_weights(double weights[CHESS_NAMED_WEIGHTS], double *squares, size_t squares_length);
 
 /* ---- the ledger of a collection, fed in pieces of any size
  *
  * A row for each line, in order: `NUMBER HALFPOINTS SCORE`, the score also `won`, `lost`, `drawn` or `over`; or `NUMBER refused R`. The last
  * row is `lines N loaded N refused N`. The caller keeps the state, four numbers that are all 0 before the first piece, and the line
- * buffer of 256 bytes. Beside SHAPE (a line buffer that has not 256 bytes) there are two numbers that are no refusal of a position: */
+ * buffer of 256 bytes. Beside SHAPE (a line buffer that has not 256 bytes) there are two numbers of the ledger's own, no refusals of the table: */
 enum { CHESS_LEDGER_STATE = 4, CHESS_LEDGER_LINE = 256, CHESS_LEDGER_ROW = 32, CHESS_LEDGER_LAST = 116 };
 
 enum {
-    CHESS_FULL = 254, /* too little room for the rows: CHESS_LEDGER_ROW bytes for each LF in the piece; at the end what is written, CHESS_LEDGER_LAST at most */
-    CHESS_MANY = 255  /* more lines than 64 bits count */
+    CHESS_LEDGER_FULL = 254, /* too little room for the rows: CHESS_LEDGER_ROW bytes for each LF in the piece; at the end what is written, CHESS_LEDGER_LAST at most */
+    CHESS_LEDGER_MANY = 255  /* more lines than 64 bits count */
 };
 
-/* The rows of the lines that end in a piece, and how many bytes they are. SHAPE, MANY, FULL. */
-uint8_t chess_ledger_feed(uint64_t state[CHESS_LEDGER_STATE], uint8_t *line, size_t line_length, const uint8_t *piece, size_t piece_length,
-                          uint8_t *out, size_t out_length, size_t *wrote);
+/* The rows of the lines that end in a piece, and how many bytes they are. SHAPE, LEDGER_MANY, LEDGER_FULL. */
+chess_code chess_ledger_feed(uint64_t state[CHESS_LEDGER_STATE], uint8_t *line, size_t line_length, const uint8_t *piece, size_t piece_length,
+                             uint8_t *out, size_t out_length, size_t *wrote);
 
-/* The end of the input: the row of a last line that has no LF, and the last row. SHAPE, MANY, FULL (not room for what is written). */
-uint8_t chess_ledger_finish(const uint64_t state[CHESS_LEDGER_STATE], const uint8_t *line, size_t line_length, uint8_t *out,
-                            size_t out_length, size_t *wrote);
+/* The end of the input: the row of a last line that has no LF, and the last row. SHAPE, LEDGER_MANY, LEDGER_FULL (not room for what is
+ * written). */
+chess_code chess_ledger_finish(const uint64_t state[CHESS_LEDGER_STATE], const uint8_t *line, size_t line_length, uint8_t *out,
+                               size_t out_length, size_t *wrote);
 
 #ifdef __cplusplus
 }

@@ -15,26 +15,27 @@
 
 use std::fmt;
 
-mod doors {
-    use super::Part;
+/// The library's doors, as `chess_scores.h` declares them.
+pub(crate) mod doors {
+    use super::{Code, Part};
 
     extern "C" {
-        pub fn chess_read_line(line: *const u8, n: usize, bitboards: *mut u64, b: usize, board: *mut u8, s: usize, side: *mut u8, half_points: *mut u8) -> u8;
+        pub fn chess_read_line(line: *const u8, n: usize, bitboards: *mut u64, b: usize, board: *mut u8, s: usize, side: *mut u8, half_points: *mut u8) -> Code;
         pub fn chess_position_field(line: *const u8, n: usize) -> Part;
-        pub fn chess_eval_ending(bitboards: *const u64, b: usize, board: *const u8, s: usize, side: u8, verdict: *mut u8) -> u8;
-        pub fn chess_eval_material(bitboards: *const u64, b: usize, board: *const u8, s: usize, side: u8, color: u8, material: *mut i16) -> u8;
-        pub fn chess_eval(bitboards: *const u64, b: usize, board: *const u8, s: usize, side: u8, verdict: *mut u8, score: *mut i16) -> u8;
-        pub fn chess_piece_attacks(piece: u8, square: u8, occupied: u64, squares: *mut u64) -> u8;
-        pub fn chess_attacks_to(bitboards: *const u64, b: usize, board: *const u8, s: usize, side: u8, square: u8, occupied: u64, squares: *mut u64) -> u8;
-        pub fn chess_is_attacked(bitboards: *const u64, b: usize, board: *const u8, s: usize, side: u8, square: u8, color: u8, attacked: *mut bool) -> u8;
-        pub fn chess_is_check(bitboards: *const u64, b: usize, board: *const u8, s: usize, side: u8, color: u8, check: *mut bool) -> u8;
-        pub fn chess_lvp(bitboards: *const u64, b: usize, board: *const u8, s: usize, side: u8, color: u8, attacks: u64, occupied: u64, found: *mut bool, square: *mut u8) -> u8;
-        pub fn chess_see(bitboards: *const u64, b: usize, board: *const u8, s: usize, side: u8, from: u8, to: u8, worth: *mut i16) -> u8;
-        pub fn chess_compute_trace(bitboards: *const u64, b: usize, board: *const u8, s: usize, side: u8, counts: *mut i32, mobility: *mut i32, sign: *mut i32, pieces: *mut i32, entries: *mut i32, e: usize) -> u8;
-        pub fn chess_trace_eval(counts: *const i32, mobility: *const i32, sign: i32, pieces: i32, entries: *const i32, e: usize, weights: *const f64, squares: *const f64, w: usize, value: *mut f64) -> u8;
-        pub fn chess_shipped_weights(weights: *mut f64, squares: *mut f64, w: usize) -> u8;
-        pub fn chess_ledger_feed(state: *mut u64, line: *mut u8, l: usize, piece: *const u8, p: usize, out: *mut u8, o: usize, wrote: *mut usize) -> u8;
-        pub fn chess_ledger_finish(state: *const u64, line: *const u8, l: usize, out: *mut u8, o: usize, wrote: *mut usize) -> u8;
+        pub fn chess_eval_ending(bitboards: *const u64, b: usize, board: *const u8, s: usize, side: u8, verdict: *mut u8) -> Code;
+        pub fn chess_eval_material(bitboards: *const u64, b: usize, board: *const u8, s: usize, side: u8, color: u8, material: *mut i16) -> Code;
+        pub fn chess_eval(bitboards: *const u64, b: usize, board: *const u8, s: usize, side: u8, verdict: *mut u8, score: *mut i16) -> Code;
+        pub fn chess_piece_attacks(piece: u8, square: u8, occupied: u64, squares: *mut u64) -> Code;
+        pub fn chess_attacks_to(bitboards: *const u64, b: usize, board: *const u8, s: usize, side: u8, square: u8, occupied: u64, squares: *mut u64) -> Code;
+        pub fn chess_is_attacked(bitboards: *const u64, b: usize, board: *const u8, s: usize, side: u8, square: u8, color: u8, attacked: *mut bool) -> Code;
+        pub fn chess_is_check(bitboards: *const u64, b: usize, board: *const u8, s: usize, side: u8, color: u8, check: *mut bool) -> Code;
+        pub fn chess_lvp(bitboards: *const u64, b: usize, board: *const u8, s: usize, side: u8, color: u8, attacks: u64, occupied: u64, found: *mut bool, square: *mut u8) -> Code;
+        pub fn chess_see(bitboards: *const u64, b: usize, board: *const u8, s: usize, side: u8, from: u8, to: u8, worth: *mut i16) -> Code;
+        pub fn chess_compute_trace(bitboards: *const u64, b: usize, board: *const u8, s: usize, side: u8, counts: *mut i32, mobility: *mut i32, sign: *mut i32, pieces: *mut i32, entries: *mut i32, e: usize) -> Code;
+        pub fn chess_trace_eval(counts: *const i32, mobility: *const i32, sign: i32, pieces: i32, entries: *const i32, e: usize, weights: *const f64, squares: *const f64, w: usize, value: *mut f64) -> Code;
+        pub fn chess_shipped_weights(weights: *mut f64, squares: *mut f64, w: usize) -> Code;
+        pub fn chess_ledger_feed(state: *mut u64, line: *mut u8, l: usize, piece: *const u8, p: usize, out: *mut u8, o: usize, wrote: *mut usize) -> Code;
+        pub fn chess_ledger_finish(state: *const u64, line: *const u8, l: usize, out: *mut u8, o: usize, wrote: *mut usize) -> Code;
     }
 }
 
@@ -51,63 +52,175 @@ pub const BISHOP: u8 = 8;
 pub const ROOK: u8 = 10;
 pub const QUEEN: u8 = 12;
 
-/// Why a call is refused, with the number of document 01's table.
+/// Why a call is refused: the table of documents 01 and 02, with the square that some name. Those from `Overlap` on are given by no call yet.
 #[derive(Clone, Copy, Debug, PartialEq, Eq)]
-#[repr(u8)]
 pub enum Refusal {
     /// A length, a side, a colour or a piece code that none has.
-    Shape = 1,
+    Shape,
     /// Bitboards and board bytes that do not agree.
-    Board = 2,
+    Board,
     /// A number leaves 16 bits on the way to the score.
-    Score = 3,
+    Score,
     /// A square above 63.
-    Square = 4,
+    Square,
     /// No capture by the side to move.
-    Move = 5,
+    Move,
     /// Over 32 pieces, or two or more kings of one colour.
-    Crowd = 6,
+    Crowd,
     /// A number of a trace out of its range.
-    Trace = 7,
+    Trace,
     /// A line over 256 bytes.
-    Long = 8,
+    Long,
     /// A byte other than 32 to 126, tab and CR.
-    Byte = 9,
+    Byte,
     /// No `;`.
-    Field = 10,
+    Field,
     /// Bad ranks.
-    Place = 11,
+    Place,
     /// Bad side.
-    Side = 12,
+    Side,
     /// Unknown result.
-    Result = 13,
+    Result,
+    /// Two piece boards overlap; with the lowest such square.
+    Overlap(u8),
+    /// A colour's union is wrong; with the lowest such square.
+    Union(u8),
+    /// A board byte disagrees; with the lowest such square.
+    Byteboard(u8),
+    /// Too little room for what is written.
+    Room,
+    /// Records that are no multiple of 34 bytes, or a place that is not 34.
+    Length,
+    /// A half byte that is no piece's; with the lowest such square.
+    Code(u8),
+    /// Six kinds that are not each kind once.
+    Order,
+    /// A list of a trace out of its ranges, out of order or too long.
+    Entry,
+    /// More lines or records than are taken.
+    Many,
+    /// An iteration number of zero or above 1,000,000.
+    Iteration,
+    /// Not one king a colour.
+    Kings,
+    /// Over eight pawns of a colour.
+    Pawns,
+    /// Over sixteen pieces of a colour.
+    Pieces,
+    /// A pawn on the first or last rank; with the lowest such square.
+    Rank(u8),
+    /// The side that just moved is in check; with the king's square.
+    Check(u8),
+    /// Bad castling rights.
+    Rights,
+    /// Bad en passant square.
+    Passant,
+    /// Bad counter.
+    Counter,
+    /// No such record.
+    Absent,
+    /// A number that this face of the library does not know, and the square beside it.
+    Unknown(u8, Option<u8>),
 }
 
 impl Refusal {
-    const ALL: [Refusal; 13] = {
-        use Refusal::*;
-        [Shape, Board, Score, Square, Move, Crowd, Trace, Long, Byte, Field, Place, Side, Result]
-    };
-
-    /// Document 01's number.
+    /// The documents' number.
     pub fn number(self) -> u8 {
-        self as u8
+        use Refusal::*;
+        match self {
+            Shape => 1,
+            Board => 2,
+            Score => 3,
+            Square => 4,
+            Move => 5,
+            Crowd => 6,
+            Trace => 7,
+            Long => 8,
+            Byte => 9,
+            Field => 10,
+            Place => 11,
+            Side => 12,
+            Result => 13,
+            Overlap(_) => 14,
+            Union(_) => 15,
+            Byteboard(_) => 16,
+            Room => 17,
+            Length => 18,
+            Code(_) => 19,
+            Order => 20,
+            Entry => 21,
+            Many => 22,
+            Iteration => 23,
+            Kings => 24,
+            Pawns => 25,
+            Pieces => 26,
+            Rank(_) => 27,
+            Check(_) => 28,
+            Rights => 29,
+            Passant => 30,
+            Counter => 31,
+            Absent => 32,
+            Unknown(number, _) => number,
+        }
+    }
+
+    /// The square that it names.
+    pub fn square(self) -> Option<u8> {
+        use Refusal::*;
+        match self {
+            Overlap(square) | Union(square) | Byteboard(square) | Code(square) | Rank(square) | Check(square) => Some(square),
+            Unknown(_, square) => square,
+            _ => None,
+        }
+    }
+
+    /// The refusal that a door gave. What the table has not, a number or a square, is kept as it came.
+    fn of(code: Code) -> Refusal {
+        use Refusal::*;
+        const PLAIN: [Refusal; 26] = [
+            Shape, Board, Score, Square, Move, Crowd, Trace, Long, Byte,
+            Field, Place, Side, Result, Room, Length, Order, Entry, Many,
+            Iteration, Kings, Pawns, Pieces, Rights, Passant, Counter, Absent,
+        ];
+        let square = (code.square != NO_SQUARE).then_some(code.square);
+        let known = match square {
+            None => PLAIN.into_iter().find(|refusal| refusal.number() == code.number),
+            Some(at) => [Overlap(at), Union(at), Byteboard(at), Code(at), Rank(at), Check(at)].into_iter().find(|refusal| refusal.number() == code.number),
+        };
+        known.unwrap_or(Unknown(code.number, square))
     }
 }
 
 impl fmt::Display for Refusal {
     fn fmt(&self, out: &mut fmt::Formatter) -> fmt::Result {
-        write!(out, "refused {}", self.number())
+        write!(out, "refused {}", self.number())?;
+        match self.square() {
+            Some(square) if square < 64 => write!(out, " at {}{}", (b'a' + square % 8) as char, (b'1' + square / 8) as char),
+            Some(square) => write!(out, " at {square}"),
+            None => Ok(()),
+        }
     }
 }
 
 impl std::error::Error for Refusal {}
 
+/// What a door returns: 0, or a refusal's number and the square that it names.
+#[doc(hidden)]
+#[repr(C)]
+#[derive(Clone, Copy)]
+pub struct Code {
+    pub number: u8,
+    pub square: u8,
+}
+
+/// What stands for the square where none is named.
+const NO_SQUARE: u8 = 255;
+
 /// What a door gave, once it has written it.
-fn given<T>(number: u8, answer: T) -> Result<T, Refusal> {
-    match number {
+fn given<T>(code: Code, answer: T) -> Result<T, Refusal> {
+    match code.number {
         0 => Ok(answer),
-        _ => Err(Refusal::ALL[number as usize - 1]),
+        _ => Err(Refusal::of(code)),
     }
 }
 
@@ -154,10 +267,10 @@ pub fn read_line(line: &[u8]) -> Result<(Position, u8), Refusal> {
     let mut read = Position { bitboards: [0; 14], board: [0; 64], side: 0 };
     let mut half = 0;
     // SAFETY: the pointers are those of slices and locals, with their lengths, and none overlap.
-    let number = unsafe {
+    let code = unsafe {
         doors::chess_read_line(line.as_ptr(), line.len(), read.bitboards.as_mut_ptr(), 14, read.board.as_mut_ptr(), 64, &mut read.side, &mut half)
     };
-    given(number, (read, half))
+    given(code, (read, half))
 }
 
 /// The trimmed position field, as that part of the line; empty exactly if the line is refused.
@@ -177,8 +290,8 @@ pub fn position_field(line: &[u8]) -> &[u8] {
 pub fn piece_attacks(piece: u8, square: u8, occupied: u64) -> Result<u64, Refusal> {
     let mut squares = 0;
     // SAFETY: the pointer is that of a local.
-    let number = unsafe { doors::chess_piece_attacks(piece, square, occupied, &mut squares) };
-    given(number, squares)
+    let code = unsafe { doors::chess_piece_attacks(piece, square, occupied, &mut squares) };
+    given(code, squares)
 }
 
 // SAFETY, of every call below: the pointers are those of the position's arrays, of slices and of locals, with their lengths, and none of
@@ -187,68 +300,68 @@ impl Position {
     /// The verdict, or none. SHAPE, BOARD.
     pub fn eval_ending(&self) -> Result<Option<Verdict>, Refusal> {
         let mut ending = 0;
-        let number = unsafe { doors::chess_eval_ending(self.bitboards.as_ptr(), 14, self.board.as_ptr(), 64, self.side, &mut ending) };
-        given(number, verdict(ending))
+        let code = unsafe { doors::chess_eval_ending(self.bitboards.as_ptr(), 14, self.board.as_ptr(), 64, self.side, &mut ending) };
+        given(code, verdict(ending))
     }
 
     /// What a colour's pieces are worth, without the pair of bishops. SHAPE, BOARD, SCORE.
     pub fn eval_material(&self, color: u8) -> Result<i16, Refusal> {
         let mut material = 0;
-        let number = unsafe { doors::chess_eval_material(self.bitboards.as_ptr(), 14, self.board.as_ptr(), 64, self.side, color, &mut material) };
-        given(number, material)
+        let code = unsafe { doors::chess_eval_material(self.bitboards.as_ptr(), 14, self.board.as_ptr(), 64, self.side, color, &mut material) };
+        given(code, material)
     }
 
     /// The verdict, or the score for the side to move. SHAPE, BOARD, SCORE.
     pub fn eval(&self) -> Result<Outcome, Refusal> {
         let (mut ending, mut score) = (0, 0);
-        let number = unsafe { doors::chess_eval(self.bitboards.as_ptr(), 14, self.board.as_ptr(), 64, self.side, &mut ending, &mut score) };
-        given(number, verdict(ending).map_or(Outcome::Score(score), Outcome::Verdict))
+        let code = unsafe { doors::chess_eval(self.bitboards.as_ptr(), 14, self.board.as_ptr(), 64, self.side, &mut ending, &mut score) };
+        given(code, verdict(ending).map_or(Outcome::Score(score), Outcome::Verdict))
     }
 
     /// The squares of the pieces of both colours that attack a square, whether they stand in `occupied` or not. SHAPE, BOARD, SQUARE.
     pub fn attacks_to(&self, square: u8, occupied: u64) -> Result<u64, Refusal> {
         let mut squares = 0;
-        let number = unsafe { doors::chess_attacks_to(self.bitboards.as_ptr(), 14, self.board.as_ptr(), 64, self.side, square, occupied, &mut squares) };
-        given(number, squares)
+        let code = unsafe { doors::chess_attacks_to(self.bitboards.as_ptr(), 14, self.board.as_ptr(), 64, self.side, square, occupied, &mut squares) };
+        given(code, squares)
     }
 
     /// Whether a piece of the colour other than the one named attacks a square. SHAPE, BOARD, SQUARE.
     pub fn is_attacked(&self, square: u8, color: u8) -> Result<bool, Refusal> {
         let mut attacked = false;
-        let number = unsafe { doors::chess_is_attacked(self.bitboards.as_ptr(), 14, self.board.as_ptr(), 64, self.side, square, color, &mut attacked) };
-        given(number, attacked)
+        let code = unsafe { doors::chess_is_attacked(self.bitboards.as_ptr(), 14, self.board.as_ptr(), 64, self.side, square, color, &mut attacked) };
+        given(code, attacked)
     }
 
     /// Whether the colour's king is attacked, the lowest if it has several; true if it has none. SHAPE, BOARD.
     pub fn is_check(&self, color: u8) -> Result<bool, Refusal> {
         let mut check = false;
-        let number = unsafe { doors::chess_is_check(self.bitboards.as_ptr(), 14, self.board.as_ptr(), 64, self.side, color, &mut check) };
-        given(number, check)
+        let code = unsafe { doors::chess_is_check(self.bitboards.as_ptr(), 14, self.board.as_ptr(), 64, self.side, color, &mut check) };
+        given(code, check)
     }
 
     /// The lowest square of the first kind that has a piece of the colour in `attacks` and `occupied`, in the order pawn, knight, bishop,
     /// rook, queen, king; or none. SHAPE, BOARD.
     pub fn lvp(&self, color: u8, attacks: u64, occupied: u64) -> Result<Option<u8>, Refusal> {
         let (mut found, mut square) = (false, 0);
-        let number = unsafe { doors::chess_lvp(self.bitboards.as_ptr(), 14, self.board.as_ptr(), 64, self.side, color, attacks, occupied, &mut found, &mut square) };
-        given(number, found.then_some(square))
+        let code = unsafe { doors::chess_lvp(self.bitboards.as_ptr(), 14, self.board.as_ptr(), 64, self.side, color, attacks, occupied, &mut found, &mut square) };
+        given(code, found.then_some(square))
     }
 
     /// What the exchange that a capture starts is worth to the side to move. SHAPE, BOARD, SQUARE, MOVE, CROWD.
     pub fn see(&self, from: u8, to: u8) -> Result<i16, Refusal> {
         let mut worth = 0;
-        let number = unsafe { doors::chess_see(self.bitboards.as_ptr(), 14, self.board.as_ptr(), 64, self.side, from, to, &mut worth) };
-        given(number, worth)
+        let code = unsafe { doors::chess_see(self.bitboards.as_ptr(), 14, self.board.as_ptr(), 64, self.side, from, to, &mut worth) };
+        given(code, worth)
     }
 
     /// The position's trace. SHAPE, BOARD.
     pub fn trace(&self) -> Result<Trace, Refusal> {
         let mut trace = Trace { counts: [0; 12], mobility: [0; 12], sign: 0, piece_count: 0, entries: [0; 768] };
-        let number = unsafe {
+        let code = unsafe {
             doors::chess_compute_trace(self.bitboards.as_ptr(), 14, self.board.as_ptr(), 64, self.side, trace.counts.as_mut_ptr(),
                 trace.mobility.as_mut_ptr(), &mut trace.sign, &mut trace.piece_count, trace.entries.as_mut_ptr(), 768)
         };
-        given(number, trace)
+        given(code, trace)
     }
 }
 
@@ -280,8 +393,8 @@ impl Weights {
     pub fn shipped() -> Weights {
         let mut weights = Weights { named: [0.0; 11], squares: [0.0; 768] };
         // SAFETY: the pointers are those of a local's arrays, with their lengths.
-        let number = unsafe { doors::chess_shipped_weights(weights.named.as_mut_ptr(), weights.squares.as_mut_ptr(), 768) };
-        debug_assert_eq!(number, 0, "768 square weights are never refused");
+        let code = unsafe { doors::chess_shipped_weights(weights.named.as_mut_ptr(), weights.squares.as_mut_ptr(), 768) };
+        debug_assert_eq!(code.number, 0, "768 square weights are never refused");
         weights
     }
 }
@@ -299,11 +412,11 @@ impl Trace {
     pub fn eval(&self, weights: &Weights) -> Result<f64, Refusal> {
         let mut value = 0.0;
         // SAFETY: the pointers are those of the arrays of two references and of a local, with their lengths.
-        let number = unsafe {
+        let code = unsafe {
             doors::chess_trace_eval(self.counts.as_ptr(), self.mobility.as_ptr(), self.sign, self.piece_count, self.entries.as_ptr(), 768,
                 weights.named.as_ptr(), weights.squares.as_ptr(), 768, &mut value)
         };
-        given(number, value)
+        given(code, value)
     }
 }
 
@@ -338,7 +451,7 @@ impl Ledger {
         Ledger { state: [0; 4], line: [0; 256] }
     }
 
-    /// The rows of the lines that end in a piece, added to `rows`. More lines than 64 bits count end in a panic.
+    /// The rows of the lines that end in a piece, added to `rows`. More lines than 64 bits count end in a panic, which leaves `rows` as it was.
     pub fn feed(&mut self, piece: &[u8], rows: &mut Vec<u8>) {
         let ends = piece.iter().filter(|&&byte| byte == b'\n').count();
         written(rows, ends * Ledger::ROW, |out, wrote| {
@@ -358,14 +471,27 @@ impl Ledger {
     }
 }
 
+/// A vector with room at its end, which goes as this does: only what was said to be written stays, after a panic too.
+struct Room<'a> {
+    rows: &'a mut Vec<u8>,
+    kept: usize,
+}
+
+impl Drop for Room<'_> {
+    fn drop(&mut self) {
+        self.rows.truncate(self.kept);
+    }
+}
+
 /// What a door of the ledger writes, added where there is room for so many bytes.
-fn written(rows: &mut Vec<u8>, room: usize, door: impl FnOnce(&mut [u8], &mut usize) -> u8) {
+fn written(rows: &mut Vec<u8>, room: usize, door: impl FnOnce(&mut [u8], &mut usize) -> Code) {
     let start = rows.len();
     rows.resize(start + room, 0);
+    let mut room = Room { rows, kept: start };
     let mut wrote = 0;
-    let number = door(&mut rows[start..], &mut wrote);
-    assert_eq!(number, 0, "more lines than 64 bits count");
-    rows.truncate(start + wrote);
+    let code = door(&mut room.rows[start..], &mut wrote);
+    assert_eq!(code.number, 0, "more lines than 64 bits count");
+    room.kept += wrote;
 }
 
 #[cfg(test)]

@@ -95,3 +95,48 @@ fn traces() {
     odd.sign = 0;
     assert_eq!(odd.eval(&weights), Err(Refusal::Trace));
 }
+
+#[test]
+fn a_code_is_read_as_its_refusal() {
+    let of = |number, square| Refusal::of(Code { number, square });
+    for number in 1..=32 {
+        let named = [14, 15, 16, 19, 27, 28].contains(&number);
+        let (square, other) = if named { (12, NO_SQUARE) } else { (NO_SQUARE, 12) };
+        let refusal = of(number, square);
+        assert!(!matches!(refusal, Refusal::Unknown(..)), "{number}");
+        assert_eq!((refusal.number(), refusal.square()), (number, named.then_some(12)));
+        assert_eq!(of(number, other), Refusal::Unknown(number, (!named).then_some(12)));
+    }
+    assert_eq!(of(14, 0), Refusal::Overlap(0));
+    assert_eq!(of(14, 0).to_string(), "refused 14 at a1");
+    assert_eq!(of(13, NO_SQUARE).to_string(), "refused 13");
+    for number in [33, 254, 255] {
+        assert_eq!(given(Code { number, square: 0 }, ()), Err(Refusal::Unknown(number, Some(0))));
+        assert_eq!(of(number, NO_SQUARE).number(), number);
+    }
+}
+
+#[test]
+fn a_panic_leaves_the_rows() {
+    use std::panic::{catch_unwind, AssertUnwindSafe};
+    let mut rows = b"1 2 117\n".to_vec();
+    let fails = |rows: &mut Vec<u8>, door: &dyn Fn(&mut [u8], &mut usize) -> Code| {
+        catch_unwind(AssertUnwindSafe(|| written(rows, 32, door))).is_err()
+    };
+    assert!(fails(&mut rows, &|out, wrote| {
+        (out[0], *wrote) = (b'2', 1);
+        panic!("a closure")
+    }));
+    assert!(fails(&mut rows, &|out, wrote| {
+        (out[0], *wrote) = (b'2', 1);
+        Code { number: 254, square: NO_SQUARE }
+    }));
+    let mut full = Ledger { state: [0, 0, u64::MAX, 0], line: [0; 256] };
+    assert!(catch_unwind(AssertUnwindSafe(|| full.feed(b"\n", &mut rows))).is_err());
+    assert_eq!(rows, b"1 2 117\n");
+    assert!(!fails(&mut rows, &|out, wrote| {
+        (out[0], *wrote) = (b'x', 1);
+        Code { number: 0, square: NO_SQUARE }
+    }));
+    assert_eq!(rows, b"1 2 117\nx");
+}

@@ -11,9 +11,12 @@ typedef struct {
 
 static const char *const VERDICTS[] = {"none", "lost", "won", "drawn"};
 
-static int refused(const char *what, uint8_t number)
+static int refused(const char *what, chess_code code)
 {
-    printf("%s refused %d\n", what, number);
+    printf("%s refused %d", what, code.number);
+    if (code.square != CHESS_NO_SQUARE)
+        printf(" at %c%c", 'a' + code.square % 8, '1' + code.square / 8);
+    printf("\n");
     return 1;
 }
 
@@ -21,9 +24,9 @@ static int print_score(const position *p)
 {
     uint8_t verdict;
     int16_t score;
-    uint8_t number = chess_eval(p->bitboards, CHESS_BITBOARDS, p->board, CHESS_SQUARES, p->side, &verdict, &score);
-    if (number != 0)
-        return refused("score", number);
+    chess_code code = chess_eval(p->bitboards, CHESS_BITBOARDS, p->board, CHESS_SQUARES, p->side, &verdict, &score);
+    if (code.number != 0)
+        return refused("score", code);
     if (verdict != CHESS_NONE)
         printf("%s\n", VERDICTS[verdict]);
     else
@@ -37,14 +40,14 @@ static int print_double(const position *p)
     static int32_t entries[CHESS_ENTRIES];
     static double weights[CHESS_NAMED_WEIGHTS], squares[CHESS_SQUARE_WEIGHTS];
     double value;
-    uint8_t number = chess_compute_trace(p->bitboards, CHESS_BITBOARDS, p->board, CHESS_SQUARES, p->side, counts, mobility, &sign, &piece_count,
-                                         entries, CHESS_ENTRIES);
-    if (number == 0)
-        number = chess_shipped_weights(weights, squares, CHESS_SQUARE_WEIGHTS);
-    if (number == 0)
-        number = chess_trace_eval(counts, mobility, sign, piece_count, entries, CHESS_ENTRIES, weights, squares, CHESS_SQUARE_WEIGHTS, &value);
-    if (number != 0)
-        return refused("trace", number);
+    chess_code code = chess_compute_trace(p->bitboards, CHESS_BITBOARDS, p->board, CHESS_SQUARES, p->side, counts, mobility, &sign, &piece_count,
+                                          entries, CHESS_ENTRIES);
+    if (code.number == 0)
+        code = chess_shipped_weights(weights, squares, CHESS_SQUARE_WEIGHTS);
+    if (code.number == 0)
+        code = chess_trace_eval(counts, mobility, sign, piece_count, entries, CHESS_ENTRIES, weights, squares, CHESS_SQUARE_WEIGHTS, &value);
+    if (code.number != 0)
+        return refused("trace", code);
     printf("trace %.3f\n", value);
     return 0;
 }
@@ -59,9 +62,9 @@ int main(int count, char **words)
     size_t length = strlen(words[1]);
     position p;
     uint8_t half_points;
-    uint8_t number = chess_read_line(line, length, p.bitboards, CHESS_BITBOARDS, p.board, CHESS_SQUARES, &p.side, &half_points);
-    if (number != 0)
-        return refused("line", number);
+    chess_code code = chess_read_line(line, length, p.bitboards, CHESS_BITBOARDS, p.board, CHESS_SQUARES, &p.side, &half_points);
+    if (code.number != 0)
+        return refused("line", code);
     chess_part field = chess_position_field(line, length);
     printf("%.*s, %d half points\n", (int)field.length, words[1] + field.start, half_points);
     return print_score(&p) | print_double(&p);

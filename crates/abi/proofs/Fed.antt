@@ -11,6 +11,7 @@ use Rattle.ledger_feed.specs.declared.Fed.{Fed}
 use Rattle.ledger_finish.specs.Promises.{Finishes, finishPaper, finishOf, lengthOf}
 use Rattle.ledger_finish.specs.declared.Finished.{Finished}
 use Rattle.abi.specs.Ledger.{stateOf, numbersOf, codeOf, after}
+use Rattle.abi.specs.declared.Code.{Code}
 use Rattle.abi.specs.Promises.{FeedsLedger, FinishesLedger}
 
 -- ---- what comes back by value is a part of what the machine has
@@ -33,7 +34,7 @@ wrote-after old (turned n l) = refl
 wrote-after old many = refl
 wrote-after old full = refl
 
-pub fed-through : (state line chunk out : List ℕ) (wrote : ℕ) {s : State} {r x : Fed} {n : ℕ} {state′ line′ out′ : List ℕ} {wrote′ : ℕ}
+pub fed-through : (state line chunk out : List ℕ) (wrote : ℕ) {s : State} {r x : Fed} {n : Code} {state′ line′ out′ : List ℕ} {wrote′ : ℕ}
     → s ≡ stateOf state → Feeds s line chunk out r line′ out′ → r ≡ x → n ≡ codeOf (fed x)
     → state′ ≡ after (λ (p : State × ℕ). numbersOf (p .0)) state (fed x) → wrote′ ≡ after (λ (p : State × ℕ). p .1) wrote (fed x)
     → FeedsLedger state line chunk out wrote n state′ line′ out′ wrote′
@@ -62,7 +63,7 @@ length-after old (turned n l) = refl
 length-after old many = refl
 length-after old full = refl
 
-pub finished-through : (state line out : List ℕ) (wrote : ℕ) {s : State} {r x : Finished} {n : ℕ} {out′ : List ℕ} {wrote′ : ℕ}
+pub finished-through : (state line out : List ℕ) (wrote : ℕ) {s : State} {r x : Finished} {n : Code} {out′ : List ℕ} {wrote′ : ℕ}
     → s ≡ stateOf state → Finishes s line out r out′ → r ≡ x → n ≡ codeOf (finishPaper x) → wrote′ ≡ after (λ (n : ℕ). n) wrote (finishPaper x)
     → FinishesLedger state line out wrote n out′ wrote′
 finished-through state line out wrote {r = r} {out′ = out′} q f m h k =

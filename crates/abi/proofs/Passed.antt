@@ -18,23 +18,24 @@ use Rattle.abi.specs.Doors.{codeOf, after}
 use Rattle.abi_records.specs.Records.{countsOf, namedOf}
 use Rattle.abi.specs.Promises.{Door, Doors, ComputesTrace, Ships, ReadsLine}
 use Rattle.line_parse.specs.declared.Read.{Read}
+use Rattle.abi.specs.declared.Code.{Code}
 
 -- what the case that was met reads, the call's answer is
 pub met : {A X : Type 0} (paper : X → Answer A) {a : Answer A} {r x : X} → paper r ≡ a → r ≡ x → paper x ≡ a
 met paper p m = sym (ap paper m) ∙ p
 
-pub passed : {A B : Type 0} {part : A → B} {old : B} {x a : Answer A} {n : ℕ} {new : B}
+pub passed : {A B : Type 0} {part : A → B} {old : B} {x a : Answer A} {n : Code} {new : B}
     → x ≡ a → n ≡ codeOf x → new ≡ after part old x → Door a part old n new
 passed {part = part} {old = old} e h g = record { code = h ∙ ap codeOf e; lent = g ∙ ap (after part old) e }
 
-pub passed-both : {A B C : Type 0} {first : A → B} {second : A → C} {old : B} {old2 : C} {x a : Answer A} {n : ℕ} {new : B} {new2 : C}
+pub passed-both : {A B C : Type 0} {first : A → B} {second : A → C} {old : B} {old2 : C} {x a : Answer A} {n : Code} {new : B} {new2 : C}
     → x ≡ a → n ≡ codeOf x → new ≡ after first old x → new2 ≡ after second old2 x → Doors a first second old old2 n new new2
 passed-both {first = first} {second = second} {old = old} {old2 = old2} e h g k =
     record { code = h ∙ ap codeOf e; lent = g ∙ ap (after first old) e; lent2 = k ∙ ap (after second old2) e }
 
 -- ---- the doors that lend more
 pub traced : (bbs bytes : List ℕ) (side : ℕ) {counts mobility : List ℤ} {sign pieces : ℤ} {entries : List ℤ}
-    {x : Answer Trace} {n : ℕ} {counts′ mobility′ : List ℤ} {sign′ pieces′ : ℤ} {entries′ : List ℤ}
+    {x : Answer Trace} {n : Code} {counts′ mobility′ : List ℤ} {sign′ pieces′ : ℤ} {entries′ : List ℤ}
     → x ≡ tracedOf bbs bytes (ofSide side) entries → n ≡ codeOf x → counts′ ≡ after countsOf counts x → mobility′ ≡ after (λ (t : Trace). t .mobility) mobility x
     → sign′ ≡ after (λ (t : Trace). t .side) sign x → pieces′ ≡ after (λ (t : Trace). t .«piece_count») pieces x
     → entries′ ≡ entriesAfter (tracedOf bbs bytes (ofSide side) entries) bbs entries
@@ -48,7 +49,7 @@ traced bbs bytes side {counts} {mobility} {sign} {pieces} e h g m s p k = record
   marked = k;
 }
 
-pub ships : {weights squares : List Float} {x : Answer Unit} {n : ℕ} {weights′ squares′ : List Float}
+pub ships : {weights squares : List Float} {x : Answer Unit} {n : Code} {weights′ squares′ : List Float}
     → x ≡ writtenOf squares → n ≡ codeOf x → weights′ ≡ after (λ (u : Unit). namedOf shipped) weights x → squares′ ≡ squaresAfter squares
     → Ships weights squares n weights′ squares′
 ships {weights = weights} e h g k =
@@ -67,7 +68,7 @@ half-after : (old : ℕ) (a : Answer Line) → after (λ (p : State × ℕ). p .
 half-after old (given l) = refl
 half-after old (refused n v) = refl
 
-pub line-read : {line bitboards board : List ℕ} {side half : ℕ} {r x : Read} {bitboards′ board′ : List ℕ} {n side′ half′ : ℕ}
+pub line-read : {line bitboards board : List ℕ} {side half : ℕ} {r x : Read} {bitboards′ board′ : List ℕ} {n : Code} {side′ half′ : ℕ}
     → L.ReadsLine line bitboards board r bitboards′ board′ → r ≡ x → n ≡ codeOf (S.paper x)
     → side′ ≡ after (λ (p : State × ℕ). p .0 .side) side (S.paper x) → half′ ≡ after (λ (p : State × ℕ). p .1) half (S.paper x)
     → ReadsLine line bitboards board side half n bitboards′ board′ side′ half′

@@ -4,13 +4,28 @@ use mathlib.Core.List.{List, [], _∷_}
 use Prim.Native.Nat.{ℕ}
 use lib.IntN.{ℤ, pos}
 use Rattle.refusal.specs.Answer.{Answer, given, refused}
+use Rattle.refusal.specs.Refusals.{numberOf, besideOf}
+use Rattle.refusal.specs.declared.Refusal.{Refusal}
 use Rattle.score_verdict.specs.Verdict as P
 use Rattle.score.specs.Score.{Outcome, verdict, score}
+use Rattle.abi.specs.declared.Code.{Code}
 
--- the refusal's number, and 0 of an answer: no refusal has it
-abbrev pub codeOf : {A : Type 0} → Answer A → ℕ
-codeOf (given a) = 0
-codeOf (refused n l) = n
+-- the first of the values beside a refusal, or what stands there where none is
+abbrev pub firstOr : ℕ → List ℕ → ℕ
+firstOr none [] = none
+firstOr none (s ∷ l) = s
+
+-- a number, and the square beside it: 255, which is none, where no square is named
+abbrev pub code : ℕ → List ℕ → Code
+code n l = record { number = n; square = firstOr 255 l }
+
+-- the refusal's number and square, and 0 of an answer: no refusal has it
+abbrev pub codeOf : {A : Type 0} → Answer A → Code
+codeOf (given a) = code 0 []
+codeOf (refused n l) = code n l
+
+abbrev pub refusalCode : Refusal → Code
+refusalCode r = code (numberOf r) (besideOf r)
 
 -- what stands in lent memory afterwards: "Every refusal returns its number only .. and changes no lent byte"
 abbrev pub after : {A B : Type 0} → (A → B) → B → Answer A → B
@@ -39,5 +54,4 @@ anyone [] = false
 anyone (s ∷ l) = true
 
 abbrev pub squareOr : List ℕ → ℕ
-squareOr [] = 0
-squareOr (s ∷ l) = s
+squareOr l = firstOr 0 l

@@ -6,6 +6,8 @@ use lib.Dec.{eqb}
 use lib.ListN.{getD}
 use Rattle.ledger_feed.specs.Promises.{Came, turned, many, full, came}
 use Rattle.ledger_feed.specs.declared.State.{State}
+use Rattle.abi.specs.Doors.{code}
+use Rattle.abi.specs.declared.Code.{Code}
 
 abbrev pub flagOf : Bool → ℕ
 flagOf b = cond b 1 0
@@ -16,12 +18,12 @@ stateOf l = record { held = getD l 0 0; cr = not (eqb (getD l 1 0) 0); loaded = 
 abbrev pub numbersOf : State → List ℕ
 numbersOf s = s .held ∷ flagOf (s .cr) ∷ s .loaded ∷ s .refused ∷ []
 
--- the refusal's number, 254 for too little room, 255 for too many lines, and 0 of an answer
-abbrev pub codeOf : {A : Type 0} → Came A → ℕ
-codeOf (came a) = 0
-codeOf (turned n l) = n
-codeOf full = 254
-codeOf many = 255
+-- the refusal's number and square, 254 for too little room, 255 for too many lines, and 0 of an answer
+abbrev pub codeOf : {A : Type 0} → Came A → Code
+codeOf (came a) = code 0 []
+codeOf (turned n l) = code n l
+codeOf full = code 254 []
+codeOf many = code 255 []
 
 -- what stands in lent memory afterwards: as it was, unless there is an answer
 abbrev pub after : {A B : Type 0} → (A → B) → B → Came A → B

@@ -27,6 +27,7 @@ use Rattle.trace_shipped.specs.Promises.{writtenOf, squaresAfter}
 use Rattle.trace_shipped.specs.Weights.{shipped}
 use Rattle.abi.specs.Doors.{codeOf, after, verdictCode, outcomeVerdict, outcomeScore, anyone, squareOr}
 use Rattle.abi_records.specs.Records.{countsOf, traceOf, namedOf, weightsOf}
+use Rattle.abi.specs.declared.Code.{Code}
 use Rattle.text_out.specs.Text.{writtenOf as bufferOf}
 use Rattle.ledger_feed.specs.Machine.{Machine}
 use Rattle.ledger_feed.specs.Promises as Rows
@@ -36,12 +37,12 @@ use Rattle.abi.specs.Ledger as Ledger
 use Rattle.abi.specs.Ledger.{stateOf, numbersOf}
 
 -- a door that lends one number: what comes back, and what it is afterwards
-pub record Door {A B : Type 0} (a : Answer A) (part : A → B) (old : B) (r : ℕ) (new : B) : Type 0 where
+pub record Door {A B : Type 0} (a : Answer A) (part : A → B) (old : B) (r : Code) (new : B) : Type 0 where
   pub code : r ≡ codeOf a
   pub lent : new ≡ after part old a
 
 -- and one that lends two
-pub record Doors {A B C : Type 0} (a : Answer A) (first : A → B) (second : A → C) (old : B) (old2 : C) (r : ℕ) (new : B) (new2 : C) : Type 0 where
+pub record Doors {A B C : Type 0} (a : Answer A) (first : A → B) (second : A → C) (old : B) (old2 : C) (r : Code) (new : B) (new2 : C) : Type 0 where
   pub code : r ≡ codeOf a
   pub lent : new ≡ after first old a
   pub lent2 : new2 ≡ after second old2 a
@@ -50,40 +51,40 @@ abbrev same : {A : Type 0} → A → A
 same a = a
 
 -- ---- scores
-abbrev pub EvalsEnding : List ℕ → List ℕ → ℕ → ℕ → ℕ → ℕ → Type 0
+abbrev pub EvalsEnding : List ℕ → List ℕ → ℕ → ℕ → Code → ℕ → Type 0
 EvalsEnding bitboards board side verdict r verdict′ = Door (endingOf bitboards board (ofSide side)) verdictCode verdict r verdict′
 
-abbrev pub EvalsMaterial : List ℕ → List ℕ → ℕ → ℕ → ℤ → ℕ → ℤ → Type 0
+abbrev pub EvalsMaterial : List ℕ → List ℕ → ℕ → ℕ → ℤ → Code → ℤ → Type 0
 EvalsMaterial bitboards board side colour material r material′ = Door (materialOf bitboards board (ofSide side) colour) same material r material′
 
-abbrev pub Evals : List ℕ → List ℕ → ℕ → ℕ → ℤ → ℕ → ℕ → ℤ → Type 0
+abbrev pub Evals : List ℕ → List ℕ → ℕ → ℕ → ℤ → Code → ℕ → ℤ → Type 0
 Evals bitboards board side verdict score r verdict′ score′ =
     Doors (evalOf bitboards board (ofSide side)) outcomeVerdict outcomeScore verdict score r verdict′ score′
 
 -- ---- attacks
-abbrev pub PieceAttacks : ℕ → ℕ → ℕ → ℕ → ℕ → ℕ → Type 0
+abbrev pub PieceAttacks : ℕ → ℕ → ℕ → ℕ → Code → ℕ → Type 0
 PieceAttacks piece square occupied squares r squares′ = Door (pieceAttacksOf piece square occupied) same squares r squares′
 
-abbrev pub AttacksTo : List ℕ → List ℕ → ℕ → ℕ → ℕ → ℕ → ℕ → ℕ → Type 0
+abbrev pub AttacksTo : List ℕ → List ℕ → ℕ → ℕ → ℕ → ℕ → Code → ℕ → Type 0
 AttacksTo bitboards board side square occupied squares r squares′ = Door (attacksToOf bitboards board (ofSide side) square occupied) same squares r squares′
 
-abbrev pub IsAttacked : List ℕ → List ℕ → ℕ → ℕ → ℕ → Bool → ℕ → Bool → Type 0
+abbrev pub IsAttacked : List ℕ → List ℕ → ℕ → ℕ → ℕ → Bool → Code → Bool → Type 0
 IsAttacked bitboards board side square colour attacked r attacked′ = Door (isAttackedOf bitboards board (ofSide side) square colour) same attacked r attacked′
 
-abbrev pub IsCheck : List ℕ → List ℕ → ℕ → ℕ → Bool → ℕ → Bool → Type 0
+abbrev pub IsCheck : List ℕ → List ℕ → ℕ → ℕ → Bool → Code → Bool → Type 0
 IsCheck bitboards board side colour check r check′ = Door (isCheckOf bitboards board (ofSide side) colour) same check r check′
 
 -- ---- exchanges
-abbrev pub Lvp : List ℕ → List ℕ → ℕ → ℕ → ℕ → ℕ → Bool → ℕ → ℕ → Bool → ℕ → Type 0
+abbrev pub Lvp : List ℕ → List ℕ → ℕ → ℕ → ℕ → ℕ → Bool → ℕ → Code → Bool → ℕ → Type 0
 Lvp bitboards board side colour attacks occupied found square r found′ square′ =
     Doors (lvpOf bitboards board (ofSide side) colour attacks occupied) anyone squareOr found square r found′ square′
 
-abbrev pub See : List ℕ → List ℕ → ℕ → ℕ → ℕ → ℤ → ℕ → ℤ → Type 0
+abbrev pub See : List ℕ → List ℕ → ℕ → ℕ → ℕ → ℤ → Code → ℤ → Type 0
 See bitboards board side from to worth r worth′ = Door (seeOf bitboards board (ofSide side) from to) same worth r worth′
 
 -- ---- traces
 pub record ComputesTrace (bitboards board : List ℕ) (side : ℕ) (counts mobility : List ℤ) (sign pieces : ℤ) (entries : List ℤ)
-    (r : ℕ) (counts′ mobility′ : List ℤ) (sign′ pieces′ : ℤ) (entries′ : List ℤ) : Type 0 where
+    (r : Code) (counts′ mobility′ : List ℤ) (sign′ pieces′ : ℤ) (entries′ : List ℤ) : Type 0 where
   pub code : r ≡ codeOf (tracedOf bitboards board (ofSide side) entries)
   pub counted : counts′ ≡ after countsOf counts (tracedOf bitboards board (ofSide side) entries)
   pub moved : mobility′ ≡ after (λ (t : Trace). t .mobility) mobility (tracedOf bitboards board (ofSide side) entries)
@@ -91,17 +92,17 @@ pub record ComputesTrace (bitboards board : List ℕ) (side : ℕ) (counts mobil
   pub total : pieces′ ≡ after (λ (t : Trace). t .«piece_count») pieces (tracedOf bitboards board (ofSide side) entries)
   pub marked : entries′ ≡ entriesAfter (tracedOf bitboards board (ofSide side) entries) bitboards entries
 
-abbrev pub EvalsTrace : List ℤ → List ℤ → ℤ → ℤ → List ℤ → List Float → List Float → Float → ℕ → Float → Type 0
+abbrev pub EvalsTrace : List ℤ → List ℤ → ℤ → ℤ → List ℤ → List Float → List Float → Float → Code → Float → Type 0
 EvalsTrace counts mobility sign pieces entries weights squares value r value′ =
     Door (doubleOf (traceOf counts mobility sign pieces) entries (weightsOf weights) squares) same value r value′
 
-pub record Ships (weights squares : List Float) (r : ℕ) (weights′ squares′ : List Float) : Type 0 where
+pub record Ships (weights squares : List Float) (r : Code) (weights′ squares′ : List Float) : Type 0 where
   pub code : r ≡ codeOf (writtenOf squares)
   pub lent : weights′ ≡ after (λ (u : Unit). namedOf shipped) weights (writtenOf squares)
   pub written : squares′ ≡ squaresAfter squares
 
 -- ---- lines
-pub record ReadsLine (line bitboards board : List ℕ) (side half r : ℕ) (bitboards′ board′ : List ℕ) (side′ half′ : ℕ) : Type 0 where
+pub record ReadsLine (line bitboards board : List ℕ) (side half : ℕ) (r : Code) (bitboards′ board′ : List ℕ) (side′ half′ : ℕ) : Type 0 where
   pub code : r ≡ codeOf (readOf line bitboards board)
   pub boards : bitboards′ ≡ bitboardsAfter (readOf line bitboards board) bitboards
   pub bytes : board′ ≡ boardAfter (readOf line bitboards board) board
@@ -113,14 +114,14 @@ pub record GivesPart (line : List ℕ) (r : Part) : Type 0 where
   pub length : r .length ≡ length (fieldOf line)
 
 -- ---- the ledger
-pub record FeedsLedger (state line chunk out : List ℕ) (wrote r : ℕ) (state′ line′ out′ : List ℕ) (wrote′ : ℕ) : Type 0 where
+pub record FeedsLedger (state line chunk out : List ℕ) (wrote : ℕ) (r : Code) (state′ line′ out′ : List ℕ) (wrote′ : ℕ) : Type 0 where
   pub code : r ≡ Ledger.codeOf (feedOf (stateOf state) line chunk out)
   pub lent : state′ ≡ Ledger.after (λ (m : Machine). numbersOf (Rows.stateOf m)) state (feedOf (stateOf state) line chunk out)
   pub kept : line′ ≡ lineAfter (feedOf (stateOf state) line chunk out) line
   pub rows : out′ ≡ bufferOf out 0 (textAfter (feedOf (stateOf state) line chunk out))
   pub lent2 : wrote′ ≡ Ledger.after (λ (m : Machine). length (m .text)) wrote (feedOf (stateOf state) line chunk out)
 
-pub record FinishesLedger (state line out : List ℕ) (wrote r : ℕ) (out′ : List ℕ) (wrote′ : ℕ) : Type 0 where
+pub record FinishesLedger (state line out : List ℕ) (wrote : ℕ) (r : Code) (out′ : List ℕ) (wrote′ : ℕ) : Type 0 where
   pub code : r ≡ Ledger.codeOf (finishOf (stateOf state) line out)
   pub rows : out′ ≡ bufferOf out 0 (lastText (finishOf (stateOf state) line out))
   pub lent : wrote′ ≡ Ledger.after length wrote (finishOf (stateOf state) line out)

@@ -1,18 +1,25 @@
 // What a piece attacks, who attacks a square, check.
 ghost use Rattle.abi.specs.Promises.{PieceAttacks, AttacksTo, IsAttacked, IsCheck};
+use crate::Code;
 use crate::GIVEN;
+use crate::refused;
 use attack::Found;
 use attack_to::Told;
 use position::State;
 
 // The squares that a piece attacks: SHAPE, SQUARE.
 #[no_mangle]
-pub extern "C" fn chess_piece_attacks(piece: u8, square: u8, occupied: u64, squares: &mut u64) -> u8
+pub extern "C" fn chess_piece_attacks(
+    piece: u8,
+    square: u8,
+    occupied: u64,
+    squares: &mut u64,
+) -> Code
     ensures { λ r. ⌜ PieceAttacks piece square occupied (now (squares .entry)) r (now (squares .exit)) ⌝ }
 {
     let answer = attack::piece_attacks(piece, square, occupied);
     match answer {
-        Found::Refused(refusal) => refusal.number(),
+        Found::Refused(refusal) => refused(refusal),
         Found::Squares(b) => {
             *squares = b;
             GIVEN
@@ -29,12 +36,12 @@ pub extern "C" fn chess_attacks_to(
     square: u8,
     occupied: u64,
     squares: &mut u64,
-) -> u8
+) -> Code
     ensures { λ r. ⌜ AttacksTo (now (bitboards .entry)) (now (board .entry)) side square occupied (now (squares .entry)) r (now (squares .exit)) ⌝ }
 {
     let answer = attack_to::attacks_to(bitboards, board, State { side }, square, occupied);
     match answer {
-        Found::Refused(refusal) => refusal.number(),
+        Found::Refused(refusal) => refused(refusal),
         Found::Squares(b) => {
             *squares = b;
             GIVEN
@@ -51,12 +58,12 @@ pub extern "C" fn chess_is_attacked(
     square: u8,
     color: u8,
     attacked: &mut bool,
-) -> u8
+) -> Code
     ensures { λ r. ⌜ IsAttacked (now (bitboards .entry)) (now (board .entry)) side square color (now (attacked .entry)) r (now (attacked .exit)) ⌝ }
 {
     let answer = attack_to::is_attacked(bitboards, board, State { side }, square, color);
     match answer {
-        Told::Refused(refusal) => refusal.number(),
+        Told::Refused(refusal) => refused(refusal),
         Told::Is(is) => {
             *attacked = is;
             GIVEN
@@ -72,12 +79,12 @@ pub extern "C" fn chess_is_check(
     side: u8,
     color: u8,
     check: &mut bool,
-) -> u8
+) -> Code
     ensures { λ r. ⌜ IsCheck (now (bitboards .entry)) (now (board .entry)) side color (now (check .entry)) r (now (check .exit)) ⌝ }
 {
     let answer = attack_to::is_check(bitboards, board, State { side }, color);
     match answer {
-        Told::Refused(refusal) => refusal.number(),
+        Told::Refused(refusal) => refused(refusal),
         Told::Is(is) => {
             *check = is;
             GIVEN

@@ -1,6 +1,8 @@
 // The least attacker and the exchange.
 ghost use Rattle.abi.specs.Promises.{Lvp, See};
+use crate::Code;
 use crate::GIVEN;
+use crate::refused;
 use exchange::Exchanged;
 use exchange_least::Least;
 use position::State;
@@ -16,12 +18,12 @@ pub extern "C" fn chess_lvp(
     occupied: u64,
     found: &mut bool,
     square: &mut u8,
-) -> u8
+) -> Code
     ensures { λ r. ⌜ Lvp (now (bitboards .entry)) (now (board .entry)) side color attacks occupied (now (found .entry)) (now (square .entry)) r (now (found .exit)) (now (square .exit)) ⌝ }
 {
     let answer = exchange_least::lvp(bitboards, board, State { side }, color, attacks, occupied);
     match answer {
-        Least::Refused(refusal) => refusal.number(),
+        Least::Refused(refusal) => refused(refusal),
         Least::Nobody => {
             *found = false;
             *square = 0;
@@ -44,12 +46,12 @@ pub extern "C" fn chess_see(
     from: u8,
     to: u8,
     worth: &mut i16,
-) -> u8
+) -> Code
     ensures { λ r. ⌜ See (now (bitboards .entry)) (now (board .entry)) side from to (now (worth .entry)) r (now (worth .exit)) ⌝ }
 {
     let answer = exchange::see(bitboards, board, State { side }, from, to);
     match answer {
-        Exchanged::Refused(refusal) => refusal.number(),
+        Exchanged::Refused(refusal) => refused(refusal),
         Exchanged::Worth(z) => {
             *worth = z;
             GIVEN

@@ -2,7 +2,10 @@
 ghost use mathlib.Core.Path.{_≡_};
 ghost use Rattle.abi.specs.Ledger.{stateOf, numbersOf, flagOf};
 ghost use Rattle.abi.specs.Promises.{FeedsLedger, FinishesLedger};
+use crate::Code;
 use crate::GIVEN;
+use crate::NO_SQUARE;
+use crate::refused;
 use ledger_feed::Fed;
 use ledger_feed::State;
 use ledger_finish::Finished;
@@ -10,10 +13,20 @@ use ledger_finish::Finished;
 // Bytes held of the line that has not ended, whether the last was a CR, loaded rows, refused rows.
 const NUMBERS: usize = 4;
 
-// Beside the refusals: too little room for the rows, and more lines than 64 bits count.
-pub const FULL: u8 = 254;
+// The ledger's own, no refusals of the documents' table: too little room for the rows, and more lines than 64 bits count.
+pub const LEDGER_FULL: u8 = 254;
 
-pub const MANY: u8 = 255;
+pub const LEDGER_MANY: u8 = 255;
+
+const FULL: Code = Code {
+    number: LEDGER_FULL,
+    square: NO_SQUARE,
+};
+
+const MANY: Code = Code {
+    number: LEDGER_MANY,
+    square: NO_SQUARE,
+};
 
 fn state_of(numbers: &[u64; NUMBERS]) -> State
     ensures { λ r. ⌜ r ≡ stateOf (now (numbers .entry)) ⌝ }
@@ -43,7 +56,7 @@ fn numbers_of(state: State) -> [u64; NUMBERS]
     ]
 }
 
-// A row for each line that ends in the chunk, and how many bytes they are: SHAPE (not 256 bytes for the line), MANY, FULL (not 32 bytes of room for each).
+// A row for each line that ends in the chunk, and how many bytes they are: SHAPE (not 256 bytes for the line), the ledger's own MANY, FULL (not 32 bytes of room for each).
 #[no_mangle]
 pub extern "C" fn chess_ledger_feed(
     state: &mut [u64; NUMBERS],
@@ -51,7 +64,7 @@ pub extern "C" fn chess_ledger_feed(
     chunk: &[u8],
     out: &mut [u8],
     wrote: &mut usize,
-) -> u8
+) -> Code
     ensures { λ r. ⌜ FeedsLedger (now (state .entry)) (now (line .entry)) (now (chunk .entry)) (now (out .entry)) (now (wrote .entry)) r (now (state .exit)) (now (line .exit)) (now (out .exit)) (now (wrote .exit)) ⌝ }
 {
     let fed = ledger_feed::feed(state_of(state), line, chunk, out);
@@ -63,7 +76,7 @@ pub extern "C" fn chess_ledger_feed(
         }
         Fed::Full => FULL,
         Fed::Many => MANY,
-        Fed::Refused(refusal) => refusal.number(),
+        Fed::Refused(refusal) => refused(refusal),
     }
 }
 
@@ -74,7 +87,7 @@ pub extern "C" fn chess_ledger_finish(
     line: &[u8],
     out: &mut [u8],
     wrote: &mut usize,
-) -> u8
+) -> Code
     ensures { λ r. ⌜ FinishesLedger (now (state .entry)) (now (line .entry)) (now (out .entry)) (now (wrote .entry)) r (now (out .exit)) (now (wrote .exit)) ⌝ }
 {
     let finished = ledger_finish::finish(state_of(state), line, out);
@@ -85,6 +98,6 @@ pub extern "C" fn chess_ledger_finish(
         }
         Finished::Full => FULL,
         Finished::Many => MANY,
-        Finished::Refused(refusal) => refusal.number(),
+        Finished::Refused(refusal) => refused(refusal),
     }
 }

@@ -1,6 +1,8 @@
 // One line of a collection.
 ghost use Rattle.abi.specs.Promises.{ReadsLine, GivesPart};
+use crate::Code;
 use crate::GIVEN;
+use crate::refused;
 use line::Part;
 use line_parse::Read;
 
@@ -12,12 +14,12 @@ pub extern "C" fn chess_read_line(
     board: &mut [u8],
     side: &mut u8,
     half: &mut u8,
-) -> u8
+) -> Code
     ensures { λ r. ⌜ ReadsLine (now (line .entry)) (now (bitboards .entry)) (now (board .entry)) (now (side .entry)) (now (half .entry)) r (now (bitboards .exit)) (now (board .exit)) (now (side .exit)) (now (half .exit)) ⌝ }
 {
     let answer = line::read_line(line, bitboards, board);
     match answer {
-        Read::Refused(refusal) => refusal.number(),
+        Read::Refused(refusal) => refused(refusal),
         Read::Position(state, points) => {
             *side = state.side;
             *half = points;

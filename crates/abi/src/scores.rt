@@ -1,6 +1,8 @@
 // Verdict, material and score.
 ghost use Rattle.abi.specs.Promises.{EvalsEnding, EvalsMaterial, Evals};
+use crate::Code;
 use crate::GIVEN;
+use crate::refused;
 use position::State;
 use score::Scored;
 use score_material::Material;
@@ -23,12 +25,12 @@ pub extern "C" fn chess_eval_ending(
     board: &[u8],
     side: u8,
     verdict: &mut u8,
-) -> u8
+) -> Code
     ensures { λ r. ⌜ EvalsEnding (now (bitboards .entry)) (now (board .entry)) side (now (verdict .entry)) r (now (verdict .exit)) ⌝ }
 {
     let answer = score_verdict::eval_ending(bitboards, board, State { side });
     match answer {
-        Ending::Refused(refusal) => refusal.number(),
+        Ending::Refused(refusal) => refused(refusal),
         Ending::Is(is) => {
             match is {
                 Verdict::Lost => *verdict = LOST,
@@ -49,12 +51,12 @@ pub extern "C" fn chess_eval_material(
     side: u8,
     color: u8,
     material: &mut i16,
-) -> u8
+) -> Code
     ensures { λ r. ⌜ EvalsMaterial (now (bitboards .entry)) (now (board .entry)) side color (now (material .entry)) r (now (material .exit)) ⌝ }
 {
     let answer = score_material::eval_material(bitboards, board, State { side }, color);
     match answer {
-        Material::Refused(refusal) => refusal.number(),
+        Material::Refused(refusal) => refused(refusal),
         Material::Is(z) => {
             *material = z;
             GIVEN
@@ -70,12 +72,12 @@ pub extern "C" fn chess_eval(
     side: u8,
     verdict: &mut u8,
     score: &mut i16,
-) -> u8
+) -> Code
     ensures { λ r. ⌜ Evals (now (bitboards .entry)) (now (board .entry)) side (now (verdict .entry)) (now (score .entry)) r (now (verdict .exit)) (now (score .exit)) ⌝ }
 {
     let answer = score::eval(bitboards, board, State { side });
     match answer {
-        Scored::Refused(refusal) => refusal.number(),
+        Scored::Refused(refusal) => refused(refusal),
         Scored::Lost => {
             *verdict = LOST;
             *score = 0;

@@ -12,8 +12,8 @@ lvp-requires c κs = search needs
 enum-known-answer : tie.Need-enum-known-answer
 enum-known-answer c = search needs
 
-number-requires : tie.Need-number-requires
-number-requires c κs = search needs
+refused-requires : tie.Need-refused-requires
+refused-requires c κs = search needs
 
 enum-told : tie.Need-enum-told
 enum-told c = search needs
@@ -24,7 +24,7 @@ enum-known-answer-2 c = search needs
 returns : tie.Need-returns
 returns c =
     let k = c .before .before .before .before in
-    passed-both (met least (k .lvp .ensures) (c .before .before .answer .given .1)) (c .number .ensures) refl refl
+    passed-both (met least (k .lvp .ensures) (c .before .before .answer .given .1)) (c .refused .ensures) refl refl
 
 returns-2 : tie.Need-returns-2
 returns-2 c =
@@ -42,7 +42,7 @@ chess-lvp-spec =
     (tie.spec
     lvp-requires
     enum-known-answer
-    number-requires
+    refused-requires
     enum-told
     enum-known-answer-2
     returns

@@ -27,8 +27,8 @@ enum-told-2 c = search needs
 enum-known-fed-2 : tie.Need-enum-known-fed-2
 enum-known-fed-2 c = search needs
 
-number-requires : tie.Need-number-requires
-number-requires c κs = search needs
+refused-requires : tie.Need-refused-requires
+refused-requires c κs = search needs
 
 same-length : tie.Need-same-length
 same-length c = search needs
@@ -80,7 +80,7 @@ returns-4 c =
     let k = c .before .before .before .before .before .before .before .before in
     let a = k .before .before .before .before .before .before .before .before .args in
     fed-through (now (a .state)) (now (a .line)) (now (a .chunk)) (now (a .out)) (now (a .wrote)) (k .before .before .before .state-of .ensures) (k .feed .ensures) (c .before .before .fed2 .given .1)
-    (c .number .ensures) refl refl
+    (c .refused .ensures) refl refl
 
 pub chess-ledger-feed-spec : {M : Type 1} → statement M
 chess-ledger-feed-spec =
@@ -93,7 +93,7 @@ chess-ledger-feed-spec =
     enum-told
     enum-told-2
     enum-known-fed-2
-    number-requires
+    refused-requires
     same-length
     same-length-2
     returns

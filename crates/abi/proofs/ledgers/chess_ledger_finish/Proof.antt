@@ -24,8 +24,8 @@ enum-told-2 c = search needs
 enum-known-finished-2 : tie.Need-enum-known-finished-2
 enum-known-finished-2 c = search needs
 
-number-requires : tie.Need-number-requires
-number-requires c κs = search needs
+refused-requires : tie.Need-refused-requires
+refused-requires c κs = search needs
 
 same-length : tie.Need-same-length
 same-length c = search needs
@@ -61,7 +61,7 @@ returns-4 : tie.Need-returns-4
 returns-4 c =
     let k = c .before .before .before .before .before .before in
     let a = k .before .before .before .before .before .args in
-    finished-through (now (a .state)) (now (a .line)) (now (a .out)) (now (a .wrote)) (k .before .before .state-of .ensures) (k .finish .ensures) (c .before .before .finished2 .given .1) (c .number .ensures) refl
+    finished-through (now (a .state)) (now (a .line)) (now (a .out)) (now (a .wrote)) (k .before .before .state-of .ensures) (k .finish .ensures) (c .before .before .finished2 .given .1) (c .refused .ensures) refl
 
 pub chess-ledger-finish-spec : {M : Type 1} → statement M
 chess-ledger-finish-spec =
@@ -73,7 +73,7 @@ chess-ledger-finish-spec =
     enum-told
     enum-told-2
     enum-known-finished-2
-    number-requires
+    refused-requires
     same-length
     returns
     same-length-2

@@ -11,8 +11,8 @@ read-line-requires c κs = search needs
 enum-known-answer : tie.Need-enum-known-answer
 enum-known-answer c = search needs
 
-number-requires : tie.Need-number-requires
-number-requires c κs = search needs
+refused-requires : tie.Need-refused-requires
+refused-requires c κs = search needs
 
 enum-known-answer-2 : tie.Need-enum-known-answer-2
 enum-known-answer-2 c = search needs
@@ -26,7 +26,7 @@ same-length-2 c = search needs
 returns : tie.Need-returns
 returns c =
     let k = c .before .before .before .before .before .before .before .before in
-    line-read (k .read-line .ensures) (c .before .before .answer .given .1) (c .number .ensures) refl refl
+    line-read (k .read-line .ensures) (c .before .before .answer .given .1) (c .refused .ensures) refl refl
 
 same-length-3 : tie.Need-same-length-3
 same-length-3 c = search needs
@@ -45,7 +45,7 @@ chess-read-line-spec =
     (tie.spec
     read-line-requires
     enum-known-answer
-    number-requires
+    refused-requires
     enum-known-answer-2
     same-length
     same-length-2

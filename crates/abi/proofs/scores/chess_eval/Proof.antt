@@ -14,8 +14,8 @@ eval-requires c κs = search needs
 enum-known-answer : tie.Need-enum-known-answer
 enum-known-answer c = search needs
 
-number-requires : tie.Need-number-requires
-number-requires c κs = search needs
+refused-requires : tie.Need-refused-requires
+refused-requires c κs = search needs
 
 enum-told : tie.Need-enum-told
 enum-told c = search needs
@@ -32,7 +32,7 @@ enum-known-answer-2 c = search needs
 returns : tie.Need-returns
 returns c =
     let k = c .before .before .before .before in
-    passed-both (met scored (k .eval .ensures) (c .before .before .answer .given .1)) (c .number .ensures) refl refl
+    passed-both (met scored (k .eval .ensures) (c .before .before .answer .given .1)) (c .refused .ensures) refl refl
 
 returns-2 : tie.Need-returns-2
 returns-2 c =
@@ -60,7 +60,7 @@ chess-eval-spec =
     (tie.spec
     eval-requires
     enum-known-answer
-    number-requires
+    refused-requires
     enum-told
     enum-told-2
     enum-told-3

@@ -13,8 +13,8 @@ eval-ending-requires c κs = search needs
 enum-known-answer : tie.Need-enum-known-answer
 enum-known-answer c = search needs
 
-number-requires : tie.Need-number-requires
-number-requires c κs = search needs
+refused-requires : tie.Need-refused-requires
+refused-requires c κs = search needs
 
 enum-known-answer-2 : tie.Need-enum-known-answer-2
 enum-known-answer-2 c = search needs
@@ -34,7 +34,7 @@ enum-told-4 c = search needs
 returns : tie.Need-returns
 returns c =
     let k = c .before .before .before .before in
-    passed (met ending (k .eval-ending .ensures) (c .before .before .answer .given .1)) (c .number .ensures) refl
+    passed (met ending (k .eval-ending .ensures) (c .before .before .answer .given .1)) (c .refused .ensures) refl
 
 returns-2 : tie.Need-returns-2
 returns-2 c =
@@ -62,7 +62,7 @@ chess-eval-ending-spec =
     (tie.spec
     eval-ending-requires
     enum-known-answer
-    number-requires
+    refused-requires
     enum-known-answer-2
     enum-told
     enum-told-2

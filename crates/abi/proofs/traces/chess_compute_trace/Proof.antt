@@ -15,8 +15,8 @@ compute-trace-requires c κs = search needs
 enum-known-checked : tie.Need-enum-known-checked
 enum-known-checked c = search needs
 
-number-requires : tie.Need-number-requires
-number-requires c κs = search needs
+refused-requires : tie.Need-refused-requires
+refused-requires c κs = search needs
 
 same-length : tie.Need-same-length
 same-length c = search needs
@@ -27,7 +27,7 @@ returns c =
     let r = k .compute-trace .result in
     let s = k .before .before .before .before in
     traced (now (s .args .bitboards)) (now (s .args .board)) (s .args .side)
-    (sym (ap (λ (x : Checked). paperOf x (r .trace)) (c .before .before .checked .given .1)) ∙ k .compute-trace .ensures .0) (c .number .ensures) refl refl refl refl
+    (sym (ap (λ (x : Checked). paperOf x (r .trace)) (c .before .before .checked .given .1)) ∙ k .compute-trace .ensures .0) (c .refused .ensures) refl refl refl refl
     (k .compute-trace .ensures .2)
 
 enum-told : tie.Need-enum-told
@@ -57,7 +57,7 @@ chess-compute-trace-spec =
     (tie.spec
     compute-trace-requires
     enum-known-checked
-    number-requires
+    refused-requires
     same-length
     returns
     enum-told

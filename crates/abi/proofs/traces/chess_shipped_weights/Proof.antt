@@ -13,8 +13,8 @@ square-weights-requires c κs = search needs
 enum-known-written : tie.Need-enum-known-written
 enum-known-written c = search needs
 
-number-requires : tie.Need-number-requires
-number-requires c κs = search needs
+refused-requires : tie.Need-refused-requires
+refused-requires c κs = search needs
 
 same-length : tie.Need-same-length
 same-length c = search needs
@@ -22,7 +22,7 @@ same-length c = search needs
 returns : tie.Need-returns
 returns c =
     let k = c .before .before .before .before .before .before in
-    ships (met written (k .square-weights .ensures .0) (c .before .before .written .given .1)) (c .number .ensures) refl (k .square-weights .ensures .1)
+    ships (met written (k .square-weights .ensures .0) (c .before .before .written .given .1)) (c .refused .ensures) refl (k .square-weights .ensures .1)
 
 enum-told : tie.Need-enum-told
 enum-told c = search needs
@@ -48,7 +48,7 @@ chess-shipped-weights-spec =
     (tie.spec
     square-weights-requires
     enum-known-written
-    number-requires
+    refused-requires
     same-length
     returns
     enum-told

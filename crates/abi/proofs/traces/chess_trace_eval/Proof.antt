@@ -46,8 +46,8 @@ eval-requires c κs = search needs
 enum-known-answer : tie.Need-enum-known-answer
 enum-known-answer c = search needs
 
-number-requires : tie.Need-number-requires
-number-requires c κs = search needs
+refused-requires : tie.Need-refused-requires
+refused-requires c κs = search needs
 
 enum-known-answer-2 : tie.Need-enum-known-answer-2
 enum-known-answer-2 c = search needs
@@ -55,7 +55,7 @@ enum-known-answer-2 c = search needs
 returns : tie.Need-returns
 returns c =
     let k = c .before .before .before .before in
-    passed (met paper (handed k) (c .before .before .answer .given .1)) (c .number .ensures) refl
+    passed (met paper (handed k) (c .before .before .answer .given .1)) (c .refused .ensures) refl
 
 returns-2 : tie.Need-returns-2
 returns-2 c =
@@ -70,7 +70,7 @@ chess-trace-eval-spec =
     weights-of-requires
     eval-requires
     enum-known-answer
-    number-requires
+    refused-requires
     enum-known-answer-2
     returns
     returns-2)

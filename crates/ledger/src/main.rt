@@ -1,10 +1,13 @@
-// Reads a collection on standard input, and writes a row for each line and the totals: reads, feeds, writes, and nothing else.
+// Reads a collection on standard input, or in the files that its arguments name, and writes a row for each line and the totals: reads,
+// feeds, writes, and nothing else.
 //
 // What a read, a write and an error number mean stands in crate stream. Where one fails, or a loop comes to its bound, the rows so far
 // stay, no last row follows them, and the reason goes to standard error; that all is written is said on descriptor 3, last of all.
 use ledger_feed::Fed;
 use ledger_feed::State;
+use ledger_files::Ending;
 use ledger_finish::Finished;
+use stream_io::Opened;
 use stream_io::Taken;
 
 // What follows a read: another one, the end of the input, or nothing more.
@@ -25,28 +28,119 @@ fn main() {
 // All reads, and then the last rows: whether all of them are written.
 fn write_ledger(chunk: &mut [u8], out: &mut [u8]) -> bool {
     let mut line = [0u8; ledger_feed::LINE];
-    let mut state = ledger_feed::start();
-    let mut turns: u64 = 0;
-    while stream::may_go_on(turns) {
-        turns += 1;
-        match read_some(state, &mut line, chunk, out) {
+    let read = read_all(&mut line, chunk, out);
+    let Turn::More(state) = read else {
+        return false;
+    };
+    finish(state, &line, out)
+}
+
+// The files one after another, or standard input where none is named.
+fn read_all(line: &mut [u8], chunk: &mut [u8], out: &mut [u8]) -> Turn {
+    let state = ledger_feed::start();
+    let count = os::arg_count();
+    if count < 2 {
+        return read_to_end(
+            libc::STDIN_FILENO,
+            b"ledger: standard input",
+            state,
+            line,
+            chunk,
+            out,
+        );
+    }
+    read_files(count, state, line, chunk, out)
+}
+
+fn read_files(
+    count: usize,
+    state: State,
+    line: &mut [u8],
+    chunk: &mut [u8],
+    out: &mut [u8],
+) -> Turn {
+    let mut state = state;
+    let mut i = 1;
+    while i < count {
+        match read_file(i, state, line, chunk, out) {
             Turn::More(next) => {
                 state = next;
             }
             Turn::End => {
-                return finish(state, &line, out);
+                return Turn::Stopped;
             }
             Turn::Stopped => {
-                return false;
+                return Turn::Stopped;
+            }
+        }
+        i += 1;
+    }
+    Turn::More(state)
+}
+
+fn read_file(i: usize, state: State, line: &mut [u8], chunk: &mut [u8], out: &mut [u8]) -> Turn {
+    let mut name = io::buffer();
+    match stream_io::open_argument(i, &mut name) {
+        Opened::File(fd, n) => {
+            let read = read_to_end(fd, &name[..n], state, line, chunk, out);
+            stream_io::close(fd);
+            end_file(read, line, out)
+        }
+        Opened::Failed => Turn::Stopped,
+    }
+}
+
+// A file's end ends its last line.
+fn end_file(read: Turn, line: &mut [u8], out: &mut [u8]) -> Turn {
+    let Turn::More(state) = read else {
+        return Turn::Stopped;
+    };
+    match ledger_files::closing(state) {
+        Ending::Nothing => Turn::More(state),
+        Ending::Lf => feed(state, line, b"\n", out),
+        Ending::CrLf => feed(state, line, b"\r\n", out),
+    }
+}
+
+// All reads of one descriptor, and the rows of the lines that end in them.
+fn read_to_end(
+    fd: i32,
+    what: &[u8],
+    state: State,
+    line: &mut [u8],
+    chunk: &mut [u8],
+    out: &mut [u8],
+) -> Turn {
+    let mut state = state;
+    let mut turns: u64 = 0;
+    while stream::may_go_on(turns) {
+        turns += 1;
+        match read_some(fd, what, state, line, chunk, out) {
+            Turn::More(next) => {
+                state = next;
+            }
+            Turn::End => {
+                return Turn::More(state);
+            }
+            Turn::Stopped => {
+                return Turn::Stopped;
             }
         }
     }
-    stop(b": too many reads\n")
+    stop(b": too many reads\n");
+    Turn::Stopped
 }
 
 // One read, and the rows of the lines that end in it.
-fn read_some(state: State, line: &mut [u8], chunk: &mut [u8], out: &mut [u8]) -> Turn {
-    match stream_io::read(libc::STDIN_FILENO, chunk, b"ledger: standard input") {
+fn read_some(
+    fd: i32,
+    what: &[u8],
+    state: State,
+    line: &mut [u8],
+    chunk: &mut [u8],
+    out: &mut [u8],
+) -> Turn {
+    match stream_io::read(fd, chunk, what) {
         Taken::Bytes(n) => feed(state, line, &chunk[..n], out),
         Taken::End => Turn::End,
         Taken::Failed => Turn::Stopped,

@@ -7,6 +7,8 @@ use lib.IntN.{ℤ}
 use lib.ListN.{length}
 use Rattle.stream_io.specs.declared.Taken.{Taken}
 use Rattle.stream_io.specs.declared.Taken.the-variants as T
+use Rattle.stream_io.specs.declared.Opened.{Opened}
+use Rattle.stream_io.specs.declared.Opened.the-variants as O
 use Rattle.stream_io.specs.declared.Put.{Put}
 use Rattle.stream_io.specs.declared.Put.the-variants as P
 
@@ -19,6 +21,14 @@ countOf T.Failed = 0
 -- which bytes come the descriptor alone knows: they lie within the buffer
 pub record ReadsWithin (fd : ℤ) (old what new : List ℕ) (r : Taken) : Type 0 where
   pub within : countOf r ≤ length new
+
+-- how many bytes of the buffer are a name
+abbrev pub nameOf : Opened → ℕ
+nameOf (O.File fd n) = n
+nameOf O.Failed = 0
+
+pub record OpensWithin (i : ℕ) (old new : List ℕ) (r : Opened) : Type 0 where
+  pub within : nameOf r ≤ length new
 
 -- whether a write fails the descriptor alone knows: where there is nothing to write, nothing fails
 pub record WritesNothing (fd : ℤ) (bytes what : List ℕ) (r : Bool) : Type 0 where

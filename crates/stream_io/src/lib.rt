@@ -2,7 +2,7 @@
 //
 // What a call reads or writes no promise can say, so these functions are few and thin. Each reason goes to standard error, as
 // `program: what failed: why`.
-ghost use Rattle.stream_io.specs.Bounds.{PutsNothing, ReadsWithin, WritesNothing};
+ghost use Rattle.stream_io.specs.Bounds.{OpensWithin, PutsNothing, ReadsWithin, WritesNothing};
 use stream::Read;
 use stream::Write;
 
@@ -13,6 +13,12 @@ const STATUS: i32 = 3;
 pub enum Taken {
     Bytes(usize),
     End,
+    Failed,
+}
+
+// A file that an argument names: its descriptor, and how many bytes of the buffer are its name; or nothing, and the reason was said.
+pub enum Opened {
+    File(i32, usize),
     Failed,
 }
 
@@ -52,6 +58,28 @@ pub fn read(fd: i32, buf: &mut [u8], what: &[u8]) -> Taken
     }
     say(what, b": too many reads\n");
     Taken::Failed
+}
+
+// Opens the file that an argument names, to read it.
+pub fn open_argument(i: usize, name: &mut [u8]) -> Opened
+    ensures { λ r. ⌜ OpensWithin i (now (name .entry)) (now (name .exit)) r ⌝ }
+{
+    let n = os::arg(i, name);
+    if os::errno() != 0 {
+        os::fail(b"the name of a file");
+        return Opened::Failed;
+    }
+    let fd = os::open_read(&name[..n]);
+    if stream::failed(fd) {
+        os::fail(&name[..n]);
+        return Opened::Failed;
+    }
+    Opened::File(fd, n)
+}
+
+// A file that was read to its end: that it can't be closed loses nothing.
+pub fn close(fd: i32) {
+    libc::close(fd);
 }
 
 // Writes all of it, or says why not.

@@ -7,9 +7,6 @@ use Rattle.stream_io.proofs.Within.{taken-within}
 use Rattle.ledger.proofs.read_some.Statement.{statement}
 use Rattle.ledger.proofs.read_some.Tie as tie
 
-slice-aggregate-read : tie.Need-slice-aggregate-read
-slice-aggregate-read c = search needs
-
 read-requires : tie.Need-read-requires
 read-requires c κs = search needs
 
@@ -59,7 +56,6 @@ pub read-some-spec : {M : Type 1} → statement M
 read-some-spec =
     tie.close
     (tie.spec
-    slice-aggregate-read
     read-requires
     enum-known-n
     slice-reshare-prefix-feed

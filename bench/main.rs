@@ -34,6 +34,7 @@ mod random;
 mod chess_scores;
 #[path = "positions.rs"]
 mod drawn;
+mod fits;
 mod functions;
 mod ledger;
 mod ours;
@@ -77,6 +78,7 @@ fn peak() -> String {
 fn usage() -> ! {
     eprintln!("functions COUNT ROUNDS    each function over so many positions");
     eprintln!("rays ROUNDS               a queen's attacks on boards from empty to crowded");
+    eprintln!("fits ROUNDS               gradients and steps over 40 and 500 positions");
     eprintln!("ledgers MOST ROUNDS       both ledgers over 10,000 lines, ten times as many, .. up to MOST");
     eprintln!("lines COUNT               a collection of so many lines on standard output");
     eprintln!("ours, theirs              a ledger of standard input; the peak of memory on standard error");
@@ -93,6 +95,7 @@ fn main() -> io::Result<()> {
     let output = BufWriter::new(io::stdout().lock());
     match words.as_slice() {
         ["functions", count, rounds] => functions::measure(number(count), number(rounds)),
+        ["fits", rounds] => fits::table(number(rounds)),
         ["rays", rounds] => rays::measure(number(rounds)),
         ["ledgers", most, rounds] => ledgers(number(most), number(rounds)),
         ["lines", count] => io::stdout().write_all(&drawn::lines(number(count)))?,

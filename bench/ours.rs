@@ -76,3 +76,18 @@ pub fn trace_eval(counts: &Counts, entries: &[i32], weights: &[f64; tune::WEIGHT
     };
     value
 }
+
+pub fn gradient_add(counts: &Counts, entries: &[i32], coefficient: f64, gradient: &mut [f64]) {
+    let code = unsafe {
+        chess_gradient_add(counts.counts.as_ptr(), counts.mobility.as_ptr(), counts.sign, counts.pieces, entries.as_ptr(), entries.len(), coefficient,
+            gradient.as_mut_ptr(), gradient.len())
+    };
+    assert!(code.number == 0, "a line is refused");
+}
+
+pub fn adam_step(gradient: &[f64], m: &mut [f64], v: &mut [f64], weights: &mut [f64], iteration: u64, rate: f64) {
+    let code = unsafe {
+        chess_adam_step(gradient.as_ptr(), gradient.len(), m.as_mut_ptr(), m.len(), v.as_mut_ptr(), v.len(), weights.as_mut_ptr(), weights.len(), iteration, rate)
+    };
+    assert!(code.number == 0, "a step is refused");
+}

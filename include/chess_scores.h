@@ -21,7 +21,7 @@
 extern "C" {
 #endif
 
-enum { CHESS_BITBOARDS = 14, CHESS_SQUARES = 64, CHESS_COUNTS = 12, CHESS_NAMED_WEIGHTS = 11, CHESS_ENTRIES = 768, CHESS_SQUARE_WEIGHTS = 768 };
+enum { CHESS_BITBOARDS = 14, CHESS_SQUARES = 64, CHESS_COUNTS = 12, CHESS_NAMED_WEIGHTS = 11, CHESS_ENTRIES = 768, CHESS_SQUARE_WEIGHTS = 768, CHESS_WEIGHTS = 779 };
 
 enum { CHESS_WHITE = 0, CHESS_BLACK = 1 };
 
@@ -33,7 +33,7 @@ typedef struct {
 
 enum { CHESS_NO_SQUARE = 255 };
 
-/* Refusals. Those from 14 on are in the table already, and no call gives them yet. */
+/* Refusals. Of those from 14 on ITERATION alone is given yet. */
 enum {
     CHESS_SHAPE = 1,      /* a length, a side, a colour or a piece code that none has */
     CHESS_BOARD = 2,      /* bitboards and board bytes that do not agree */
@@ -152,6 +152,18 @@ chess_code chess_trace_eval(const int32_t counts[CHESS_COUNTS], const int32_t mo
 
 /* The weights that the score has. SHAPE (not room for just 768 square weights). */
 chess_code chess_shipped_weights(double weights[CHESS_NAMED_WEIGHTS], double *squares, size_t squares_length);
+
+/* ---- the fitting step: 779 weights, the eleven that have a name and then the squares'
+ *
+ * Adds a line's part to the 779 sums of a gradient, with the arithmetic of the original's compute_gradient in its order; the coefficient is the
+ * caller's. Lines added one after another, from zeros, are the gradient of their collection. SHAPE (also where there are not 779 sums), TRACE. */
+chess_code chess_gradient_add(const int32_t counts[CHESS_COUNTS], const int32_t mobility[CHESS_COUNTS], int32_t sign, int32_t piece_count,
+                           const int32_t *entries, size_t entries_length, double coefficient, double *gradient, size_t gradient_length);
+
+/* One step of Adam: both moments and the weights after it, 779 each. The pawn's weight, at 0, never moves, nor do its moments. Iterations are numbered
+ * from 1; before the first both moments are zeros. SHAPE, ITERATION. */
+chess_code chess_adam_step(const double *gradient, size_t gradient_length, double *first_moments, size_t first_length, double *second_moments,
+                        size_t second_length, double *weights, size_t weights_length, uint64_t iteration, double rate);
 
 /* ---- the ledger of a collection, fed in pieces of any size
  *

@@ -33,6 +33,8 @@ pub(crate) mod doors {
         pub fn chess_see(bitboards: *const u64, b: usize, board: *const u8, s: usize, side: u8, from: u8, to: u8, worth: *mut i16) -> Code;
         pub fn chess_compute_trace(bitboards: *const u64, b: usize, board: *const u8, s: usize, side: u8, counts: *mut i32, mobility: *mut i32, sign: *mut i32, pieces: *mut i32, entries: *mut i32, e: usize) -> Code;
         pub fn chess_trace_eval(counts: *const i32, mobility: *const i32, sign: i32, pieces: i32, entries: *const i32, e: usize, weights: *const f64, squares: *const f64, w: usize, value: *mut f64) -> Code;
+        pub fn chess_gradient_add(counts: *const i32, mobility: *const i32, sign: i32, pieces: i32, entries: *const i32, e: usize, coefficient: f64, gradient: *mut f64, g: usize) -> Code;
+        pub fn chess_adam_step(gradient: *const f64, g: usize, m: *mut f64, f: usize, v: *mut f64, s: usize, weights: *mut f64, w: usize, iteration: u64, rate: f64) -> Code;
         pub fn chess_shipped_weights(weights: *mut f64, squares: *mut f64, w: usize) -> Code;
         pub fn chess_ledger_feed(state: *mut u64, line: *mut u8, l: usize, piece: *const u8, p: usize, out: *mut u8, o: usize, wrote: *mut usize) -> Code;
         pub fn chess_ledger_finish(state: *const u64, line: *const u8, l: usize, out: *mut u8, o: usize, wrote: *mut usize) -> Code;
@@ -417,6 +419,70 @@ impl Trace {
                 weights.named.as_ptr(), weights.squares.as_ptr(), 768, &mut value)
         };
         given(code, value)
+    }
+}
+
+impl Trace {
+    /// Adds the line's part to the sums of a gradient, with a coefficient of the caller's. TRACE, and then nothing is added.
+    pub fn add_gradient(&self, coefficient: f64, gradient: &mut [f64; WEIGHTS]) -> Result<(), Refusal> {
+        // SAFETY: the pointers are those of the arrays of two references, with their lengths.
+        let number = unsafe {
+            doors::chess_gradient_add(self.counts.as_ptr(), self.mobility.as_ptr(), self.sign, self.piece_count, self.entries.as_ptr(), 768,
+                coefficient, gradient.as_mut_ptr(), WEIGHTS)
+        };
+        given(number, ())
+    }
+}
+
+/// How many weights are fitted: the eleven that have a name, and the squares'.
+pub const WEIGHTS: usize = 779;
+
+/// What a fit keeps from iteration to iteration.
+///
+/// ```
+/// # use chess_scores::{read_line, Fit, Refusal, WEIGHTS};
+/// let (position, _) = read_line(b"4k3/8/8/8/8/8/4P3/4K3 w;1-0")?;
+/// let (mut fit, mut gradient) = (Fit::shipped(), [0.0; WEIGHTS]);
+/// position.trace()?.add_gradient(-0.001, &mut gradient)?;
+/// fit.step(&gradient, 1, 1.0)?;
+/// assert_eq!(fit.weights().named[0], 100.0); // the pawn never moves
+/// assert!(fit.weights().named[10] > 11.0); // White to move has won: the tempo is worth more
+/// # Ok::<(), Refusal>(())
+/// ```
+#[derive(Clone, Debug, PartialEq)]
+pub struct Fit {
+    pub first_moments: [f64; WEIGHTS],
+    pub second_moments: [f64; WEIGHTS],
+    /// In the order of `Weights`: the named ones, then the squares'.
+    pub weights: [f64; WEIGHTS],
+}
+
+impl Fit {
+    /// The weights that the score has, and moments of zeros.
+    pub fn shipped() -> Fit {
+        let Weights { named, squares } = Weights::shipped();
+        let mut fit = Fit { first_moments: [0.0; WEIGHTS], second_moments: [0.0; WEIGHTS], weights: [0.0; WEIGHTS] };
+        fit.weights[..11].copy_from_slice(&named);
+        fit.weights[11..].copy_from_slice(&squares);
+        fit
+    }
+
+    /// The step of an iteration, numbered from 1. ITERATION, and then nothing has changed.
+    pub fn step(&mut self, gradient: &[f64; WEIGHTS], iteration: u64, rate: f64) -> Result<(), Refusal> {
+        // SAFETY: the pointers are those of the arrays of two references, with their lengths.
+        let number = unsafe {
+            doors::chess_adam_step(gradient.as_ptr(), WEIGHTS, self.first_moments.as_mut_ptr(), WEIGHTS, self.second_moments.as_mut_ptr(), WEIGHTS,
+                self.weights.as_mut_ptr(), WEIGHTS, iteration, rate)
+        };
+        given(number, ())
+    }
+
+    /// The weights as a trace's double takes them.
+    pub fn weights(&self) -> Weights {
+        let mut weights = Weights { named: [0.0; 11], squares: [0.0; 768] };
+        weights.named.copy_from_slice(&self.weights[..11]);
+        weights.squares.copy_from_slice(&self.weights[11..]);
+        weights
     }
 }
 

@@ -140,3 +140,58 @@ fn a_panic_leaves_the_rows() {
     }));
     assert_eq!(rows, b"1 2 117\nx");
 }
+
+#[test]
+fn gradients() {
+    let trace = position(START).trace().unwrap();
+    let mut gradient = [0.0; WEIGHTS];
+    assert_eq!(trace.add_gradient(0.25, &mut gradient), Ok(()));
+    // as many pieces a side: of the named weights only the tempo's sum is raised
+    assert_eq!(gradient[..11], [0.0, 0.0, 0.0, 0.0, 0.0, 0.0, 0.0, 0.0, 0.0, 0.0, 0.25]);
+    let before = gradient;
+    let mut odd = trace.clone();
+    odd.entries[5] = 2;
+    assert_eq!(odd.add_gradient(1.0, &mut gradient), Err(Refusal::Trace));
+    assert_eq!(gradient, before);
+    // an infinite coefficient times a difference of zero is a NaN, and so is the sum
+    assert_eq!(trace.add_gradient(f64::INFINITY, &mut gradient), Ok(()));
+    assert!(gradient[0].is_nan() && gradient[10].is_infinite());
+    let mut short = [0.0; WEIGHTS - 1];
+    // SAFETY: the pointers are those of arrays, with their lengths.
+    let code = unsafe {
+        doors::chess_gradient_add(odd.counts.as_ptr(), odd.mobility.as_ptr(), odd.sign, odd.piece_count, odd.entries.as_ptr(), 768, 1.0,
+            short.as_mut_ptr(), short.len())
+    };
+    assert_eq!((code.number, short), (1, [0.0; WEIGHTS - 1]));
+}
+
+#[test]
+fn steps() {
+    let mut gradient = [0.0; WEIGHTS];
+    gradient[0] = 1.0;
+    gradient[1] = 1.0;
+    let shipped = Fit::shipped();
+    let mut fit = shipped.clone();
+    for iteration in [0, 1_000_001, u64::MAX] {
+        assert_eq!(fit.step(&gradient, iteration, 1.0), Err(Refusal::Iteration));
+        assert_eq!(fit, shipped);
+    }
+    assert_eq!(fit.step(&gradient, 1, 1.0), Ok(()));
+    assert_eq!((fit.weights[0], fit.first_moments[0], fit.second_moments[0]), (100.0, 0.0, 0.0));
+    // 1 − 0.9 and 1 − 0.999 are worked out, and no 0.1 and 0.001
+    assert_eq!((fit.first_moments[1], fit.second_moments[1]), (1.0 - 0.9, 1.0 - 0.999));
+    assert_eq!(fit.weights[1].to_bits(), (304.0f64 - 1.0 / (1.0 + 1e-8)).to_bits());
+    assert_eq!(fit.step(&gradient, 1_000_000, f64::NAN), Ok(()));
+    assert!(fit.weights[0] == 100.0 && fit.weights[1].is_nan());
+    for short in 0..4 {
+        let mut lists = [[0.0; WEIGHTS]; 4];
+        let length = |list: usize| if list == short { WEIGHTS - 1 } else { WEIGHTS };
+        let [gradient, first, second, weights] = &mut lists;
+        // SAFETY: the pointers are those of arrays that are at least as long.
+        let code = unsafe {
+            doors::chess_adam_step(gradient.as_ptr(), length(0), first.as_mut_ptr(), length(1), second.as_mut_ptr(), length(2), weights.as_mut_ptr(),
+                length(3), 0, 1.0)
+        };
+        assert_eq!(code.number, 1);
+    }
+}

@@ -1,4 +1,5 @@
-/* A line of a collection on the command line, what the library says of it: the position field, verdict or score, and the double of its trace. */
+/* A line of a collection on the command line, what the library says of it: the position field, verdict or score, the double of its trace, and what
+ * one step of a fit would make of the tempo's weight if the side to move were worth more. */
 #include "chess_scores.h"
 #include <stdio.h>
 #include <string.h>
@@ -52,6 +53,26 @@ static int print_double(const position *p)
     return 0;
 }
 
+static int print_step(const position *p)
+{
+    int32_t counts[CHESS_COUNTS], mobility[CHESS_COUNTS], sign, piece_count;
+    static int32_t entries[CHESS_ENTRIES];
+    static double gradient[CHESS_WEIGHTS], first[CHESS_WEIGHTS], second[CHESS_WEIGHTS], weights[CHESS_WEIGHTS];
+    enum { TEMPO = 10 };
+    uint8_t number = chess_compute_trace(p->bitboards, CHESS_BITBOARDS, p->board, CHESS_SQUARES, p->side, counts, mobility, &sign, &piece_count,
+                                         entries, CHESS_ENTRIES);
+    if (number == 0)
+        number = chess_shipped_weights(weights, weights + CHESS_NAMED_WEIGHTS, CHESS_SQUARE_WEIGHTS);
+    if (number == 0)
+        number = chess_gradient_add(counts, mobility, sign, piece_count, entries, CHESS_ENTRIES, -0.001, gradient, CHESS_WEIGHTS);
+    if (number == 0)
+        number = chess_adam_step(gradient, CHESS_WEIGHTS, first, CHESS_WEIGHTS, second, CHESS_WEIGHTS, weights, CHESS_WEIGHTS, 1, 1.0);
+    if (number != 0)
+        return refused("step", number);
+    printf("tempo %.3f\n", weights[TEMPO]);
+    return 0;
+}
+
 int main(int count, char **words)
 {
     if (count != 2) {
@@ -67,5 +88,5 @@ int main(int count, char **words)
         return refused("line", code);
     chess_part field = chess_position_field(line, length);
     printf("%.*s, %d half points\n", (int)field.length, words[1] + field.start, half_points);
-    return print_score(&p) | print_double(&p);
+    return print_score(&p) | print_double(&p) | print_step(&p);
 }

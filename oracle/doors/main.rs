@@ -1,7 +1,8 @@
 // A voice: the library itself, asked through its doors (include/). Questions on standard input, answers on standard output; with the
-// word `ledger`, a collection on standard input and its ledger on standard output.
+// word `ledger`, a collection on standard input and its ledger on standard output; with `tune ITERATIONS FILE`, a whole fit.
 #[path = "../../include/chess_scores.rs"]
 mod chess_scores;
+mod fit;
 #[path = "../harness/random.rs"]
 mod random;
 mod seeded;
@@ -33,6 +34,10 @@ impl Question<'_> {
 
     fn bitboard(&self, place: usize) -> u64 {
         self.numbers[place].parse().expect("a bitboard")
+    }
+
+    fn all_numbers(&self) -> Vec<u64> {
+        (0..self.numbers.len()).map(|place| self.bitboard(place)).collect()
     }
 
     fn position(&self) -> Result<Position, Refusal> {
@@ -107,6 +112,8 @@ fn of(asked: &Question) -> Answer {
         "wild" => return double(asked.byte(0), asked.bitboard(1), &seeded::trace(asked.bitboard(2))),
         "odd" => return odd(asked),
         "bent" => return bent(asked),
+        "fit" | "put" | "step" | "of" | "at" => return fit::answer(asked.word, &asked.all_numbers(), None),
+        "line" | "odd_line" => return fit::answer(asked.word, &asked.all_numbers(), Some(asked.position()?.trace()?)),
         _ if asked.line.is_empty() => "no door".to_string(),
         _ => return of_position(asked, asked.position()?),
     })
@@ -145,8 +152,13 @@ fn ledger() -> io::Result<()> {
 }
 
 fn main() -> io::Result<()> {
-    match std::env::args().nth(1).as_deref() {
-        Some("ledger") => ledger(),
+    let words: Vec<String> = std::env::args().skip(1).collect();
+    match words.iter().map(String::as_str).collect::<Vec<_>>().as_slice() {
+        ["ledger"] => ledger(),
+        ["tune", iterations, file] => {
+            let tuned = fit::tune(&std::fs::read_to_string(file)?, iterations.parse().expect("iterations"));
+            tuned.map_err(io::Error::other)
+        }
         _ => answer_all(),
     }
 }

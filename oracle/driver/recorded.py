@@ -8,6 +8,8 @@ FOLDER = voices.ORACLE / "recorded"
 SETS = {
     "recorded": ("questions.txt", "answers.txt", "families.txt"),
     "ruled": ("ruled-questions.txt", "ruled-answers.txt", None),
+    "fits": ("fits-questions.txt", "fits-answers.txt", None),
+    "ruled-fits": ("ruled-fits-questions.txt", "ruled-fits-answers.txt", None),
 }
 
 

@@ -3,6 +3,7 @@ use crate::attack::{piece_attacks, Attack, PAWN_ATTACKS};
 use crate::bitboard::{Bitboard, BitboardExt, BitboardIterator};
 use crate::common::{INF, PIECE_MASKS};
 use crate::eval::{self, Eval};
+use crate::fit;
 use crate::game::Game;
 use crate::piece::{KING, KNIGHT};
 use crate::piece_move::PieceMove;
@@ -118,6 +119,7 @@ fn of_no_position(asked: &Question) -> String {
         "reset" => changed(asked, BitboardExt::reset),
         "wild" => double(asked.byte(0), asked.bitboard(1), seeded::trace(asked.bitboard(2))),
         "odd" => odd(asked),
+        "fit" | "put" | "line" | "step" | "of" | "at" | "root" => fitted(asked),
         other => format!("unknown {}", other),
     }
 }
@@ -182,6 +184,12 @@ fn trace(mut trace: Trace) -> String {
     let set: Vec<i32> = (0..entries.len()).filter(|&place| entries[place] == 1).map(|place| place as i32).collect();
     let parts = numbers.iter().copied().chain([set.len() as i32]).chain(set.iter().copied());
     parts.map(|part| part.to_string()).collect::<Vec<_>>().join(" ")
+}
+
+/// Doubles stand as their bits.
+fn fitted(asked: &Question) -> String {
+    let numbers: Vec<u64> = (0..asked.numbers.len()).map(|place| asked.bitboard(place)).collect();
+    fit::answer(asked.word, &numbers, asked.game.as_ref())
 }
 
 fn odd(asked: &Question) -> String {

@@ -27,9 +27,11 @@ mod answer;
 mod ask;
 mod climb;
 mod families;
+mod fit;
 mod loader;
 mod placement;
 mod play;
+mod powers;
 mod random;
 mod seeded;
 mod weight;
@@ -62,6 +64,10 @@ fn usage() -> ! {
     eprintln!("answer                    questions on standard input, answers on standard output");
     eprintln!("generate SEED FIRST COUNT questions about positions FIRST.. of the seed, each behind its family");
     eprintln!("tables                    questions about every entry of every table");
+    eprintln!("fits                      questions of fits, one after the other");
+    eprintln!("powers ITERATIONS         powi against running products");
+    eprintln!("threads FILE              compute_gradient by several threads; FILE: lines HALF-POINTS POSITION");
+    eprintln!("tune ITERATIONS FILE      the weights after each iteration of tune, in one number each");
     eprintln!("load_epd_lines FILE DIR   load_epd on each line of FILE by itself; DIR: a scratch folder");
     eprintln!("load_epd THREADS FILE     load_epd on the whole file");
     std::process::exit(2)
@@ -76,6 +82,10 @@ fn main() -> io::Result<()> {
         ["answer"] => answer_all(),
         ["generate", seed, first, count] => print_questions(ask::questions(number(seed), number(first), number(count))),
         ["tables"] => print_questions(ask::tables()),
+        ["fits"] => Ok(fit::questions()),
+        ["powers", iterations] => Ok(powers::powers(number(iterations) as usize)),
+        ["threads", file] => Ok(powers::threads(&std::fs::read_to_string(file)?)),
+        ["tune", iterations, file] => Ok(powers::tuned(&std::fs::read_to_string(file)?, number(iterations) as usize, 1.0)),
         ["load_epd_lines", file, scratch] => loader::each_line(file, scratch),
         ["load_epd", threads, file] => loader::whole(number(threads) as usize, file),
         _ => usage(),

@@ -6,10 +6,11 @@ from functools import lru_cache
 
 from . import attack, bitboard, exchange, score
 from .double import Weights, trace_eval
+from .fit import WEIGHTS, Fit, adam_step, gradient_add, root
 from .line import read_line
 from .position import Position, placed
 from .refusal import SCORE, Refused
-from .seeded import odd_trace, seeded_trace, seeded_weights, to_bits
+from .seeded import from_bits, odd_trace, seeded_trace, seeded_weights, stirred, to_bits
 from .square_weights import PST
 from .trace import NUMBERS, compute_trace, exact_sum, flattened
 
@@ -40,9 +41,12 @@ def traced(position):
     return numbers(listed[:NUMBERS] + [len(set_places)] + set_places)
 
 
+def bits(number):
+    return "nan" if math.isnan(number) else to_bits(number)
+
+
 def double(kind, seed, trace):
-    result = trace_eval(trace, *weights_of(kind, seed))
-    return "nan" if math.isnan(result) else to_bits(result)
+    return bits(trace_eval(trace, *weights_of(kind, seed)))
 
 
 def next_square(board):
@@ -57,6 +61,47 @@ def bent(index, bits, square, byte, position):
     board[square] = byte
     return score.eval_position(Position(bitboards, board, position.side))
 
+
+class Fitting:
+    """The fit that questions go on with, one after the other."""
+
+    def __init__(self):
+        self.fit = Fit()
+
+    def begun(self, _k):
+        self.fit = Fit()
+        return "done"
+
+    def put(self, which, place, number):
+        numbers = self.fit.lists[which]
+        for changed in [place] if place < WEIGHTS else range(WEIGHTS):
+            numbers[changed] = from_bits(number)
+        return "done"
+
+    def line(self, coefficient, _result, position):
+        return self.added(compute_trace(position), from_bits(coefficient), self.fit.lists[0])
+
+    def odd_line(self, coefficient, entry, pieces, position):
+        trace = compute_trace(position)
+        trace.entries[0], trace.pieces = (number if number < 1000 else -1 for number in (entry, pieces))
+        return self.added(trace, from_bits(coefficient), self.fit.lists[0])
+
+    def added(self, trace, coefficient, sums):
+        gradient_add(trace, coefficient, sums)
+        return "done"
+
+    def step(self, rate, iteration):
+        adam_step(*self.fit.lists, iteration, from_bits(rate))
+        return "done"
+
+    def whole(self, which):
+        return stirred(self.fit.lists[which])
+
+    def at(self, which, place):
+        return bits(self.fit.lists[which][place])
+
+
+FITTING = Fitting()
 
 WORDS = {
     "eval": score.eval_position,
@@ -75,6 +120,14 @@ WORDS = {
     "wild": lambda kind, seed, trace_seed: double(kind, seed, seeded_trace(trace_seed)),
     "odd": lambda place, value, kind, seed, trace_seed: double(kind, seed, odd_trace(trace_seed, place, value)),
     "bent": bent,
+    "fit": FITTING.begun,
+    "put": FITTING.put,
+    "line": FITTING.line,
+    "odd_line": FITTING.odd_line,
+    "step": FITTING.step,
+    "of": FITTING.whole,
+    "at": FITTING.at,
+    "root": lambda number: bits(root(from_bits(number))),
     "piece_attacks": attack.piece_attacks,
     "pst": lambda piece, square, phase: PST[piece][square][phase],
     "knight": lambda square: attack.KNIGHT_STEPS[square],

@@ -8,6 +8,7 @@ from .trace import ENTRIES, flattened, unflattened
 WORD = 2**64 - 1
 FRACTION = 2**52 - 1
 SIGN = 2**63
+NAN = 0x7FF8000000000000
 
 # By kind: the lowest exponent field, how many from it, one special in so many (0: none).
 KINDS = {1: (1019, 16, 0), 2: (0, 2047, 64), 3: (0, 1, 0), 4: (2034, 4, 0), 5: (1019, 16, 256)}
@@ -27,6 +28,14 @@ def stream(state):
         state ^= state >> 7
         state ^= state << 17 & WORD
         yield state
+
+
+def stirred(numbers):
+    """All doubles of a list in one number: from 1 on, each one's bits xored in and a draw made."""
+    state = 1
+    for number in numbers:
+        state = next(stream(state ^ (NAN if number != number else to_bits(number))))
+    return state
 
 
 def from_bits(bits):

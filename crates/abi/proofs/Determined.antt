@@ -1,5 +1,5 @@
 -- Each door is determined by its promise: two results that it allows are equal, and so is every lent number afterwards. Assumes nothing.
-use mathlib.Core.Path.{_≡_}
+use mathlib.Core.Path.{_≡_, ap}
 use mathlib.Core.Bool.{Bool}
 use mathlib.Core.List.{List}
 use Prim.Native.Nat.{ℕ}
@@ -7,7 +7,8 @@ use lib.Ieee.{Float}
 use lib.IntN.{ℤ}
 use Rattle.refusal.specs.Answer.{Answer}
 use Rattle.refusal.proofs.Paper.{one}
-use Rattle.abi.specs.Promises.{Door, Doors, EvalsEnding, EvalsMaterial, Evals, PieceAttacks, AttacksTo, IsAttacked, IsCheck, Lvp, See, ComputesTrace, EvalsTrace, Ships, ReadsLine, GivesPart, FeedsLedger, FinishesLedger}
+use Rattle.abi.specs.Promises.{Door, Doors, EvalsEnding, EvalsMaterial, Evals, PieceAttacks, AttacksTo, IsAttacked, IsCheck, Lvp, See, ComputesTrace, EvalsTrace, AddsGradient, StepsAdam, Ships, ReadsLine, GivesPart, FeedsLedger, FinishesLedger}
+use Rattle.fit_adam.specs.Adam.{Fit}
 use Rattle.line.specs.declared.Part.{Part}
 use Rattle.abi.specs.declared.Code.{Code}
 
@@ -78,6 +79,17 @@ pub trace-eval : (counts mobility : List ℤ) (sign pieces : ℤ) (entries : Lis
     → EvalsTrace counts mobility sign pieces entries weights squares value r v
     → EvalsTrace counts mobility sign pieces entries weights squares value s w → (r ≡ s) × (v ≡ w)
 trace-eval counts mobility sign pieces entries weights squares value r s v w = door
+
+pub gradient-add : (counts mobility : List ℤ) (sign pieces : ℤ) (entries : List ℤ) (c : Float) (gradient : List Float) (r s : Code) (g h : List Float)
+    → AddsGradient counts mobility sign pieces entries c gradient r g → AddsGradient counts mobility sign pieces entries c gradient s h → (r ≡ s) × (g ≡ h)
+gradient-add counts mobility sign pieces entries c gradient r s g h = door
+
+pub adam-step : (gradient m v weights : List Float) (iteration : ℕ) (rate : Float) (r s : Code) (m₁ v₁ w₁ m₂ v₂ w₂ : List Float)
+    → StepsAdam gradient m v weights iteration rate r m₁ v₁ w₁ → StepsAdam gradient m v weights iteration rate s m₂ v₂ w₂
+    → (r ≡ s) × (m₁ ≡ m₂) × (v₁ ≡ v₂) × (w₁ ≡ w₂)
+adam-step gradient m v weights iteration rate r s m₁ v₁ w₁ m₂ v₂ w₂ p q =
+    let e = one (p .lent) (q .lent) in
+    (one (p .code) (q .code), ap (λ (x : Fit). x .m) e, ap (λ (x : Fit). x .v) e, ap (λ (x : Fit). x .weights) e)
 
 pub shipped-weights : (weights squares : List Float) (r s : Code) (v w y z : List Float)
     → Ships weights squares r v y → Ships weights squares s w z → (r ≡ s) × (v ≡ w) × (y ≡ z)

@@ -1,3 +1,4 @@
 pub mod Passed
 pub mod Fed
+pub mod Fitted
 pub mod Determined

@@ -25,6 +25,8 @@ use Rattle.trace_double.specs.Promises.{doubleOf}
 use Rattle.trace.specs.Promises.{tracedOf, entriesAfter}
 use Rattle.trace_shipped.specs.Promises.{writtenOf, squaresAfter}
 use Rattle.trace_shipped.specs.Weights.{shipped}
+use Rattle.fit_gradient.specs.Promises.{addedOf}
+use Rattle.fit_adam.specs.Promises.{fit, fitAfter, stepOf}
 use Rattle.abi.specs.Doors.{codeOf, after, verdictCode, outcomeVerdict, outcomeScore, anyone, squareOr}
 use Rattle.abi_records.specs.Records.{countsOf, traceOf, namedOf, weightsOf}
 use Rattle.abi.specs.declared.Code.{Code}
@@ -95,6 +97,15 @@ pub record ComputesTrace (bitboards board : List ℕ) (side : ℕ) (counts mobil
 abbrev pub EvalsTrace : List ℤ → List ℤ → ℤ → ℤ → List ℤ → List Float → List Float → Float → Code → Float → Type 0
 EvalsTrace counts mobility sign pieces entries weights squares value r value′ =
     Door (doubleOf (traceOf counts mobility sign pieces) entries (weightsOf weights) squares) same value r value′
+
+-- ---- the fitting step
+abbrev pub AddsGradient : List ℤ → List ℤ → ℤ → ℤ → List ℤ → Float → List Float → Code → List Float → Type 0
+AddsGradient counts mobility sign pieces entries c gradient r gradient′ =
+    Door (addedOf (traceOf counts mobility sign pieces) entries c gradient) same gradient r gradient′
+
+pub record StepsAdam (gradient m v weights : List Float) (iteration : ℕ) (rate : Float) (r : Code) (m′ v′ weights′ : List Float) : Type 0 where
+  pub code : r ≡ codeOf (stepOf gradient (fit m v weights) iteration rate)
+  pub lent : fit m′ v′ weights′ ≡ fitAfter (stepOf gradient (fit m v weights) iteration rate) (fit m v weights)
 
 pub record Ships (weights squares : List Float) (r : Code) (weights′ squares′ : List Float) : Type 0 where
   pub code : r ≡ codeOf (writtenOf squares)

@@ -6,6 +6,7 @@ use refusal::Refusal;
 
 pub mod attacks;
 pub mod exchanges;
+pub mod fits;
 pub mod ledgers;
 pub mod lines;
 pub mod scores;

@@ -11,7 +11,7 @@ use Rattle.laws.specs.Tables.{tabulate}
 use Rattle.laws.specs.Tests.{allBelow}
 use Rattle.refusal.specs.Answer.{Answer, given, refused}
 use Rattle.trace_counts.specs.Ranges.{inRanges, areEntries}
-use Rattle.trace_named.specs.Doubles.{d0, d2, d10, d32, dbl}
+use Rattle.doubles.specs.Doubles.{d0, d2, d10, d32, dbl}
 use Rattle.trace_named.specs.Named.{named}
 use Rattle.trace_double.specs.Double.{added, folded, double}
 use Rattle.trace_double.specs.Promises.{doubleOf}

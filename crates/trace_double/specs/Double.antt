@@ -9,7 +9,7 @@ use lib.Signed.{ltZ}
 use lib.ListN.{getD}
 use lib.Ieee.{Float, nan}
 use Rattle.places.specs.Places.{weightPlace, kindAt, squareAt, colourAt}
-use Rattle.trace_named.specs.Doubles.{_⊕_, _⊖_, _⊗_, _⊘_, dbl, d2, d32}
+use Rattle.doubles.specs.Doubles.{_⊕_, _⊖_, _⊗_, _⊘_, dbl, d2, d32}
 use Rattle.trace_named.specs.Named.{named}
 use Rattle.trace_counts.specs.declared.Weights.{Weights}
 use Rattle.trace_counts.specs.declared.Trace.{Trace}

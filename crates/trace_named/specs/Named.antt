@@ -6,7 +6,7 @@ use Prim.Native.Nat.{ℕ, _+_, _*_}
 use lib.IntN.{ℤ, pos, _-ℤ_}
 use lib.ListN.{getD}
 use lib.Ieee.{Float}
-use Rattle.trace_named.specs.Doubles.{_⊕_, _⊖_, _⊗_, _⊘_, dbl, d0, d10}
+use Rattle.doubles.specs.Doubles.{_⊕_, _⊖_, _⊗_, _⊘_, dbl, d0, d10}
 use Rattle.trace_counts.specs.declared.Weights.{Weights}
 use Rattle.trace_counts.specs.declared.Trace.{Trace}
 

@@ -16,7 +16,7 @@ use Rattle.chess.specs.Codes.{whiteOf, codeOf}
 use Rattle.chess.proofs.Codes.{white-le}
 use Rattle.score_pst.specs.Pst.{pstOf, pstTable, weightIn}
 use Rattle.score_pst.proofs.Table.{table-at, small}
-use Rattle.trace_named.specs.Doubles.{dbl}
+use Rattle.doubles.specs.Doubles.{dbl}
 use Rattle.trace_shipped.specs.Weights.{squareWeight, shippedSquares}
 
 -- a weight of the table, as it is read

@@ -11,7 +11,7 @@ use Rattle.chess.specs.Values.{valueOf}
 use Rattle.score_taper.specs.Parts.{tempoValue}
 use Rattle.score_material.specs.Material.{pairValue}
 use Rattle.score_tally.specs.Mobility.{factorOf}
-use Rattle.trace_named.specs.Doubles.{dbl}
+use Rattle.doubles.specs.Doubles.{dbl}
 use Rattle.trace_counts.specs.declared.Weights.{Weights}
 
 -- "a square weight at 128·kind + 64·phase + square": what stands at i

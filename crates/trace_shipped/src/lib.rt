@@ -3,7 +3,7 @@ ghost use mathlib.Core.Path.{_≡_};
 ghost use Prim.Native.Nat.{_<_};
 ghost use lib.ListN.{length};
 ghost use Rattle.score_pst.specs.Pst.{pstTable};
-ghost use Rattle.trace_named.specs.Doubles.{dbl};
+ghost use Rattle.doubles.specs.Doubles.{dbl};
 ghost use Rattle.trace_shipped.specs.Weights.{squareWeight, shippedSquares};
 ghost use Rattle.trace_shipped.specs.Promises.{Ships, ShipsSquares};
 use chess::kind::Kind;

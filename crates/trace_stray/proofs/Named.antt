@@ -16,7 +16,7 @@ use Rattle.laws.proofs.Diff.{Diff, up, dn, diff-of, diff-pos, diff-add, diff-mi
 use Rattle.chess.specs.Values.{valueOf}
 use Rattle.score_tally.specs.Mobility.{factorOf}
 use Rattle.trace_counts.specs.declared.Trace.{Trace}
-use Rattle.trace_named.specs.Doubles.{dbl, d0, d10}
+use Rattle.doubles.specs.Doubles.{dbl, d0, d10}
 use Rattle.trace_named.specs.Named.{counted, moved, attacked, named}
 use Rattle.trace_shipped.specs.Weights.{shipped}
 use Rattle.trace_exact.specs.Exact.{difference, countsOf}

@@ -15,7 +15,7 @@ use Rattle.chess.specs.Codes.{codeOf}
 use Rattle.chess.proofs.Codes.{white-le}
 use Rattle.score_pst.proofs.Table.{small}
 use Rattle.places.specs.Places.{weightPlace, kindAt, squareAt, colourAt}
-use Rattle.trace_named.specs.Doubles.{_⊕_, _⊖_, _⊗_, dbl, d2, d32}
+use Rattle.doubles.specs.Doubles.{_⊕_, _⊖_, _⊗_, dbl, d2, d32}
 use Rattle.trace_shipped.specs.Weights.{squareWeight, shippedSquares}
 use Rattle.trace_double.specs.Double.{weightAt, between, added}
 use Rattle.trace_rounding.proofs.Doubles.{Exactly, exactly-int, exactly-add, exactly-sub, exactly-mul, Nearly, nearly-add, nearly-sub, nearly-minus-thirtieth, nearly-once}

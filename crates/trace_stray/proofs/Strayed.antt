@@ -22,7 +22,7 @@ use Rattle.trace_counts.specs.declared.Trace.{Trace}
 use Rattle.trace.specs.Trace.{traceOf, entriesOf}
 use Rattle.trace.proofs.Planes.{entries-length}
 use Rattle.trace_shipped.specs.Weights.{squareWeight, shipped, shippedSquares}
-use Rattle.trace_named.specs.Doubles.{dbl}
+use Rattle.doubles.specs.Doubles.{dbl}
 use Rattle.trace_double.specs.Double.{double}
 use Rattle.trace_double.specs.Promises.{doubleOf}
 use Rattle.trace_exact.specs.Exact.{shippedWhole, exactSum}

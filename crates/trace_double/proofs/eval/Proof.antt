@@ -8,7 +8,7 @@ use lib.ListN.{length}
 use lib.Ieee.{Float}
 use Rattle.refusal.specs.Answer.{given, refused}
 use Rattle.trace_counts.specs.Ranges.{inRanges, areEntries}
-use Rattle.trace_named.specs.Doubles.{dbl}
+use Rattle.doubles.specs.Doubles.{dbl}
 use Rattle.trace_named.specs.Named.{named}
 use Rattle.trace_double.specs.Double.{folded, double}
 use Rattle.trace_double.specs.Promises.{doubleOf}

@@ -5,7 +5,7 @@ use native.Mathlib.Omega.{arith}
 use lib.Ieee.{nan}
 use lib.ListN.{length, getD, length-set}
 use Rattle.laws.proofs.Tables.{set-more}
-use Rattle.trace_named.specs.Doubles.{dbl}
+use Rattle.doubles.specs.Doubles.{dbl}
 use Rattle.trace_shipped.specs.Weights.{squareWeight}
 use Rattle.trace_shipped.proofs.Weighed.{shipped-all}
 use Rattle.trace_shipped.proofs.fill.Statement.{statement}

@@ -22,9 +22,15 @@ infixl 7 _⊘_
 abbrev pub dbl : ℤ → Float
 dbl z = ofInt binary64 z
 
--- 0, 2, 10 and 32, by their bits
+-- 0, 1, -1, 2, 10 and 32, by their bits
 abbrev pub d0 : Float
 d0 = ofBits binary64 0
+
+abbrev pub d1 : Float
+d1 = ofBits binary64 0x3ff0_0000_0000_0000
+
+abbrev pub minus1 : Float
+minus1 = ofBits binary64 0xbff0_0000_0000_0000
 
 abbrev pub d2 : Float
 d2 = ofBits binary64 0x4000_0000_0000_0000

@@ -1,0 +1,21 @@
+-- The public function is determined by its promise: two results and memories that it allows are equal, two NaNs being one. Assumes nothing.
+use mathlib.Core.Path.{_≡_, refl, ap}
+use mathlib.Core.List.{List}
+use lib.IntN.{ℤ}
+use lib.Ieee.{Float}
+use Rattle.refusal.proofs.Paper.{one, retract, readBack, number-back}
+use Rattle.trace_counts.specs.declared.Trace.{Trace}
+use Rattle.fit_gradient.specs.Promises.{paper, Adds}
+use Rattle.fit_gradient.specs.declared.Added.{Added}
+use Rattle.fit_gradient.specs.declared.Added.the-variants.{Done, Refused}
+
+abbrev done : Unit {0} → Added
+done u = Done
+
+paper-back : (r : Added) → readBack done Refused (paper r) ≡ r
+paper-back Done = refl
+paper-back (Refused q) = ap Refused (number-back q)
+
+pub add : (t : Trace) (entries : List ℤ) (c : Float) (before : List Float) (r s : Added) (after last : List Float) → Adds t entries c before r after
+    → Adds t entries c before s last → (r ≡ s) × (after ≡ last)
+add t entries c before r s after last p q = (retract paper (readBack done Refused) paper-back r s (one (p .answer) (q .answer)), one (p .lent) (q .lent))

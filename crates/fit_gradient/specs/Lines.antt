@@ -1,0 +1,37 @@
+-- The gradient of a collection, by document 02, W-211: "The gradient is summed in line order". Definitions only.
+use mathlib.Core.Path.{_≡_}
+use mathlib.Core.Bool.{true, _&&_}
+use mathlib.Core.List.{List, [], _∷_}
+use lib.IntN.{ℤ}
+use lib.ListN.{length}
+use lib.Ieee.{Float}
+use Rattle.trace_counts.specs.Ranges.{inRanges, areEntries}
+use Rattle.trace_counts.specs.declared.Trace.{Trace}
+use Rattle.fit_gradient.specs.Gradient.{lineAdded}
+use Rattle.fit_gradient.specs.Promises.{addedOf, gradientAfter}
+
+-- a line's trace, its entries, and the coefficient that the caller supplies
+pub record Line : Type 0 where
+  pub trace : Trace
+  pub entries : List ℤ
+  pub coefficient : Float
+
+-- lines that are not refused
+pub record Good (l : Line) : Type 0 where
+  pub shaped : length (l .entries) ≡ 768
+  pub traced : (inRanges (l .trace) && areEntries (l .entries)) ≡ true
+
+pub data AllGood : List Line → Type 0 where
+  none : AllGood []
+  more : {l : Line} {ls : List Line} → Good l → AllGood ls → AllGood (l ∷ ls)
+
+-- what calls of `add` leave, one for each line, in order
+unfoldable pub fed : List Float → List Line → List Float
+fed g [] = g
+fed g (l ∷ ls) = fed (gradientAfter (addedOf (l .trace) (l .entries) (l .coefficient) g) g) ls
+
+-- the sum in line order
+unfoldable pub summed : List Float → List Line → List Float
+unfolding lineAdded
+summed g [] = g
+summed g (l ∷ ls) = summed (lineAdded (l .trace) (l .entries) (l .coefficient) g) ls

@@ -1,0 +1,57 @@
+-- `replay_fits::lists::name` is safe and ends. Assumes nothing.
+use Prim.Native.Nat.{_≤_, _<_, _+_, _-_}
+use native.Mathlib.Omega.{arith}
+use mathlib.Core.Path.{_≡_}
+use lib.ListN.{length}
+use borrow.Author.Needs.{needs}
+use Rattle.replay_fits.proofs.lists.name.Statement.{statement}
+use Rattle.replay_fits.proofs.lists.name.Tie as tie
+
+abbrev Inv-loop : tie.InvT-loop
+Inv-loop named weights₀ i₀ weights i = (i ≤ 11) × (length weights ≡ length weights₀)
+
+abbrev μ-loop : tie.MeasureT-loop
+μ-loop named weights₀ i₀ weights i = 11 - i
+
+loop-holds : tie.Need-loop-holds Inv-loop μ-loop
+loop-holds c = search needs
+
+mul-put : tie.Need-mul-put Inv-loop μ-loop
+mul-put c = search needs
+
+element-copy-out-put : tie.Need-element-copy-out-put Inv-loop μ-loop
+element-copy-out-put c = search needs
+
+put-requires : tie.Need-put-requires Inv-loop μ-loop
+put-requires c κs = search needs
+
+add-i : tie.Need-add-i Inv-loop μ-loop
+add-i c = search needs
+
+loop-less : tie.Need-loop-less Inv-loop μ-loop
+loop-less c = search needs
+
+loop-again : tie.Need-loop-again Inv-loop μ-loop
+loop-again c = search needs
+
+same-length : tie.Need-same-length Inv-loop μ-loop
+same-length c = search needs
+
+returns : tie.Need-returns Inv-loop μ-loop
+returns c = search needs
+
+pub name-spec : {M : Type 1} → statement M
+name-spec =
+    tie.close
+    (tie.spec
+    Inv-loop
+    μ-loop
+    loop-holds
+    mul-put
+    element-copy-out-put
+    put-requires
+    add-i
+    loop-less
+    loop-again
+    same-length
+    returns)

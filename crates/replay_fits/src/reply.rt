@@ -1,0 +1,41 @@
+// What there is to say to a question, and how it is written.
+use refusal::Refusal;
+
+pub(crate) enum Reply {
+    Done,
+    Refused(Refusal),
+    Number(u64),
+    Double(f64),
+}
+
+// The answer as a line of standard output.
+pub(crate) fn print(reply: Reply) {
+    match reply {
+        Reply::Done => write(b"done"),
+        Reply::Refused(r) => refused(r),
+        Reply::Number(n) => natural(n),
+        Reply::Double(x) => bits(x),
+    }
+    write(b"\n");
+}
+
+fn write(text: &[u8]) {
+    io::write_all(libc::STDOUT_FILENO, text);
+}
+
+fn natural(n: u64) {
+    io::print_decimal(libc::STDOUT_FILENO, n);
+}
+
+fn refused(r: Refusal) {
+    write(b"refused ");
+    natural(r.number() as u64);
+}
+
+// The bits of a double, but a NaN has many.
+fn bits(x: f64) {
+    if x != x {
+        return write(b"nan");
+    }
+    natural(f64::to_bits(x))
+}

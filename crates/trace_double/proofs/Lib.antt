@@ -1,2 +1,4 @@
+pub mod Marks
+pub mod Tested
 pub mod Folds
 pub mod Determined

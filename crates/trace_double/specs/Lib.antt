@@ -1,2 +1,3 @@
 pub mod Double
+pub mod Marks
 pub mod Promises

@@ -6,6 +6,7 @@ use borrow.Author.Tests.{eq-eqb, ne-eqb}
 use lib.IntN.{ℤ}
 use lib.ListN.{length}
 use lib.Ieee.{Float}
+use Rattle.laws.proofs.Truth.{true-T, T-true, and-r}
 use Rattle.refusal.specs.Answer.{given, refused}
 use Rattle.trace_counts.specs.Ranges.{inRanges, areEntries}
 use Rattle.doubles.specs.Doubles.{dbl}
@@ -43,11 +44,11 @@ returns c = simp (ne-eqb _ _ (c .if1 .taken))
 returns-2 : tie.Need-returns-2
 returns-2 c = simp (eq-eqb _ _ (c .before .if1 .left), ne-eqb _ _ (c .if2 .taken))
 
+seen-requires : tie.Need-seen-requires
+seen-requires c κs = search needs
+
 in-ranges-requires : tie.Need-in-ranges-requires
 in-ranges-requires c κs = search needs
-
-are-entries-requires : tie.Need-are-entries-requires
-are-entries-requires c κs = search needs
 
 int-to-float-x : tie.Need-int-to-float-x
 int-to-float-x c = search needs
@@ -56,29 +57,35 @@ sum-requires : tie.Need-sum-requires
 sum-requires c κs = search needs
 
 entries-added-requires : tie.Need-entries-added-requires
-entries-added-requires c κs = search needs
+entries-added-requires c κs =
+    let then = c .before .before .before in
+    let w = then .before .before in
+    let two = w .before .before in
+    let v = w .before .seen in
+    (two .if2 .left, two .before .if1 .left, sym (v .ensures .0) ∙ T-true (v .result .entries) (and-r (w .in-ranges .result) (v .result .entries) (true-T (then .if3 .taken))), v .ensures .1)
 
 returns-3 : tie.Need-returns-3
 returns-3 c =
     let n = c .before in
     let told = n .before in
-    let w = told .before .before .before in
+    let then = told .before .before in
+    let w = then .before .before in
     let two = w .before .before in
     let s = two .before .before .before in
     let t = s .args .trace in
     let x = read (t .«piece_count») (told .struct-told .given .1 .1 .1 .1 .1 .1 .1 .1 .0 .1) in
     passed t (s .args .entries .now) (s .args .weights) (s .args .squares .now) (two .before .if1 .left) (two .if2 .left)
-    (tested t (s .args .entries .now) (w .before .in-ranges .ensures) (w .are-entries .ensures) (told .before .before .if3 .taken))
+    (tested t (s .args .entries .now) (w .in-ranges .ensures) (w .before .seen .ensures .0) (then .if3 .taken))
     (worked t (s .args .entries .now) (s .args .weights) (s .args .squares .now) x (n .sum .ensures) (c .entries-added .ensures))
 
 returns-4 : tie.Need-returns-4
 returns-4 c =
-    let w = c .before in
+    let w = c .before .before in
     let two = w .before .before in
     let s = two .before .before .before in
     let t = s .args .trace in
     failed t (s .args .entries .now) (s .args .weights) (s .args .squares .now) (two .before .if1 .left) (two .if2 .left)
-    (tested t (s .args .entries .now) (w .before .in-ranges .ensures) (w .are-entries .ensures) (c .if3 .left))
+    (tested t (s .args .entries .now) (w .in-ranges .ensures) (w .before .seen .ensures .0) (c .if3 .left))
 
 pub eval-spec : {M : Type 1} → statement M
 eval-spec =
@@ -86,8 +93,8 @@ eval-spec =
     (tie.spec
     returns
     returns-2
+    seen-requires
     in-ranges-requires
-    are-entries-requires
     int-to-float-x
     sum-requires
     entries-added-requires

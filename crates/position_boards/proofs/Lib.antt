@@ -3,8 +3,8 @@ pub mod United
 pub mod Crowded
 pub mod Tested
 pub mod Places
+pub mod Planes
 pub mod Copied
-pub mod Sorting
 pub mod Made
 pub mod Determined
 pub mod Examples

@@ -2,3 +2,4 @@ pub mod Sound
 pub mod Boards
 pub mod Promises
 pub mod Tested
+pub mod Planes

@@ -1,78 +1,47 @@
--- `position_boards::sorted` meets its contract: after k bytes the first k are sorted. Assumes nothing.
-use mathlib.Core.Path.{_≡_, refl, _∙_}
-use Prim.Native.Nat.{_≤_, _-_, _%_, _^_}
-use native.Mathlib.Numerals.{add-one}
-use native.Mathlib.Omega.{arith}
+-- `position_boards::sorted` meets its contract. Assumes nothing.
+use mathlib.Core.Path.{ap, _∙_}
+use mathlib.Core.List.{List}
+use Prim.Native.Nat.{ℕ}
+use lib.ListN.{getD}
 use borrow.Author.Needs.{needs}
-use Rattle.laws.specs.Tables.{tabulate}
-use Rattle.bits.proofs.Filled.{rising}
-use Rattle.position_boards.proofs.Sorting.{sortedTo, none-sorted, one-sorted, all-sorted}
+use Rattle.laws.proofs.Tables.{entry}
+use Rattle.position_boards.specs.Planes.{Sliced, rankWord}
+use Rattle.position_boards.proofs.Planes.{sliced-same, sorted-from}
 use Rattle.position_boards.proofs.sorted.Statement.{statement}
 use Rattle.position_boards.proofs.sorted.Tie as tie
 
-abbrev Inv-loop : tie.InvT-loop
-Inv-loop board squares₀ square₀ k₀ squares square k = (k ≤ 64) × (squares ≡ sortedTo board k) × (square ≡ 2 ^ k % 2 ^ 64)
+words-requires : tie.Need-words-requires
+words-requires c κs = search needs
 
-abbrev μ-loop : tie.MeasureT-loop
-μ-loop board squares₀ square₀ k₀ squares square k = 64 - k
+sliced-requires : tie.Need-sliced-requires
+sliced-requires c κs = search needs
 
-loop-holds : tie.Need-loop-holds Inv-loop μ-loop
-unfolding tabulate
-loop-holds c = (omega arith, none-sorted (c .args .board .now), refl)
+-- the planes are those of the board's own words
+planes : (c : tie.After-sliced) → Sliced (rankWord (c .before .before .before .args .board .now)) 8 (c .sliced .result .a) (c .sliced .result .b) (c .sliced .result .c) (c .sliced .result .d) (c .sliced .result .all)
+planes c =
+    let m = c .before .before in
+    let bytes = m .before .args .board .now in
+    let r = c .sliced .result in
+    sliced-same (λ i. getD (m .words .result) i 0) (rankWord bytes) (r .a) (r .b) (r .c) (r .d) (r .all)
+    (λ i h. ap (λ (l : List ℕ). getD l i 0) (m .words .ensures .0) ∙ entry 8 (rankWord bytes) 0 i h) (c .sliced .ensures)
 
-element-copy-out-place : tie.Need-element-copy-out-place Inv-loop μ-loop
-element-copy-out-place c = search needs
+above-requires : tie.Need-above-requires
+above-requires c κs = (c .before .before .words .ensures .1, planes c .covers)
 
-place-requires : tie.Need-place-requires Inv-loop μ-loop
-place-requires c κs = search needs
+parted-requires : tie.Need-parted-requires
+parted-requires c κs = search needs
 
-mul-squares : tie.Need-mul-squares Inv-loop μ-loop
-mul-squares c = omega arith
-
-array-read-squares : tie.Need-array-read-squares Inv-loop μ-loop
-array-read-squares c = omega arith
-
-mul-squares-2 : tie.Need-mul-squares-2 Inv-loop μ-loop
-mul-squares-2 c = omega arith
-
-array-write-squares : tie.Need-array-write-squares Inv-loop μ-loop
-array-write-squares c = omega arith
-
-add-k : tie.Need-add-k Inv-loop μ-loop
-add-k c = search needs
-
-loop-less : tie.Need-loop-less Inv-loop μ-loop
-loop-less c = search needs
-
-loop-again : tie.Need-loop-again Inv-loop μ-loop
-loop-again c =
-    let l = c .before .before .before .loop in
-    let h = c .before .before .loop-test .taken in
-    let board = c .before .before .before .before .args .board .now in (
-      omega arith,
-      rw (c .place .ensures .0, l .inv .1, l .inv .2, add-one) (one-sorted board (l .k) h),
-      rw (l .inv .2, add-one) (rising (l .k) h),
-    )
-
-returns : tie.Need-returns Inv-loop μ-loop
+returns : tie.Need-returns
 returns c =
-    let l = c .before .loop in
-    l .inv .1 ∙ all-sorted (c .before .before .args .board .now) (l .k) (omega arith)
+    let h = c .before in
+    let v = h .before .sliced in
+    let m = h .before .before .before in
+    let bytes = m .before .args .board .now in
+    let t = planes (h .before) in
+    c .parted .ensures
+    ∙ sorted-from bytes (m .words .ensures .1) (v .result .a) (v .result .b) (v .result .c) (v .result .d) (h .above .result)
+    (t .first) (t .second) (t .third) (t .fourth) (h .above .ensures)
 
 pub sorted-spec : {M : Type 1} → statement M
 sorted-spec =
-    tie.close
-    (tie.spec
-    Inv-loop
-    μ-loop
-    loop-holds
-    element-copy-out-place
-    place-requires
-    mul-squares
-    array-read-squares
-    mul-squares-2
-    array-write-squares
-    add-k
-    loop-less
-    loop-again
-    returns)
+    tie.close (tie.spec words-requires sliced-requires above-requires parted-requires returns)

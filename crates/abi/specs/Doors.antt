@@ -20,17 +20,17 @@ abbrev pub code : ℕ → List ℕ → Code
 code n l = record { number = n; square = firstOr 255 l }
 
 -- the refusal's number and square, and 0 of an answer: no refusal has it
-abbrev pub codeOf : {A : Type 0} → Answer A → Code
-codeOf (given a) = code 0 []
-codeOf (refused n l) = code n l
+abbrev pub answerNumber : {A : Type 0} → Answer A → Code
+answerNumber (given a) = code 0 []
+answerNumber (refused n l) = code n l
 
 abbrev pub refusalCode : Refusal → Code
 refusalCode r = code (numberOf r) (besideOf r)
 
 -- what stands in lent memory afterwards: "Every refusal returns its number only .. and changes no lent byte"
-abbrev pub after : {A B : Type 0} → (A → B) → B → Answer A → B
-after part old (given a) = part a
-after part old (refused n l) = old
+abbrev pub lentAfter : {A B : Type 0} → (A → B) → B → Answer A → B
+lentAfter part old (given a) = part a
+lentAfter part old (refused n l) = old
 
 -- ---- a verdict's number, none 0
 abbrev pub verdictCode : P.Verdict → ℕ

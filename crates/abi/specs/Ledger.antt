@@ -12,22 +12,22 @@ use Rattle.abi.specs.declared.Code.{Code}
 abbrev pub flagOf : Bool → ℕ
 flagOf b = cond b 1 0
 
-abbrev pub stateOf : List ℕ → State
-stateOf l = record { held = getD l 0 0; cr = not (eqb (getD l 1 0) 0); loaded = getD l 2 0; refused = getD l 3 0 }
+abbrev pub stateFrom : List ℕ → State
+stateFrom l = record { held = getD l 0 0; cr = not (eqb (getD l 1 0) 0); loaded = getD l 2 0; refused = getD l 3 0 }
 
-abbrev pub numbersOf : State → List ℕ
-numbersOf s = s .held ∷ flagOf (s .cr) ∷ s .loaded ∷ s .refused ∷ []
+abbrev pub stateNumbers : State → List ℕ
+stateNumbers s = s .held ∷ flagOf (s .cr) ∷ s .loaded ∷ s .refused ∷ []
 
 -- the refusal's number and square, 254 for too little room, 255 for too many lines, and 0 of an answer
-abbrev pub codeOf : {A : Type 0} → Came A → Code
-codeOf (came a) = code 0 []
-codeOf (turned n l) = code n l
-codeOf full = code 254 []
-codeOf many = code 255 []
+abbrev pub cameNumber : {A : Type 0} → Came A → Code
+cameNumber (came a) = code 0 []
+cameNumber (turned n l) = code n l
+cameNumber full = code 254 []
+cameNumber many = code 255 []
 
 -- what stands in lent memory afterwards: as it was, unless there is an answer
-abbrev pub after : {A B : Type 0} → (A → B) → B → Came A → B
-after part old (came a) = part a
-after part old (turned n l) = old
-after part old full = old
-after part old many = old
+abbrev pub lentAfterCame : {A B : Type 0} → (A → B) → B → Came A → B
+lentAfterCame part old (came a) = part a
+lentAfterCame part old (turned n l) = old
+lentAfterCame part old full = old
+lentAfterCame part old many = old

@@ -23,12 +23,12 @@ use Rattle.score_material.specs.Material.{materialOf}
 use Rattle.trace_counts.specs.declared.Trace.{Trace}
 use Rattle.trace_double.specs.Promises.{doubleOf}
 use Rattle.trace.specs.Promises.{tracedOf, entriesAfter}
-use Rattle.trace_shipped.specs.Promises.{writtenOf, squaresAfter}
+use Rattle.trace_shipped.specs.Promises.{writtenAnswer, squaresAfter}
 use Rattle.trace_shipped.specs.Weights.{shipped}
 use Rattle.fit_gradient.specs.Promises.{addedOf}
-use Rattle.fit_adam.specs.Promises.{fit, fitAfter, stepOf}
-use Rattle.abi.specs.Doors.{codeOf, after, verdictCode, outcomeVerdict, outcomeScore, anyone, squareOr}
-use Rattle.abi_records.specs.Records.{countsOf, traceOf, namedOf, weightsOf}
+use Rattle.fit_adam.specs.Promises.{fitFrom, fitAfter, fitStep}
+use Rattle.abi.specs.Doors.{answerNumber, lentAfter, verdictCode, outcomeVerdict, outcomeScore, anyone, squareOr}
+use Rattle.abi_records.specs.Records.{countsOf, traceOfNumbers, namedOf, weightsOf}
 use Rattle.abi.specs.declared.Code.{Code}
 use Rattle.text_out.specs.Text.{writtenOf as bufferOf}
 use Rattle.ledger_feed.specs.Machine.{Machine}
@@ -36,18 +36,18 @@ use Rattle.ledger_feed.specs.Promises as Rows
 use Rattle.ledger_feed.specs.Promises.{feedOf, lineAfter, textAfter}
 use Rattle.ledger_finish.specs.Promises.{finishOf, lastText}
 use Rattle.abi.specs.Ledger as Ledger
-use Rattle.abi.specs.Ledger.{stateOf, numbersOf}
+use Rattle.abi.specs.Ledger.{stateFrom, stateNumbers}
 
 -- a door that lends one number: what comes back, and what it is afterwards
 pub record Door {A B : Type 0} (a : Answer A) (part : A → B) (old : B) (r : Code) (new : B) : Type 0 where
-  pub code : r ≡ codeOf a
-  pub lent : new ≡ after part old a
+  pub code : r ≡ answerNumber a
+  pub lent : new ≡ lentAfter part old a
 
 -- and one that lends two
 pub record Doors {A B C : Type 0} (a : Answer A) (first : A → B) (second : A → C) (old : B) (old2 : C) (r : Code) (new : B) (new2 : C) : Type 0 where
-  pub code : r ≡ codeOf a
-  pub lent : new ≡ after first old a
-  pub lent2 : new2 ≡ after second old2 a
+  pub code : r ≡ answerNumber a
+  pub lent : new ≡ lentAfter first old a
+  pub lent2 : new2 ≡ lentAfter second old2 a
 
 abbrev same : {A : Type 0} → A → A
 same a = a
@@ -87,38 +87,38 @@ See bitboards board side from to worth r worth′ = Door (seeOf bitboards board 
 -- ---- traces
 pub record ComputesTrace (bitboards board : List ℕ) (side : ℕ) (counts mobility : List ℤ) (sign pieces : ℤ) (entries : List ℤ)
     (r : Code) (counts′ mobility′ : List ℤ) (sign′ pieces′ : ℤ) (entries′ : List ℤ) : Type 0 where
-  pub code : r ≡ codeOf (tracedOf bitboards board (ofSide side) entries)
-  pub counted : counts′ ≡ after countsOf counts (tracedOf bitboards board (ofSide side) entries)
-  pub moved : mobility′ ≡ after (λ (t : Trace). t .mobility) mobility (tracedOf bitboards board (ofSide side) entries)
-  pub turn : sign′ ≡ after (λ (t : Trace). t .side) sign (tracedOf bitboards board (ofSide side) entries)
-  pub total : pieces′ ≡ after (λ (t : Trace). t .«piece_count») pieces (tracedOf bitboards board (ofSide side) entries)
+  pub code : r ≡ answerNumber (tracedOf bitboards board (ofSide side) entries)
+  pub counted : counts′ ≡ lentAfter countsOf counts (tracedOf bitboards board (ofSide side) entries)
+  pub moved : mobility′ ≡ lentAfter (λ (t : Trace). t .mobility) mobility (tracedOf bitboards board (ofSide side) entries)
+  pub turn : sign′ ≡ lentAfter (λ (t : Trace). t .side) sign (tracedOf bitboards board (ofSide side) entries)
+  pub total : pieces′ ≡ lentAfter (λ (t : Trace). t .«piece_count») pieces (tracedOf bitboards board (ofSide side) entries)
   pub marked : entries′ ≡ entriesAfter (tracedOf bitboards board (ofSide side) entries) bitboards entries
 
 abbrev pub EvalsTrace : List ℤ → List ℤ → ℤ → ℤ → List ℤ → List Float → List Float → Float → Code → Float → Type 0
 EvalsTrace counts mobility sign pieces entries weights squares value r value′ =
-    Door (doubleOf (traceOf counts mobility sign pieces) entries (weightsOf weights) squares) same value r value′
+    Door (doubleOf (traceOfNumbers counts mobility sign pieces) entries (weightsOf weights) squares) same value r value′
 
 -- ---- the fitting step
 abbrev pub AddsGradient : List ℤ → List ℤ → ℤ → ℤ → List ℤ → Float → List Float → Code → List Float → Type 0
 AddsGradient counts mobility sign pieces entries c gradient r gradient′ =
-    Door (addedOf (traceOf counts mobility sign pieces) entries c gradient) same gradient r gradient′
+    Door (addedOf (traceOfNumbers counts mobility sign pieces) entries c gradient) same gradient r gradient′
 
 pub record StepsAdam (gradient m v weights : List Float) (iteration : ℕ) (rate : Float) (r : Code) (m′ v′ weights′ : List Float) : Type 0 where
-  pub code : r ≡ codeOf (stepOf gradient (fit m v weights) iteration rate)
-  pub lent : fit m′ v′ weights′ ≡ fitAfter (stepOf gradient (fit m v weights) iteration rate) (fit m v weights)
+  pub code : r ≡ answerNumber (fitStep gradient (fitFrom m v weights) iteration rate)
+  pub lent : fitFrom m′ v′ weights′ ≡ fitAfter (fitStep gradient (fitFrom m v weights) iteration rate) (fitFrom m v weights)
 
 pub record Ships (weights squares : List Float) (r : Code) (weights′ squares′ : List Float) : Type 0 where
-  pub code : r ≡ codeOf (writtenOf squares)
-  pub lent : weights′ ≡ after (λ (u : Unit). namedOf shipped) weights (writtenOf squares)
+  pub code : r ≡ answerNumber (writtenAnswer squares)
+  pub lent : weights′ ≡ lentAfter (λ (u : Unit). namedOf shipped) weights (writtenAnswer squares)
   pub written : squares′ ≡ squaresAfter squares
 
 -- ---- lines
 pub record ReadsLine (line bitboards board : List ℕ) (side half : ℕ) (r : Code) (bitboards′ board′ : List ℕ) (side′ half′ : ℕ) : Type 0 where
-  pub code : r ≡ codeOf (readOf line bitboards board)
+  pub code : r ≡ answerNumber (readOf line bitboards board)
   pub boards : bitboards′ ≡ bitboardsAfter (readOf line bitboards board) bitboards
   pub bytes : board′ ≡ boardAfter (readOf line bitboards board) board
-  pub lent : side′ ≡ after (λ (l : Line). l .state .side) side (readOf line bitboards board)
-  pub lent2 : half′ ≡ after (λ (l : Line). l .half) half (readOf line bitboards board)
+  pub lent : side′ ≡ lentAfter (λ (l : Line). l .state .side) side (readOf line bitboards board)
+  pub lent2 : half′ ≡ lentAfter (λ (l : Line). l .half) half (readOf line bitboards board)
 
 pub record GivesPart (line : List ℕ) (r : Part) : Type 0 where
   pub start : r .start ≡ startOf line
@@ -126,13 +126,13 @@ pub record GivesPart (line : List ℕ) (r : Part) : Type 0 where
 
 -- ---- the ledger
 pub record FeedsLedger (state line chunk out : List ℕ) (wrote : ℕ) (r : Code) (state′ line′ out′ : List ℕ) (wrote′ : ℕ) : Type 0 where
-  pub code : r ≡ Ledger.codeOf (feedOf (stateOf state) line chunk out)
-  pub lent : state′ ≡ Ledger.after (λ (m : Machine). numbersOf (Rows.stateOf m)) state (feedOf (stateOf state) line chunk out)
-  pub kept : line′ ≡ lineAfter (feedOf (stateOf state) line chunk out) line
-  pub rows : out′ ≡ bufferOf out 0 (textAfter (feedOf (stateOf state) line chunk out))
-  pub lent2 : wrote′ ≡ Ledger.after (λ (m : Machine). length (m .text)) wrote (feedOf (stateOf state) line chunk out)
+  pub code : r ≡ Ledger.cameNumber (feedOf (stateFrom state) line chunk out)
+  pub lent : state′ ≡ Ledger.lentAfterCame (λ (m : Machine). stateNumbers (Rows.stateOf m)) state (feedOf (stateFrom state) line chunk out)
+  pub kept : line′ ≡ lineAfter (feedOf (stateFrom state) line chunk out) line
+  pub rows : out′ ≡ bufferOf out 0 (textAfter (feedOf (stateFrom state) line chunk out))
+  pub lent2 : wrote′ ≡ Ledger.lentAfterCame (λ (m : Machine). length (m .text)) wrote (feedOf (stateFrom state) line chunk out)
 
 pub record FinishesLedger (state line out : List ℕ) (wrote : ℕ) (r : Code) (out′ : List ℕ) (wrote′ : ℕ) : Type 0 where
-  pub code : r ≡ Ledger.codeOf (finishOf (stateOf state) line out)
-  pub rows : out′ ≡ bufferOf out 0 (lastText (finishOf (stateOf state) line out))
-  pub lent : wrote′ ≡ Ledger.after length wrote (finishOf (stateOf state) line out)
+  pub code : r ≡ Ledger.cameNumber (finishOf (stateFrom state) line out)
+  pub rows : out′ ≡ bufferOf out 0 (lastText (finishOf (stateFrom state) line out))
+  pub lent : wrote′ ≡ Ledger.lentAfterCame length wrote (finishOf (stateFrom state) line out)

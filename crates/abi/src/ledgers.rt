@@ -1,6 +1,6 @@
 // The ledger of a collection, fed in pieces of any size. Its state is lent as four numbers, all 0 before anything was read.
 ghost use mathlib.Core.Path.{_≡_};
-ghost use Rattle.abi.specs.Ledger.{stateOf, numbersOf, flagOf};
+ghost use Rattle.abi.specs.Ledger.{stateFrom, stateNumbers, flagOf};
 ghost use Rattle.abi.specs.Promises.{FeedsLedger, FinishesLedger};
 use crate::Code;
 use crate::GIVEN;
@@ -29,7 +29,7 @@ const MANY: Code = Code {
 };
 
 fn state_of(numbers: &[u64; NUMBERS]) -> State
-    ensures { λ r. ⌜ r ≡ stateOf (now (numbers .entry)) ⌝ }
+    ensures { λ r. ⌜ r ≡ stateFrom (now (numbers .entry)) ⌝ }
 {
     State {
         held: numbers[0] as usize,
@@ -46,7 +46,7 @@ fn flag(holds: bool) -> u64
 }
 
 fn numbers_of(state: State) -> [u64; NUMBERS]
-    ensures { λ r. ⌜ r ≡ numbersOf state ⌝ }
+    ensures { λ r. ⌜ r ≡ stateNumbers state ⌝ }
 {
     [
         state.held as u64,

@@ -5,16 +5,16 @@ use lib.Ieee.{Float}
 use lib.IntN.{ℤ}
 use Rattle.trace_counts.specs.declared.Trace.{Trace}
 use Rattle.trace_counts.specs.declared.Weights.{Weights}
-use Rattle.abi_records.specs.Records.{countsOf, traceOf, namedOf, weightsOf}
+use Rattle.abi_records.specs.Records.{countsOf, traceOfNumbers, namedOf, weightsOf}
 
-abbrev pub Counts : Trace → List ℤ → Type 0
-Counts t r = r ≡ countsOf t
+abbrev pub GivesCounts : Trace → List ℤ → Type 0
+GivesCounts t r = r ≡ countsOf t
 
-abbrev pub Traces : List ℤ → List ℤ → ℤ → ℤ → Trace → Type 0
-Traces counts mobility sign pieces r = r ≡ traceOf counts mobility sign pieces
+abbrev pub GivesTrace : List ℤ → List ℤ → ℤ → ℤ → Trace → Type 0
+GivesTrace counts mobility sign pieces r = r ≡ traceOfNumbers counts mobility sign pieces
 
-abbrev pub Names : Weights → List Float → Type 0
-Names w r = r ≡ namedOf w
+abbrev pub GivesNamed : Weights → List Float → Type 0
+GivesNamed w r = r ≡ namedOf w
 
-abbrev pub Weighs : List Float → Weights → Type 0
-Weighs named r = r ≡ weightsOf named
+abbrev pub GivesWeights : List Float → Weights → Type 0
+GivesWeights named r = r ≡ weightsOf named

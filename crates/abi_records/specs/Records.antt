@@ -7,25 +7,25 @@ use lib.ListN.{getD}
 use Rattle.trace_counts.specs.declared.Trace.{Trace}
 use Rattle.trace_counts.specs.declared.Weights.{Weights}
 
-abbrev pub at : List ℤ → ℕ → ℤ
-at l i = getD l i (pos 0)
+abbrev pub numberAt : List ℤ → ℕ → ℤ
+numberAt l i = getD l i (pos 0)
 
 -- a trace's ten counts and two pair flags, White's and then Black's of each
 abbrev pub countsOf : Trace → List ℤ
 countsOf t =
-    at (t .pawns) 0 ∷ at (t .pawns) 1 ∷
-    at (t .knights) 0 ∷ at (t .knights) 1 ∷
-    at (t .bishops) 0 ∷ at (t .bishops) 1 ∷
-    at (t .rooks) 0 ∷ at (t .rooks) 1 ∷
-    at (t .queens) 0 ∷ at (t .queens) 1 ∷
-    at (t .«bishop_pair») 0 ∷ at (t .«bishop_pair») 1 ∷ []
+    numberAt (t .pawns) 0 ∷ numberAt (t .pawns) 1 ∷
+    numberAt (t .knights) 0 ∷ numberAt (t .knights) 1 ∷
+    numberAt (t .bishops) 0 ∷ numberAt (t .bishops) 1 ∷
+    numberAt (t .rooks) 0 ∷ numberAt (t .rooks) 1 ∷
+    numberAt (t .queens) 0 ∷ numberAt (t .queens) 1 ∷
+    numberAt (t .«bishop_pair») 0 ∷ numberAt (t .«bishop_pair») 1 ∷ []
 
 -- White's number at a place, and Black's after it
 abbrev pub pairOf : List ℤ → ℕ → List ℤ
-pairOf counts i = at counts i ∷ at counts (i + 1) ∷ []
+pairOf counts i = numberAt counts i ∷ numberAt counts (i + 1) ∷ []
 
-abbrev pub traceOf : List ℤ → List ℤ → ℤ → ℤ → Trace
-traceOf counts mobility sign pieces = record {
+abbrev pub traceOfNumbers : List ℤ → List ℤ → ℤ → ℤ → Trace
+traceOfNumbers counts mobility sign pieces = record {
   pawns = pairOf counts 0;
   knights = pairOf counts 2;
   bishops = pairOf counts 4;

@@ -2,7 +2,7 @@
 ghost use mathlib.Core.Path.{_≡_};
 ghost use Prim.Native.Nat.{_+_, _<_};
 ghost use Rattle.abi_records.specs.Records.{pairOf};
-ghost use Rattle.abi_records.specs.Promises.{Counts, Traces, Names, Weighs};
+ghost use Rattle.abi_records.specs.Promises.{GivesCounts, GivesTrace, GivesNamed, GivesWeights};
 use chess::color::BLACKS;
 use chess::color::Color;
 use chess::color::WHITES;
@@ -22,7 +22,7 @@ pub const NAMED: usize = Weight::NAMED;
 
 // A trace's counts and pair flags, in the order of its fields.
 pub fn counts_of(trace: Trace) -> [i32; COUNTS]
-    ensures { λ r. ⌜ Counts trace r ⌝ }
+    ensures { λ r. ⌜ GivesCounts trace r ⌝ }
 {
     let pawns = trace.pawns;
     let knights = trace.knights;
@@ -56,7 +56,7 @@ fn pair(counts: &[i32; COUNTS], at: usize) -> [i32; Color::COUNT]
 
 // And back: a trace of its numbers.
 pub fn trace_of(counts: &[i32; COUNTS], mobility: &[i32; MOBILITY], side: i32, pieces: i32) -> Trace
-    ensures { λ r. ⌜ Traces (now (counts .entry)) (now (mobility .entry)) side pieces r ⌝ }
+    ensures { λ r. ⌜ GivesTrace (now (counts .entry)) (now (mobility .entry)) side pieces r ⌝ }
 {
     let mobility = *mobility;
     Trace {
@@ -74,7 +74,7 @@ pub fn trace_of(counts: &[i32; COUNTS], mobility: &[i32; MOBILITY], side: i32, p
 
 // The named weights of their numbers.
 pub fn weights_of(named: &[f64; NAMED]) -> Weights
-    ensures { λ r. ⌜ Weighs (now (named .entry)) r ⌝ }
+    ensures { λ r. ⌜ GivesWeights (now (named .entry)) r ⌝ }
 {
     Weights {
         pawn: named[weight::P],
@@ -93,7 +93,7 @@ pub fn weights_of(named: &[f64; NAMED]) -> Weights
 
 // And back.
 pub fn named_of(weights: Weights) -> [f64; NAMED]
-    ensures { λ r. ⌜ Names weights r ⌝ }
+    ensures { λ r. ⌜ GivesNamed weights r ⌝ }
 {
     [
         weights.pawn,

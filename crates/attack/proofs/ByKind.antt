@@ -1,7 +1,7 @@
 -- What a number attacks, kind by kind, as the code finds it. Assumes nothing.
 use mathlib.Core.Path.{_≡_, refl, sym, ap, _∙_}
 use mathlib.Core.Bool.{Bool, cond, and-false}
-use mathlib.Core.List.{List, [], _∷_, _++_}
+use mathlib.Core.List.{List, [], _++_}
 use Prim.Native.Nat.{ℕ, zero, suc}
 use lib.Dec.{ltb}
 use lib.ListN.{getD}
@@ -11,13 +11,13 @@ use Rattle.attack_steps.specs.Steps.{stepIn, stepsOf, reached, pawnSteps, knigh
 use Rattle.attack_steps.proofs.Tables.{reached-none}
 use Rattle.attack.specs.Attacks.{attacksBy, attacks}
 use Rattle.attack.proofs.Lent.{pawn-steps}
-use Rattle.attack.specs.Lent.{pawnRow, rowOf, attacksWith}
+use Rattle.attack.specs.PrivateLent.{pawnRow, stepRow, attacksWith}
 
 -- ---- the row of a kind
-pub row-pawn : (kind colour r : ℕ) → kind ≡ 0 → r ≡ pawnRow colour → r ≡ rowOf kind colour
-row-pawn kind colour r e h = h ∙ sym (ap (λ (k : ℕ). rowOf k colour) e)
+pub row-pawn : (kind colour r : ℕ) → kind ≡ 0 → r ≡ pawnRow colour → r ≡ stepRow kind colour
+row-pawn kind colour r e h = h ∙ sym (ap (λ (k : ℕ). stepRow k colour) e)
 
-pub row-none : (kind colour : ℕ) → (kind ≡ 0 → ⊥) → (kind ≡ 1 → ⊥) → (kind ≡ 5 → ⊥) → 4 ≡ rowOf kind colour
+pub row-none : (kind colour : ℕ) → (kind ≡ 0 → ⊥) → (kind ≡ 1 → ⊥) → (kind ≡ 5 → ⊥) → 4 ≡ stepRow kind colour
 row-none zero colour p n k = absurd (p refl)
 row-none (suc zero) colour p n k = absurd (n refl)
 row-none (suc (suc zero)) colour p n k = refl
@@ -36,7 +36,7 @@ module _ (pawn knight king colour s occ : ℕ) where
 
   -- f is what a row gives
   walks : (f : ℕ → ℕ) → f (pawnRow colour) ≡ pawn → f 2 ≡ knight → f 3 ≡ king → f 4 ≡ 0
-      → (kind : ℕ) → (kind ≡ 2 → ⊥) → (kind ≡ 3 → ⊥) → (kind ≡ 4 → ⊥) → f (rowOf kind colour) ≡ here kind
+      → (kind : ℕ) → (kind ≡ 2 → ⊥) → (kind ≡ 3 → ⊥) → (kind ≡ 4 → ⊥) → f (stepRow kind colour) ≡ here kind
   walks f p n k z zero b r q = p
   walks f p n k z (suc zero) b r q = n
   walks f p n k z (suc (suc zero)) b r q = absurd (b refl)
@@ -59,7 +59,7 @@ module _ (tables : List (List ℕ)) (kind colour s occ b : ℕ) where
   unfolding attacksWith
   queens = slides (stepIn tables (pawnRow colour) s) (stepIn tables 2 s) (stepIn tables 3 s) colour s occ kind 4 b
 
-  pub others : (row : ℕ) → (kind ≡ 2 → ⊥) → (kind ≡ 3 → ⊥) → (kind ≡ 4 → ⊥) → row ≡ rowOf kind colour → b ≡ stepIn tables row s → b ≡ attacksWith tables kind colour s occ
+  pub others : (row : ℕ) → (kind ≡ 2 → ⊥) → (kind ≡ 3 → ⊥) → (kind ≡ 4 → ⊥) → row ≡ stepRow kind colour → b ≡ stepIn tables row s → b ≡ attacksWith tables kind colour s occ
   unfolding attacksWith
   others row hb hr hq e h =
       h ∙ ap (λ (x : ℕ). stepIn tables x s) e
@@ -80,7 +80,7 @@ module _ (kind colour s occ b : ℕ) where
   unfolding attacks
   queen = slides (reached (pawnSteps colour) s) (reached knightSteps s) (reached kingSteps s) colour s occ kind 4 b
 
-  pub other-kind : (row : ℕ) → (kind ≡ 2 → ⊥) → (kind ≡ 3 → ⊥) → (kind ≡ 4 → ⊥) → row ≡ rowOf kind colour → b ≡ reached (stepsOf row) s → b ≡ attacks kind colour s occ
+  pub other-kind : (row : ℕ) → (kind ≡ 2 → ⊥) → (kind ≡ 3 → ⊥) → (kind ≡ 4 → ⊥) → row ≡ stepRow kind colour → b ≡ reached (stepsOf row) s → b ≡ attacks kind colour s occ
   unfolding attacks
   other-kind row hb hr hq e h =
       h ∙ ap (λ (x : ℕ). reached (stepsOf x) s) e

@@ -3,10 +3,10 @@ use mathlib.Core.Path.{_≡_, refl, ap, ap₂, _∙_}
 use mathlib.Core.Bool.{Bool, true, false, cond}
 use Prim.Native.Nat.{ℕ}
 use lib.Dec.{eqb}
-use Rattle.attack_steps.specs.Steps.{stepTables, stepIn, stepsOf, reached, pawnSteps, whitePawnSteps, blackPawnSteps, knightSteps, kingSteps}
+use Rattle.attack_steps.specs.Steps.{stepTables, stepIn, stepsOf, reached, pawnSteps, whitePawnSteps, blackPawnSteps}
 use Rattle.attack_steps.proofs.Tables.{step-is}
 use Rattle.attack.specs.Attacks.{attacksBy, attacks}
-use Rattle.attack.specs.Lent.{pawnRow, attacksWith}
+use Rattle.attack.specs.PrivateLent.{pawnRow, attacksWith}
 
 pub pawn-steps : (colour : ℕ) → stepsOf (pawnRow colour) ≡ pawnSteps colour
 pawn-steps colour = go (eqb colour 0)

@@ -1,4 +1,4 @@
 pub mod Attacks
-pub mod Lent
+pub mod PrivateLent
 pub mod Answers
 pub mod Promises

@@ -3,7 +3,7 @@ use mathlib.Core.Path.{_≡_}
 use mathlib.Core.List.{List}
 use Prim.Native.Nat.{ℕ}
 use Rattle.attack.specs.Attacks.{standing, occupied, other, attacks}
-use Rattle.attack.specs.Lent.{attacksWith}
+use Rattle.attack.specs.PrivateLent.{attacksWith}
 use Rattle.attack.specs.Answers.{pieceAttacksOf, found}
 use Rattle.attack.specs.declared.Found.{Found}
 

@@ -1,6 +1,6 @@
 // What a piece attacks, as attack.rs has it: the door.
 ghost use mathlib.Core.Path.{_≡_};
-ghost use Rattle.attack.specs.Lent.{pawnRow, rowOf};
+ghost use Rattle.attack.specs.PrivateLent.{pawnRow, stepRow};
 ghost use Rattle.attack.specs.Promises.{PieceAttacks};
 use attack_steps::inner::BLACK_PAWN_ROW;
 use attack_steps::inner::KING_ROW;
@@ -31,7 +31,7 @@ fn pawn_row(color: u8) -> usize
 
 // The row of a kind in the step tables; past the four for a kind that takes no steps.
 fn row(kind: u8, color: u8) -> usize
-    ensures { λ r. ⌜ r ≡ rowOf kind color ⌝ }
+    ensures { λ r. ⌜ r ≡ stepRow kind color ⌝ }
 {
     match kind {
         PAWN => pawn_row(color),

@@ -1,9 +1,9 @@
 -- `attacks_to` and `piece_attacks` agree: a piece on s attacks t exactly where s stands among the attackers of t by that piece, for all twelve codes. Each
 -- step and each ray is the same there and back; which of the six sets counts for a code is one test over the codes. Assumes nothing.
-use mathlib.Core.Path.{_≡_, refl, sym, ap, ap₂, _∙_}
-use mathlib.Core.Bool.{Bool, true, false, not, cond, _||_, _&&_, Bool·beq, or-comm}
+use mathlib.Core.Path.{_≡_, refl, sym, ap₂, _∙_}
+use mathlib.Core.Bool.{Bool, true, false, cond, _||_, _&&_, Bool·beq}
 use mathlib.Core.List.{List, [], _∷_, _++_, map}
-use Prim.Native.Nat.{ℕ, zero, suc, _<_, _≤_}
+use Prim.Native.Nat.{ℕ, zero, suc, _<_}
 use native.Mathlib.Omega.{arith}
 use lib.Dec.{T, eqb}
 use lib.ListN.{getD}
@@ -11,14 +11,14 @@ use Rattle.laws.specs.Tests.{allBelow}
 use Rattle.laws.proofs.Tests.{all-at}
 use Rattle.laws.proofs.Truth.{and-l, and-r, is-beq}
 use Rattle.chess.specs.Codes.{isPiece, kindOf, colourOf}
-use Rattle.bits.specs.Bitboard.{has, those, board}
+use Rattle.bits.specs.Bitboard.{has, board}
 use Rattle.bits.proofs.Digits.{has-zero}
 use Rattle.bits.proofs.Those.{has-those}
 use Rattle.position_boards.specs.Sound.{on}
 use Rattle.position_consistent.specs.Consistent.{consistent}
 use Rattle.position_boards.proofs.Apart.{code-to}
 use Rattle.position_consistent.proofs.Parts.{board-by-byte}
-use Rattle.attack_steps.specs.Steps.{Step, reached, pawnSteps, knightSteps, kingSteps, whitePawnSteps, blackPawnSteps}
+use Rattle.attack_steps.specs.Steps.{reached, pawnSteps, knightSteps, kingSteps, whitePawnSteps, blackPawnSteps}
 use Rattle.attack_mutual.proofs.Steps.{pawn-back, knight-back, king-back}
 use Rattle.attack_rays.specs.Rays.{seen, straight, slanted}
 use Rattle.attack_mutual.proofs.Rays.{straight-back, slanted-back}

@@ -1,6 +1,6 @@
 -- Which squares of a way are seen: k stands on it, and none before k is occupied. Assumes nothing.
-use mathlib.Core.Path.{_≡_, refl, sym, ap, ap₂, _∙_}
-use mathlib.Core.Bool.{Bool, true, false, true≢false, not, cond, _||_, _&&_}
+use mathlib.Core.Path.{_≡_, refl, sym, ap, _∙_}
+use mathlib.Core.Bool.{Bool, true, false, not, cond, _||_, _&&_}
 use mathlib.Core.Bool
 use mathlib.Core.List.{List, [], _∷_}
 use Prim.Native.Nat.{ℕ}

@@ -1,11 +1,10 @@
 -- No piece attacks the square that it stands on. Assumes nothing.
 use mathlib.Core.Path.{_≡_, _∙_}
-use mathlib.Core.Bool.{Bool, false, and-false}
+use mathlib.Core.Bool.{false, and-false}
 use mathlib.Core.List.{List}
 use Prim.Native.Nat.{ℕ, _<_}
-use Rattle.bits.specs.Bitboard.{has, those, board}
+use Rattle.bits.specs.Bitboard.{has, board}
 use Rattle.bits.proofs.Those.{has-those}
-use Rattle.position_boards.specs.Sound.{on}
 use Rattle.attack_steps.specs.Steps.{reached, knightSteps, kingSteps, whitePawnSteps, blackPawnSteps}
 use Rattle.attack_mutual.proofs.Steps.{white-pawn-leaves, black-pawn-leaves, knight-leaves, king-leaves}
 use Rattle.attack_rays.specs.Rays.{seen, straight, slanted}

@@ -8,7 +8,7 @@ use Rattle.bits.specs.Bitboard.{board}
 use Rattle.bits.proofs.Lists.{board-lt, or-assoc}
 use Rattle.attack_steps.specs.Steps.{Step}
 use Rattle.attack_rays.specs.Rays.{path, onward, through, rayOf, dirOf, seen}
-use Rattle.attack_rays.specs.Mirror.{mirrored}
+use Rattle.attack_rays.specs.PrivateMirror.{mirrored}
 use Rattle.attack_rays.proofs.Paths.{no-square}
 use Rattle.attack_rays.proofs.Turn.{ray-turned, mirrored-or}
 use Rattle.attack_rays.proofs.Union.{four}

@@ -2,12 +2,12 @@
 -- are those that the slider sees. Assumes nothing.
 use mathlib.Core.Path.{_≡_, refl, sym, ap, ap₂, _∙_, subst}
 use mathlib.Core.Bool.{Bool, true, false, not, _&&_, Bool·beq, and-false}
-use mathlib.Core.List.{List, [], _∷_}
+use mathlib.Core.List.{List}
 use Prim.Native.Nat.{ℕ, zero, suc, _+_, _*_, _-_, _/_, _%_, _^_, _≤_, _<_}
-use native.Mathlib.Nat.{mod-eq-of-lt, le-of-suc-le-suc, not-suc-le-zero, pow-suc, mul-comm, mod-lt}
+use native.Mathlib.Nat.{le-of-suc-le-suc, not-suc-le-zero, pow-suc, mul-comm}
 use native.Mathlib.Omega.{arith}
-use lib.Dec.{T, leb, leb→le, le→leb, ltb}
-use lib.Pow.{pow-pos, pow-mono}
+use lib.Dec.{T, leb, le→leb}
+use lib.Pow.{pow-mono}
 use lib.Bits.{bitAnd, bitXor, and-lt, xor-lt}
 use Rattle.bits.specs.Bitboard.{has, isIn, board}
 use Rattle.bits.proofs.Digits.{has-and, has-xor, has-mod, has-shr, has-half}

@@ -1,14 +1,14 @@
 -- The six changes that turn the board half round, by tests that antt computes. Assumes nothing.
-use mathlib.Core.Path.{_≡_, refl, sym, ap, ap₂, _∙_, subst}
-use mathlib.Core.Bool.{Bool, true, false, not, _&&_, Bool·beq}
-use Prim.Native.Nat.{ℕ, zero, suc, _-_, _<_}
+use mathlib.Core.Path.{_≡_, ap, _∙_}
+use mathlib.Core.Bool.{not, _&&_, Bool·beq}
+use Prim.Native.Nat.{ℕ, _-_, _<_}
 use lib.Dec.{T, leb, ltb, ltb→lt, eqb, eqb→eq}
 use Rattle.bits.specs.Bitboard.{has, those}
 use Rattle.bits.proofs.Those.{has-those, those-same}
 use Rattle.laws.specs.Tests.{allBelow}
 use Rattle.laws.proofs.Truth.{is-beq}
 use Rattle.laws.proofs.Tests.{all-at}
-use Rattle.attack_rays.specs.Mirror.{paired, partner, mirrored}
+use Rattle.attack_rays.specs.PrivateMirror.{paired, partner, mirrored}
 
 pub paired-at : (n m k : ℕ) → T (paired n m) → k < 64 → (leb n k && has m (k - n)) ≡ not (has m k)
 unfolding paired

@@ -1,13 +1,13 @@
 -- A way whose squares rise: what is seen on it, by the squares before. Assumes nothing.
-use mathlib.Core.Path.{_≡_, refl, sym, ap, ap₂, _∙_, subst}
+use mathlib.Core.Path.{_≡_, refl, sym, ap, _∙_, subst}
 use mathlib.Core.Logic.{_⊎_, inl, inr, ⊎-elim}
-use mathlib.Core.Bool.{Bool, true, false, not, cond, _||_, _&&_, Bool·beq}
+use mathlib.Core.Bool.{Bool, true, false, cond, _&&_}
 use mathlib.Core.List.{List, [], _∷_}
-use Prim.Native.Nat.{ℕ, zero, suc, _+_, _*_, _-_, _/_, _%_, _^_, _≤_, _<_}
-use native.Mathlib.Nat.{lt-irrefl, lt-trans}
+use Prim.Native.Nat.{ℕ, _<_}
+use native.Mathlib.Nat.{lt-trans}
 use native.Mathlib.Omega.{arith}
-use lib.Dec.{T, leb, ltb, eqb, eqb→eq, eqb-refl, ltb→lt}
-use Rattle.bits.specs.Bitboard.{has, isIn, board}
+use lib.Dec.{T, ltb, eqb, eqb→eq, eqb-refl, ltb→lt}
+use Rattle.bits.specs.Bitboard.{has, isIn}
 use Rattle.laws.proofs.Truth.{and-l, and-r, or-case, or-l, or-r}
 use Rattle.attack_rays.specs.Rays.{through}
 

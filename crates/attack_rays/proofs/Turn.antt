@@ -1,21 +1,20 @@
 -- The board turned half round: a falling way is a rising way turned. Assumes nothing.
 use mathlib.Core.Path.{_≡_, refl, sym, ap, ap₂, _∙_, subst}
-use mathlib.Core.Bool.{Bool, true, false, not, cond, _||_, _&&_, Bool·beq}
+use mathlib.Core.Bool.{Bool, true, false, cond, _||_, _&&_}
 use mathlib.Core.List.{List, [], _∷_, map}
-use Prim.Native.Nat.{ℕ, zero, suc, _+_, _*_, _-_, _/_, _%_, _^_, _≤_, _<_}
-use native.Mathlib.Nat.{not-suc-le-zero}
+use Prim.Native.Nat.{ℕ, _+_, _-_, _^_, _<_}
 use native.Mathlib.Omega.{arith}
 use lib.Bits.{bitOr}
 use lib.Dec.{T, ltb, ltb→lt, eqb, eqb→eq, eqb-refl}
-use Rattle.bits.specs.Bitboard.{has, isIn, board, those}
+use Rattle.bits.specs.Bitboard.{has, isIn, board}
 use Rattle.bits.proofs.Digits.{has-or}
-use Rattle.bits.proofs.Lists.{has-board, is-board, board-lt}
+use Rattle.bits.proofs.Lists.{has-board, is-board}
 use Rattle.bits.proofs.Those.{has-those, those-lt, those-same, those-or}
-use Rattle.attack_rays.specs.Rays.{onward, path, through, rayOf, dirOf}
+use Rattle.attack_rays.specs.Rays.{through, rayOf, dirOf}
 use Rattle.laws.proofs.Truth.{and-l, and-r, and-i, iff}
-use Rattle.laws.specs.Tests.{allBelow, allBelow2}
+use Rattle.laws.specs.Tests.{allBelow2}
 use Rattle.laws.proofs.Tests.{all2-at, same, is-same}
-use Rattle.attack_rays.specs.Mirror.{mirrored, ahead}
+use Rattle.attack_rays.specs.PrivateMirror.{mirrored, ahead}
 use Rattle.attack_rays.proofs.Rising.{rises}
 
 abbrev pub turned : List ℕ → List ℕ

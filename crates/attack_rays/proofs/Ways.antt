@@ -8,7 +8,7 @@ use lib.Dec.{T, eqb, leb, eqb→eq, leb→le}
 use Rattle.laws.specs.Tests.{allBelow}
 use Rattle.laws.proofs.Tests.{all-at}
 use Rattle.bits.specs.Bitboard.{board}
-use Rattle.attack_rays.specs.Mirror.{ahead}
+use Rattle.attack_rays.specs.PrivateMirror.{ahead}
 
 abbrev raised : ℕ → ℕ → ℕ
 raised b n = b * 2 ^ n % 2 ^ 64

@@ -1,6 +1,6 @@
 -- Rays, and what a slider sees (document 01: "A ray goes on up to and including the first occupied square, whichever colour stands
 -- there"). Definitions only.
-use mathlib.Core.Bool.{Bool, cond, _&&_}
+use mathlib.Core.Bool.{cond, _&&_}
 use mathlib.Core.List.{List, [], _∷_, _++_}
 use Prim.Native.Nat.{ℕ, zero, suc, _+_, _*_, _-_, _/_, _%_}
 use lib.Dec.{leb, ltb}

@@ -5,7 +5,7 @@ ghost use Prim.Native.Nat.{_+_, _<_};
 ghost use lib.Dec.{T};
 ghost use Rattle.bits.specs.Bitboard.{has, those, board};
 ghost use Rattle.attack_rays.specs.Rays.{rayOf, dirOf, seen};
-ghost use Rattle.attack_rays.specs.Mirror.{ahead, mirrored, partner, paired};
+ghost use Rattle.attack_rays.specs.PrivateMirror.{ahead, mirrored, partner, paired};
 ghost use Rattle.attack_rays.specs.Promises.{Rays, Bishops, Rooks, Queens};
 use chess::square::LAST;
 

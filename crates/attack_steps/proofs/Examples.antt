@@ -1,7 +1,6 @@
 -- Worked examples of the rule, by computation. Assumes nothing.
 use mathlib.Core.Path.{_≡_, refl}
-use mathlib.Core.List.{List, [], _∷_}
-use Prim.Native.Nat.{ℕ}
+use mathlib.Core.List.{[], _∷_}
 use Rattle.bits.specs.Bitboard.{squares}
 use Rattle.attack_steps.specs.Steps.{reached, knightSteps, kingSteps, pawnSteps}
 

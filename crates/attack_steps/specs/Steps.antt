@@ -1,6 +1,6 @@
 -- A piece's steps on the board, and the squares that they reach (document 01: "squares reached by the piece's steps without leaving the
 -- board"). A square s has file s % 8 and rank s / 8. Definitions only.
-use mathlib.Core.Bool.{Bool, true, false, cond, _||_, _&&_}
+use mathlib.Core.Bool.{Bool, false, cond, _||_, _&&_}
 use mathlib.Core.List.{List, [], _∷_}
 use Prim.Native.Nat.{ℕ, _+_, _/_, _%_}
 use lib.Dec.{eqb, ltb}

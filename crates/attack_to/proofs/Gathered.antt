@@ -1,11 +1,10 @@
 -- The attackers as the code puts them together: digit by digit, `&` and `|` are the definition's `&&` and `||`. Assumes nothing.
-use mathlib.Core.Path.{_≡_, refl, sym, ap, _∙_}
+use mathlib.Core.Path.{_≡_}
 use mathlib.Core.Bool.{Bool, _||_, _&&_}
 use mathlib.Core.List.{List}
 use Prim.Native.Nat.{ℕ, _^_, _<_}
 use native.Mathlib.Nat.{lt-of-le-of-lt}
 use lib.Bits.{bitAnd, bitOr, and-le-r, or-lt}
-use lib.ListN.{getD}
 use Rattle.bits.specs.Bitboard.{has, those, board}
 use Rattle.bits.proofs.Digits.{has-or, has-and}
 use Rattle.bits.proofs.Lists.{board-lt}

@@ -1,12 +1,11 @@
 -- Each public function is determined by its promise: two results that it allows are equal. Assumes nothing.
 use mathlib.Core.Path.{_≡_, refl, ap}
-use mathlib.Core.Bool.{Bool}
 use mathlib.Core.List.{List, [], _∷_}
 use Prim.Native.Nat.{ℕ}
 use lib.IntN.{ℤ}
 use Rattle.refusal.proofs.Paper.{one, retract, readBack, number-back}
 use Rattle.bits.specs.Answers.{got, changed, lowest}
-use Rattle.bits.specs.Promises.{Counts, Scans, FromSquare, Gets, Sets, Resets, Toggles, Shifts, Nexts, Unites, Reads}
+use Rattle.bits.specs.Promises.{Counts, Scans, FromSquare, Gets, Sets, Resets, Toggles, Shifts, Nexts, Unites, ReadsBitboard}
 use Rattle.bits.specs.declared.Got.{Got}
 use Rattle.bits.specs.declared.Got.the-variants as G
 use Rattle.bits.specs.declared.Changed.{Changed}
@@ -72,5 +71,5 @@ next b r s p q = lowest-one r s (one p q)
 pub union : (a b r s : ℕ) → Unites a b r → Unites a b s → r ≡ s
 union a b r s = one
 
-pub at : (bitboards : List ℕ) (i r s : ℕ) → Reads bitboards i r → Reads bitboards i s → r ≡ s
+pub at : (bitboards : List ℕ) (i r s : ℕ) → ReadsBitboard bitboards i r → ReadsBitboard bitboards i s → r ≡ s
 at bitboards i r s = one

@@ -1,7 +1,7 @@
 -- `next` takes the squares of a bitboard one after the other, in order: the law that a loop over a bitboard goes by. Assumes nothing.
 use mathlib.Core.Path.{_≡_, refl, sym, ap, ap₂, _∙_, subst}
 use mathlib.Core.Bool.{Bool, true, false, not, cond, _&&_, and-false, and-true}
-use mathlib.Core.List.{List, [], _∷_}
+use mathlib.Core.List.{[], _∷_}
 use Prim.Native.Nat.{ℕ, _^_, _≤_, _<_}
 use native.Mathlib.Decide.{decLt}
 use native.Mathlib.Omega.{arith}
@@ -12,7 +12,7 @@ use Rattle.bits.specs.Bitboard.{has, those, squares, lowestOf}
 use Rattle.bits.specs.Answers.{restOf, nextOf}
 use Rattle.bits.proofs.Digits.{has-high}
 use Rattle.bits.proofs.Those.{has-those, those-lt}
-use Rattle.bits.proofs.Scanned.{lowest, scan-is, scan-lt}
+use Rattle.bits.proofs.Scanned.{scanned-lowest, scan-is, scan-lt}
 use Rattle.bits.proofs.Squares.{squares-none, squares-next}
 
 taken : (b : ℕ) → b < 2 ^ 64 → (b ≡ 0 → ⊥) → squares b ≡ lowestOf b ∷ squares (those 64 (λ k. has b k && not (eqb k (lowestOf b))))
@@ -21,8 +21,8 @@ taken b h ne =
     let f : ℕ → Bool = λ k. has b k && not (eqb k s) in
     let e : trailingZeros 64 b ≡ s = scan-is b in
     let hs : s < 64 = subst (λ (x : ℕ). x < 64) e (scan-lt b h ne) in
-    let at : has b s ≡ true = subst (λ (x : ℕ). has b x ≡ true) e (lowest 64 b .found (scan-lt b h ne)) in
-    let low : (k : ℕ) → k < s → has b k ≡ false = λ k l. lowest 64 b .clear k (subst (λ (x : ℕ). k < x) (sym e) l) in
+    let at : has b s ≡ true = subst (λ (x : ℕ). has b x ≡ true) e (scanned-lowest 64 b .found (scan-lt b h ne)) in
+    let low : (k : ℕ) → k < s → has b k ≡ false = λ k l. scanned-lowest 64 b .clear k (subst (λ (x : ℕ). k < x) (sym e) l) in
     squares-next b (those 64 f) s hs at low (λ k l. gone k l) (λ k l. kept k l)
   where
     hs : lowestOf b < 64
@@ -33,7 +33,7 @@ taken b h ne =
       where
         go : (t : Bool) → eqb k (lowestOf b) ≡ t → (has b k && not (eqb k (lowestOf b))) ≡ false
         go true q = ap (λ (t : Bool). has b k && not t) q ∙ and-false (has b k)
-        go false q = ap (λ (t : Bool). t && not (eqb k (lowestOf b))) (lowest 64 b .clear k (subst (λ (x : ℕ). k < x) (sym (scan-is b)) (omega (arith, eqb-false k (lowestOf b) q))))
+        go false q = ap (λ (t : Bool). t && not (eqb k (lowestOf b))) (scanned-lowest 64 b .clear k (subst (λ (x : ℕ). k < x) (sym (scan-is b)) (omega (arith, eqb-false k (lowestOf b) q))))
 
     kept : (k : ℕ) → lowestOf b < k → has (those 64 (λ j. has b j && not (eqb j (lowestOf b)))) k ≡ has b k
     kept k l = elim (decLt k 64) [ yes p ↦ has-those 64 (λ j. has b j && not (eqb j (lowestOf b))) k p ∙ ap (λ (t : Bool). has b k && not t) (ne-eqb k (lowestOf b) (λ q. omega arith)) ∙ and-true (has b k) | no p ↦ has-high (those 64 (λ j. has b j && not (eqb j (lowestOf b)))) 64 k (those-lt 64 (λ j. has b j && not (eqb j (lowestOf b)))) (omega arith) ∙ sym (has-high b 64 k h (omega arith)) ]

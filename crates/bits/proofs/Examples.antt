@@ -2,9 +2,9 @@
 use mathlib.Core.Path.{_≡_, refl}
 use mathlib.Core.List.{List, [], _∷_}
 use Prim.Native.Nat.{ℕ, _-_, _^_}
-use lib.IntN.{ℤ, pos, negsuc}
+use lib.IntN.{pos, negsuc}
 use Rattle.refusal.specs.Answer.{Answer, given, refused}
-use Rattle.bits.specs.Bitboard.{has, those, howMany, firstFrom, lowestOf, squaresFrom, squares, isIn, board}
+use Rattle.bits.specs.Bitboard.{has, those, howMany, lowestOf, squares, board}
 use Rattle.bits.specs.Answers.{shiftedOf, setOf, nextOf}
 
 -- the empty and the full bitboard: how many, and the lowest

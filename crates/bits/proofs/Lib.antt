@@ -4,7 +4,6 @@ pub mod Machine
 pub mod Some
 pub mod Lists
 pub mod Counts
-pub mod Filled
 pub mod Scanned
 pub mod Squares
 pub mod Each

@@ -1,15 +1,13 @@
 -- The bitboard of a list of squares. Assumes nothing.
 use mathlib.Core.Path.{_≡_, refl, sym, ap, ap₂, _∙_}
-use mathlib.Core.Bool.{Bool, true, false, _||_}
+use mathlib.Core.Bool.{Bool, _||_}
 use mathlib.Core.Bool
 use mathlib.Core.List.{List, [], _∷_, _++_}
 use Prim.Native.Nat.{ℕ, _^_, _<_}
-use native.Mathlib.Omega.{arith}
 use lib.Dec.{eqb}
-use lib.Pow.{pow-lt}
 use lib.Bits.{or-lt, bitOr}
-use Rattle.bits.specs.Bitboard.{has, those, isIn, board}
-use Rattle.bits.proofs.Digits.{has-or, has-one, ext}
+use Rattle.bits.specs.Bitboard.{has, isIn, board}
+use Rattle.bits.proofs.Digits.{has-or, ext}
 use Rattle.bits.proofs.Those.{those-lt, has-those, is-those}
 
 -- ---- the bitboard of a list
@@ -28,12 +26,6 @@ has-board qs k h = has-those 64 (λ j. isIn j qs) k h
 pub is-board : (a : ℕ) (qs : List ℕ) → a < 2 ^ 64 → ((k : ℕ) → k < 64 → has a k ≡ isIn k qs) → a ≡ board qs
 unfolding board
 is-board a qs h e = is-those a (λ k. isIn k qs) h e
-
-pub board-cons : (q : ℕ) (qs : List ℕ) → q < 64 → board (q ∷ qs) ≡ bitOr (2 ^ q) (board qs)
-unfolding isIn
-board-cons q qs h =
-    sym (is-board (bitOr (2 ^ q) (board qs)) (q ∷ qs) (or-lt 64 (2 ^ q) (board qs) (pow-lt h) (board-lt qs))
-    (λ k l. has-or (2 ^ q) (board qs) k ∙ ap₂ (λ (s t : Bool). s || t) (has-one q k) (has-board qs k l)))
 
 pub or-assoc : (a b c : ℕ) → a < 2 ^ 64 → b < 2 ^ 64 → c < 2 ^ 64 → bitOr (bitOr a b) c ≡ bitOr a (bitOr b c)
 or-assoc a b c ha hb hc =

@@ -37,14 +37,14 @@ lowest-step n b (suc d) t e l = record {
   empty = λ h q. absurd (omega arith);
 }
 
-pub lowest : (n b : ℕ) → Lowest n b (trailingZeros n b)
+pub scanned-lowest : (n b : ℕ) → Lowest n b (trailingZeros n b)
 unfolding trailingZeros
-lowest zero b = record { inside = omega arith; clear = λ k h. absurd (not-suc-le-zero h); found = λ h. absurd (not-suc-le-zero h); empty = λ h q. lt-one h }
-lowest (suc n) b = lowest-step n b (b % 2) (trailingZeros n (b / 2)) refl (lowest n (b / 2))
+scanned-lowest zero b = record { inside = omega arith; clear = λ k h. absurd (not-suc-le-zero h); found = λ h. absurd (not-suc-le-zero h); empty = λ h q. lt-one h }
+scanned-lowest (suc n) b = lowest-step n b (b % 2) (trailingZeros n (b / 2)) refl (scanned-lowest n (b / 2))
 
 -- a bitboard that is not empty has its lowest square on the board
 pub scan-lt : (b : ℕ) → b < 2 ^ 64 → (b ≡ 0 → ⊥) → trailingZeros 64 b < 64
-scan-lt b h ne = ⊎-elim (λ e. absurd (ne (lowest 64 b .empty h e))) (λ l. l) (eq-or-lt-of-le (lowest 64 b .inside))
+scan-lt b h ne = ⊎-elim (λ e. absurd (ne (scanned-lowest 64 b .empty h e))) (λ l. l) (eq-or-lt-of-le (scanned-lowest 64 b .inside))
 
 first-is : (j n k : ℕ) (f : ℕ → Bool) → ((i : ℕ) → i < j → f (k + i) ≡ false) → (0 < n → f (k + j) ≡ true) → firstFrom (j + n) k f ≡ k + j
 unfolding firstFrom
@@ -61,7 +61,7 @@ pub scan-is : (b : ℕ) → trailingZeros 64 b ≡ lowestOf b
 unfolding lowestOf
 scan-is b =
     let s : ℕ = trailingZeros 64 b in
-    let l = lowest 64 b in
+    let l = scanned-lowest 64 b in
     let e : 64 ≡ s + (64 - s) = omega (arith, l .inside) in
     sym (ap (λ (x : ℕ). firstFrom x 0 (has b)) e
     ∙ first-is s (64 - s) 0 (has b) (λ i h. ap (has b) (zero-add i) ∙ l .clear i h) (λ h. ap (has b) (zero-add s) ∙ l .found (omega arith))

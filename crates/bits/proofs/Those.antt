@@ -12,13 +12,9 @@ use Rattle.laws.specs.Tests.{allBelow}
 use Rattle.laws.proofs.Tests.{all-at, all-of}
 use Rattle.laws.proofs.Truth.{iff, is-beq, beq-is, not-i, not-e}
 use Rattle.bits.specs.Bitboard.{has, digit, those}
-use Rattle.bits.proofs.Digits.{has-or, has-and, has-not, has-up, has-high, has-zero, ext}
+use Rattle.bits.proofs.Digits.{has-or, has-and, has-up, has-high, has-zero, ext}
 
 -- ---- the bitboard of a test
-digit-lt : (t : Bool) → digit t < 2
-digit-lt true = omega arith
-digit-lt false = omega arith
-
 has-digit : (t : Bool) → has (digit t) 0 ≡ t
 unfolding has
 has-digit true = refl
@@ -78,12 +74,6 @@ pub those-and : (f g : ℕ → Bool) → bitAnd (those 64 f) (those 64 g) ≡ th
 those-and f g =
     and-is (those 64 f) (those 64 g) (those-lt 64 f) (those-lt 64 g)
     ∙ those-same (λ k. has (those 64 f) k && has (those 64 g) k) (λ k. f k && g k) (λ k h. ap₂ (λ (s t : Bool). s && t) (has-those 64 f k h) (has-those 64 g k h))
-
--- ---- `!`
-pub those-not : (f : ℕ → Bool) → 2 ^ 64 - 1 - those 64 f ≡ those 64 (λ k. not (f k))
-those-not f =
-    is-those (2 ^ 64 - 1 - those 64 f) (λ k. not (f k)) (omega arith)
-    (λ k h. has-not (those 64 f) k (those-lt 64 f) h ∙ ap not (has-those 64 f k h))
 
 -- ---- a number is the bitboard of a test exactly where each of its squares says so
 pub is-those-test : (a : ℕ) (f : ℕ → Bool) → a < 2 ^ 64 → eqb a (those 64 f) ≡ allBelow 64 (λ k. Bool·beq (has a k) (f k))

@@ -1,8 +1,8 @@
 -- A bitboard is the number of its u64, and square k stands in it where its binary digit k is 1: a1 is digit 0, h8 digit 63
 -- (document 01: "a1 = 0, h8 = 63"). The one vocabulary of bitboards. Definitions only.
-use mathlib.Core.Bool.{Bool, true, false, cond, _||_, _&&_}
+use mathlib.Core.Bool.{Bool, true, false, cond, _||_}
 use mathlib.Core.List.{List, [], _∷_}
-use Prim.Native.Nat.{ℕ, zero, suc, _+_, _*_, _-_, _/_, _%_, _^_}
+use Prim.Native.Nat.{ℕ, zero, suc, _+_, _*_, _/_, _%_, _^_}
 use lib.Dec.{eqb}
 
 -- a digit as a test

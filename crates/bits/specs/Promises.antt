@@ -42,5 +42,5 @@ abbrev pub Unites : ℕ → ℕ → ℕ → Type 0
 Unites a b r = r ≡ those 64 (λ k. has a k || has b k)
 
 -- a bitboard read from a list of them: past its end stands the empty one
-abbrev pub Reads : List ℕ → ℕ → ℕ → Type 0
-Reads bitboards i r = r ≡ getD bitboards i 0
+abbrev pub ReadsBitboard : List ℕ → ℕ → ℕ → Type 0
+ReadsBitboard bitboards i r = r ≡ getD bitboards i 0

@@ -1,5 +1,5 @@
 // What the crates above do with bitboards in their loops: total, and no door.
-ghost use Rattle.bits.specs.Promises.{Unites, Reads};
+ghost use Rattle.bits.specs.Promises.{Unites, ReadsBitboard};
 
 // The squares of a and of b together.
 pub fn union(a: u64, b: u64) -> u64
@@ -10,7 +10,7 @@ pub fn union(a: u64, b: u64) -> u64
 
 // A bitboard of a list; the empty one past its end.
 pub fn at(bitboards: &[u64], i: usize) -> u64
-    ensures { λ r. ⌜ Reads (now (bitboards .entry)) i r ⌝ }
+    ensures { λ r. ⌜ ReadsBitboard (now (bitboards .entry)) i r ⌝ }
 {
     if i < bitboards.len() {
         return bitboards[i];

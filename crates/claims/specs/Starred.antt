@@ -14,7 +14,7 @@ use Rattle.position.specs.Checked.{ofSide, checked}
 use Rattle.exchange.specs.Exchange.{exchangeOf}
 use Rattle.exchange_start.specs.Capture.{mayCapture, uncrowded}
 use Rattle.exchange.specs.Answers.{seeOf}
-use Rattle.claims_examples.specs.Placed.{Placed, on, bytesOf}
+use Rattle.claims_examples.specs.Placed.{Placed, putOn, bytesOf}
 use Rattle.score_verdict.specs.Verdict.{lost, won, drawn}
 use Rattle.score.specs.Score.{Outcome, verdict, score, evalOf}
 
@@ -44,12 +44,12 @@ star ps q o = record { pieces = ps; asked = q; outcome = o }
 
 -- ---- the pieces
 abbrev pub kings : List Placed
-kings = on 6 4 ∷ on 7 60 ∷ []
+kings = putOn 6 4 ∷ putOn 7 60 ∷ []
 
 -- a rank of pieces of a colour from the a-file on, and its pawns
 abbrev pub files : ℕ → ℕ → List ℕ → List Placed
 files colour s [] = []
-files colour s (code ∷ codes) = on (code + colour) s ∷ files colour (suc s) codes
+files colour s (code ∷ codes) = putOn (code + colour) s ∷ files colour (suc s) codes
 
 abbrev pub pieceRank : List ℕ
 pieceRank = 10 ∷ 4 ∷ 8 ∷ 12 ∷ 6 ∷ 8 ∷ 4 ∷ 10 ∷ []
@@ -64,30 +64,30 @@ start = files 0 0 pieceRank ++ (files 0 8 pawnRank ++ (files 1 48 pawnRank ++ fi
 abbrev pub starred : List Starred
 starred =
     -- kings e1, e8, pawn e2
-    star (on 2 12 ∷ kings) (scored 0) (score (pos 117))
-    ∷ star (on 2 12 ∷ kings) (scored 1) (score (negsuc 94))
+    star (putOn 2 12 ∷ kings) (scored 0) (score (pos 117))
+    ∷ star (putOn 2 12 ∷ kings) (scored 1) (score (negsuc 94))
     -- kings e1, e8, white rook a1, White to move
-    ∷ star (on 10 0 ∷ kings) (scored 0) (score (pos 535))
+    ∷ star (putOn 10 0 ∷ kings) (scored 0) (score (pos 535))
     -- starting position, either side
     ∷ star start (scored 0) (score (pos 11))
     ∷ star start (scored 1) (score (pos 11))
     -- empty board, either side; lone white king
     ∷ star [] (scored 0) (verdict lost)
     ∷ star [] (scored 1) (verdict lost)
-    ∷ star (on 6 4 ∷ []) (scored 0) (verdict won)
-    ∷ star (on 6 4 ∷ []) (scored 1) (verdict lost)
+    ∷ star (putOn 6 4 ∷ []) (scored 0) (verdict won)
+    ∷ star (putOn 6 4 ∷ []) (scored 1) (verdict lost)
     -- two white kings alone, either side
-    ∷ star (on 6 0 ∷ on 6 7 ∷ []) (scored 0) (verdict drawn)
-    ∷ star (on 6 0 ∷ on 6 7 ∷ []) (scored 1) (verdict drawn)
+    ∷ star (putOn 6 0 ∷ putOn 6 7 ∷ []) (scored 0) (verdict drawn)
+    ∷ star (putOn 6 0 ∷ putOn 6 7 ∷ []) (scored 1) (verdict drawn)
     -- rook e1 takes pawn e5, undefended; defended by pawn d6
-    ∷ star (on 10 4 ∷ on 3 36 ∷ []) (exchanged 4 36) (score (pos 100))
-    ∷ star (on 10 4 ∷ on 3 36 ∷ on 3 43 ∷ []) (exchanged 4 36) (score (negsuc 386))
+    ∷ star (putOn 10 4 ∷ putOn 3 36 ∷ []) (exchanged 4 36) (score (pos 100))
+    ∷ star (putOn 10 4 ∷ putOn 3 36 ∷ putOn 3 43 ∷ []) (exchanged 4 36) (score (negsuc 386))
     -- rooks e1, e2 against rook e8, e2 takes pawn e5
-    ∷ star (on 10 4 ∷ on 10 12 ∷ on 11 60 ∷ on 3 36 ∷ []) (exchanged 12 36) (score (pos 100))
+    ∷ star (putOn 10 4 ∷ putOn 10 12 ∷ putOn 11 60 ∷ putOn 3 36 ∷ []) (exchanged 12 36) (score (pos 100))
     -- queen d1 takes pawn d5, pawn e4 behind her; knight f6, bishop b7 defend; kings g1, g8
-    ∷ star (on 12 3 ∷ on 2 28 ∷ on 3 35 ∷ on 5 45 ∷ on 9 49 ∷ on 6 6 ∷ on 7 62 ∷ []) (exchanged 3 35) (score (negsuc 708))
+    ∷ star (putOn 12 3 ∷ putOn 2 28 ∷ putOn 3 35 ∷ putOn 5 45 ∷ putOn 9 49 ∷ putOn 6 6 ∷ putOn 7 62 ∷ []) (exchanged 3 35) (score (negsuc 708))
     -- king e4 takes pawn e5 defended by pawn d6, black king h8
-    ∷ star (on 6 28 ∷ on 3 36 ∷ on 3 43 ∷ on 7 63 ∷ []) (exchanged 28 36) (score (negsuc 9899))
+    ∷ star (putOn 6 28 ∷ putOn 3 36 ∷ putOn 3 43 ∷ putOn 7 63 ∷ []) (exchanged 28 36) (score (negsuc 9899))
     ∷ []
 
 -- ---- the claim: each gets the answer that document 01 gives it

@@ -3,7 +3,7 @@ use mathlib.Core.Path.{_≡_, refl}
 use mathlib.Core.Bool.{Bool, true, false, not, _&&_, _||_}
 use mathlib.Core.List.{List, [], _∷_}
 use Prim.Native.Nat.{ℕ, suc, _+_}
-use lib.Dec.{T, eqb, ltb}
+use lib.Dec.{eqb}
 use lib.IntN.{ℤ, pos, negsuc}
 use lib.ListN.{getD, set}
 use lib.Ieee.{Float, nan, binary64, add, sub, mul, div, ofInt, ofBits}
@@ -13,7 +13,7 @@ use Rattle.refusal.specs.Answer.{Answer, given, refused}
 use Rattle.trace_counts.specs.Ranges.{inRanges, areEntries}
 use Rattle.doubles.specs.Doubles.{d0, d2, d10, d32, dbl}
 use Rattle.trace_named.specs.Named.{named}
-use Rattle.trace_double.specs.Double.{added, folded, double}
+use Rattle.trace_double.specs.Double.{double}
 use Rattle.trace_double.specs.Promises.{doubleOf}
 use Rattle.trace_counts.specs.declared.Weights.{Weights}
 use Rattle.trace_counts.specs.declared.Trace.{Trace}

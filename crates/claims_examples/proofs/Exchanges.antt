@@ -14,12 +14,12 @@ use Rattle.position_consistent.specs.Consistent.{consistent}
 use Rattle.position.specs.Checked.{ofSide, checked}
 use Rattle.attack.specs.Attacks.{occupied}
 use Rattle.attack_to.specs.Attackers.{attackers}
-use Rattle.claims_examples.specs.Placed.{Placed, on, bytesOf}
+use Rattle.claims_examples.specs.Placed.{Placed, putOn, bytesOf}
 use Rattle.exchange_least.specs.Least.{leastOf, order}
 use Rattle.exchange_least.specs.Answers.{lvpOf}
 use Rattle.exchange_start.specs.Capture.{mayCapture, uncrowded}
 use Rattle.exchange.specs.Exchange.{Capture, capturesOf, exchangeOf}
-use Rattle.exchange.specs.Source.{sourceSee}
+use Rattle.exchange.specs.PrivateSource.{sourceSee}
 use Rattle.exchange.specs.Answers.{seeOf}
 
 -- the door's answer with White to move, refusals and all
@@ -29,7 +29,7 @@ answered ps from to = let bytes : List ℕ = bytesOf ps in let bbs : List ℕ = 
 
 -- queen d1 takes pawn d5, pawn e4 behind her; knight f6, bishop b7 defend; kings g1, g8
 abbrev queenCase : List Placed
-queenCase = on 12 3 ∷ on 2 28 ∷ on 3 35 ∷ on 5 45 ∷ on 9 49 ∷ on 6 6 ∷ on 7 62 ∷ []
+queenCase = putOn 12 3 ∷ putOn 2 28 ∷ putOn 3 35 ∷ putOn 5 45 ∷ putOn 9 49 ∷ putOn 6 6 ∷ putOn 7 62 ∷ []
 
 -- ---- the queen's exchange: each capture's square, kind and value taken
 abbrev capture : ℕ → ℕ → ℕ → Capture
@@ -66,10 +66,10 @@ by-source = refl
 -- ---- 32 pieces and 31 captures on e4, which d2 begins: as many as there can be
 abbrev thirtyTwo : List Placed
 thirtyTwo =
-    on 12 4 ∷ on 13 7 ∷ on 9 10 ∷ on 4 11 ∷ on 12 12 ∷ on 4 13 ∷ on 12 14 ∷ on 4 18
-    ∷ on 12 19 ∷ on 13 20 ∷ on 9 21 ∷ on 5 22 ∷ on 11 24 ∷ on 13 26 ∷ on 12 27 ∷ on 13 28
-    ∷ on 10 29 ∷ on 13 30 ∷ on 12 31 ∷ on 5 34 ∷ on 12 35 ∷ on 10 36 ∷ on 13 37 ∷ on 4 38
-    ∷ on 5 43 ∷ on 11 44 ∷ on 5 45 ∷ on 12 49 ∷ on 13 52 ∷ on 12 55 ∷ on 12 56 ∷ on 13 60
+    putOn 12 4 ∷ putOn 13 7 ∷ putOn 9 10 ∷ putOn 4 11 ∷ putOn 12 12 ∷ putOn 4 13 ∷ putOn 12 14 ∷ putOn 4 18
+    ∷ putOn 12 19 ∷ putOn 13 20 ∷ putOn 9 21 ∷ putOn 5 22 ∷ putOn 11 24 ∷ putOn 13 26 ∷ putOn 12 27 ∷ putOn 13 28
+    ∷ putOn 10 29 ∷ putOn 13 30 ∷ putOn 12 31 ∷ putOn 5 34 ∷ putOn 12 35 ∷ putOn 10 36 ∷ putOn 13 37 ∷ putOn 4 38
+    ∷ putOn 5 43 ∷ putOn 11 44 ∷ putOn 5 45 ∷ putOn 12 49 ∷ putOn 13 52 ∷ putOn 12 55 ∷ putOn 12 56 ∷ putOn 13 60
     ∷ []
 
 longest : answered thirtyTwo 11 28 ≡ given (pos 709)
@@ -85,12 +85,12 @@ unfolding longestList
 longest-has = refl
 
 -- ---- refusals: CROWD of a 33rd piece (a7), and of a second white king (a1), not of one king a colour; MOVE before CROWD
-crowds : answered (on 3 48 ∷ thirtyTwo) 11 28 ∷ answered (on 6 0 ∷ queenCase) 3 35 ∷ answered (on 6 0 ∷ queenCase) 3 36 ∷ [] ≡ refused 6 [] ∷ refused 6 [] ∷ refused 5 [] ∷ []
+crowds : answered (putOn 3 48 ∷ thirtyTwo) 11 28 ∷ answered (putOn 6 0 ∷ queenCase) 3 35 ∷ answered (putOn 6 0 ∷ queenCase) 3 36 ∷ [] ≡ refused 6 [] ∷ refused 6 [] ∷ refused 5 [] ∷ []
 unfolding answered
 crowds = refl
 
 -- MOVE: nothing on the start, a black piece there, nothing on the target, a white piece there, a knight that does not attack it
-moves : answered queenCase 4 35 ∷ answered queenCase 45 28 ∷ answered queenCase 3 27 ∷ answered queenCase 3 28 ∷ answered (on 4 1 ∷ queenCase) 1 35 ∷ []
+moves : answered queenCase 4 35 ∷ answered queenCase 45 28 ∷ answered queenCase 3 27 ∷ answered queenCase 3 28 ∷ answered (putOn 4 1 ∷ queenCase) 1 35 ∷ []
     ≡ refused 5 [] ∷ refused 5 [] ∷ refused 5 [] ∷ refused 5 [] ∷ refused 5 [] ∷ []
 unfolding answered
 moves = refl
@@ -103,7 +103,7 @@ squares = refl
 -- BOARD where a byte is not its board's, before SQUARE; SHAPE where the side is none, before BOARD
 unfoldable amiss : ℕ → ℕ → Answer ℤ
 unfolding bytesOf bitboardsOf tabulate those has some howMany allBelow boardsWith ofColour consistent checked mayCapture uncrowded exchangeOf
-amiss side from = let bbs : List ℕ = bitboardsOf (bytesOf queenCase) in seeOf bbs (bytesOf (on 2 8 ∷ queenCase)) (ofSide side) from 35
+amiss side from = let bbs : List ℕ = bitboardsOf (bytesOf queenCase) in seeOf bbs (bytesOf (putOn 2 8 ∷ queenCase)) (ofSide side) from 35
 
 amiss-is : amiss 0 3 ∷ amiss 0 64 ∷ amiss 2 3 ∷ [] ≡ refused 2 [] ∷ refused 2 [] ∷ refused 1 [] ∷ []
 unfolding amiss
@@ -113,7 +113,7 @@ amiss-is = refl
 unfoldable leastOn : ℕ → List ℕ → Answer (List ℕ)
 unfolding bytesOf bitboardsOf tabulate those has some howMany allBelow boardsWith ofColour consistent checked attackers occupied board leastOf
 leastOn colour still =
-    let bytes : List ℕ = bytesOf (on 5 50 ∷ on 5 52 ∷ queenCase) in
+    let bytes : List ℕ = bytesOf (putOn 5 50 ∷ putOn 5 52 ∷ queenCase) in
     let bbs : List ℕ = bitboardsOf bytes in
     lvpOf bbs bytes (ofSide 0) colour (attackers bbs 35 (occupied bbs)) (board still)
 

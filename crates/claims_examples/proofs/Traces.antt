@@ -2,10 +2,7 @@
 use mathlib.Core.Path.{_≡_, refl}
 use mathlib.Core.List.{List, [], _∷_}
 use Prim.Native.Nat.{ℕ}
-use lib.IntN.{ℤ, pos, negsuc, negℤ}
-use Rattle.laws.specs.Sums.{counted}
-use Rattle.score_tally.specs.Mobility.{attacked}
-use Rattle.trace_counts.specs.declared.Trace.{Trace}
+use lib.IntN.{pos, negsuc}
 use Rattle.trace.specs.Trace.{traceOf, entryAt}
 use Rattle.trace_shipped.specs.Weights.{squareWeight}
 use Rattle.trace_exact.specs.Exact.{shippedWhole, exactBy}

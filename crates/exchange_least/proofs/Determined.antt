@@ -5,7 +5,7 @@ use Prim.Native.Nat.{ℕ}
 use Rattle.refusal.proofs.Paper.{one, retract, readBack, number-back}
 use Rattle.position.specs.declared.State.{State}
 use Rattle.exchange_least.specs.Least as P
-use Rattle.exchange_least.specs.Answers.{least, told}
+use Rattle.exchange_least.specs.Answers.{least, paperAttacker}
 use Rattle.exchange_least.specs.Promises.{Lvp, Picks, Capturer}
 use Rattle.exchange_least.specs.declared.Least.{Least}
 use Rattle.exchange_least.specs.declared.Least.the-variants as L
@@ -29,12 +29,12 @@ abbrev untold : P.Attacker → Attacker
 untold P.nobody = A.Nobody
 untold (P.attacker s kind) = A.At s kind
 
-told-back : (r : Attacker) → untold (told r) ≡ r
+told-back : (r : Attacker) → untold (paperAttacker r) ≡ r
 told-back (A.At s kind) = refl
 told-back A.Nobody = refl
 
-pub told-one : (r s : Attacker) → told r ≡ told s → r ≡ s
-told-one = retract told untold told-back
+pub told-one : (r s : Attacker) → paperAttacker r ≡ paperAttacker s → r ≡ s
+told-one = retract paperAttacker untold told-back
 
 -- ---- the door
 pub lvp : (bitboards board : List ℕ) (state : State) (colour attacks occ : ℕ) (r s : Least)

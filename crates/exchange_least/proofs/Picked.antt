@@ -1,5 +1,5 @@
 -- The least attacker, kind by kind; whoever it is stands on the board, attacks, and is still there. Assumes nothing.
-use mathlib.Core.Path.{_≡_, refl, sym, ap, _∙_, subst}
+use mathlib.Core.Path.{_≡_, refl, sym, _∙_, subst}
 use mathlib.Core.Logic.{_⊎_, inl, inr, ⊎-elim}
 use mathlib.Core.Bool.{Bool, true, false, cond, _&&_}
 use mathlib.Core.List.{List, [], _∷_}
@@ -13,10 +13,10 @@ use lib.ListN.{length, getD, drop}
 use lib.Seq.{drop-cons}
 use borrow.Author.Tests.{eq-eqb, ne-eqb, eqb-false}
 use Rattle.laws.proofs.Truth.{true-T, T-true, and-l, and-r}
-use Rattle.bits.specs.Bitboard.{has, those, lowestOf}
+use Rattle.bits.specs.Bitboard.{has, lowestOf}
 use Rattle.bits.proofs.Digits.{has-and}
 use Rattle.bits.proofs.Those.{has-those, those-lt, is-those}
-use Rattle.bits.proofs.Scanned.{lowest, scan-is, scan-lt}
+use Rattle.bits.proofs.Scanned.{scanned-lowest, scan-is, scan-lt}
 use Rattle.attack.specs.Attacks.{standing}
 use Rattle.attack_to.proofs.Checks.{lowest-lt}
 use Rattle.exchange_least.specs.Least.{Attacker, nobody, attacker, stillThere, leastOf}
@@ -52,7 +52,7 @@ none-left kinds bbs colour attacks occ i e = rw e refl
 
 -- ---- who it is
 lowest-in : (b : ℕ) → b < 2 ^ 64 → (b ≡ 0 → ⊥) → has b (lowestOf b) ≡ true
-lowest-in b h ne = subst (λ (x : ℕ). has b x ≡ true) (scan-is b) (lowest 64 b .found (scan-lt b h ne))
+lowest-in b h ne = subst (λ (x : ℕ). has b x ≡ true) (scan-is b) (scanned-lowest 64 b .found (scan-lt b h ne))
 
 pub there-lt : (bbs : List ℕ) (kind colour attacks occ : ℕ) → stillThere bbs kind colour attacks occ < 2 ^ 64
 unfolding stillThere

@@ -26,6 +26,6 @@ least (L.At s) = given (s ∷ [])
 least L.Nobody = given []
 least (L.Refused r) = refusalOf r
 
-abbrev pub told : A.Attacker → Attacker
-told (At s kind) = attacker s kind
-told Nobody = nobody
+abbrev pub paperAttacker : A.Attacker → Attacker
+paperAttacker (At s kind) = attacker s kind
+paperAttacker Nobody = nobody

@@ -5,7 +5,7 @@ use Prim.Native.Nat.{ℕ}
 use Rattle.position.specs.declared.State.{State}
 use Rattle.attack_to.specs.Attackers.{attackers}
 use Rattle.exchange_least.specs.Least.{leastOf}
-use Rattle.exchange_least.specs.Answers.{lvpOf, least, told}
+use Rattle.exchange_least.specs.Answers.{lvpOf, least, paperAttacker}
 use Rattle.exchange_least.specs.declared.Least.{Least}
 use Rattle.exchange_least.specs.declared.inner.Attacker.{Attacker}
 
@@ -15,8 +15,8 @@ Lvp bitboards board state colour attacks occ r = least r ≡ lvpOf bitboards boa
 
 -- ---- the inner functions
 abbrev pub Picks : List ℕ → List ℕ → ℕ → ℕ → ℕ → Attacker → Type 0
-Picks kinds bitboards colour attacks occ r = told r ≡ leastOf kinds bitboards colour attacks occ
+Picks kinds bitboards colour attacks occ r = paperAttacker r ≡ leastOf kinds bitboards colour attacks occ
 
 -- "attacks on the target .. found afresh" from what is still there
 abbrev pub Capturer : List ℕ → List ℕ → ℕ → ℕ → ℕ → Attacker → Type 0
-Capturer kinds bitboards colour to occ r = told r ≡ leastOf kinds bitboards colour (attackers bitboards to occ) occ
+Capturer kinds bitboards colour to occ r = paperAttacker r ≡ leastOf kinds bitboards colour (attackers bitboards to occ) occ

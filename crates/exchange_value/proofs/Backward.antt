@@ -1,7 +1,7 @@
 -- The exchange from the last capture back, over ℕ: what the next capture is worth, or 0 where it does not pay. Assumes nothing.
 use mathlib.Core.Path.{_≡_, refl, sym, ap, ap₂, _∙_}
 use mathlib.Core.List.{List, [], _∷_, map}
-use Prim.Native.Nat.{ℕ, zero, suc, _+_, _-_, _≤_, _<_}
+use Prim.Native.Nat.{ℕ, suc, _+_, _-_, _≤_, _<_}
 use native.Mathlib.Nat.{add-zero}
 use native.Mathlib.Omega.{arith}
 use lib.IntN.{ℤ, pos, negsuc, _-ℤ_}
@@ -11,7 +11,7 @@ use mir.Syntax.{w16}
 use mir.Val.{SFits, toZ, ofZ}
 use mir.Facts.{toZ-ofZ}
 use Rattle.laws.proofs.Words.{fits-abs}
-use Rattle.laws.proofs.Diff.{Diff, up, diff-pos, diff-minus, diff-up, abs-minus}
+use Rattle.laws.proofs.Diff.{aboveZero, diff-pos, diff-minus, diff-up, abs-minus}
 use Rattle.chess.specs.Values.{valueOf}
 use Rattle.exchange_value.specs.Settled.{settled, orZero}
 
@@ -21,25 +21,25 @@ unfolding settled
 settled-cons v [] = ap pos (sym (add-zero v))
 settled-cons v (w ∷ vs) = refl
 
-or-up : (z : ℤ) → orZero z ≡ pos (up z)
+or-up : (z : ℤ) → orZero z ≡ pos (aboveZero z)
 or-up (pos n) = refl
 or-up (negsuc n) = refl
 
-pub settled-up : (v : ℕ) (vs : List ℕ) → settled (v ∷ vs) ≡ pos v -ℤ pos (up (settled vs))
+pub settled-up : (v : ℕ) (vs : List ℕ) → settled (v ∷ vs) ≡ pos v -ℤ pos (aboveZero (settled vs))
 settled-up v vs = settled-cons v vs ∙ ap (λ (z : ℤ). pos v -ℤ z) (or-up (settled vs))
 
-pub up-cons : (v : ℕ) (vs : List ℕ) → up (settled (v ∷ vs)) ≡ v - up (settled vs)
+pub up-cons : (v : ℕ) (vs : List ℕ) → aboveZero (settled (v ∷ vs)) ≡ v - aboveZero (settled vs)
 up-cons v vs =
-    let u : ℕ = up (settled vs) in
-    ap up (settled-up v vs) ∙ diff-up (pos v -ℤ pos u) (v + 0) (0 + u) (diff-minus (pos v) (pos u) v 0 u 0 (diff-pos v) (diff-pos u)) ∙ omega arith
+    let u : ℕ = aboveZero (settled vs) in
+    ap aboveZero (settled-up v vs) ∙ diff-up (pos v -ℤ pos u) (v + 0) (0 + u) (diff-minus (pos v) (pos u) v 0 u 0 (diff-pos v) (diff-pos u)) ∙ omega arith
 
 -- what the captures from k on are worth to the side that makes the first of them, if it need not
 abbrev pub gain : List ℕ → ℕ → ℕ
-gain kinds k = up (settled (drop k (map valueOf kinds)))
+gain kinds k = aboveZero (settled (drop k (map valueOf kinds)))
 
 pub no-gain : (kinds : List ℕ) → 0 ≡ gain kinds (length kinds)
 unfolding settled
-no-gain kinds = sym (ap (λ (l : List ℕ). up (settled l)) (drop-of-length-le (map valueOf kinds) {i = length kinds} (omega (arith, length-map kinds valueOf))))
+no-gain kinds = sym (ap (λ (l : List ℕ). aboveZero (settled l)) (drop-of-length-le (map valueOf kinds) {i = length kinds} (omega (arith, length-map kinds valueOf))))
 
 front : (kinds : List ℕ) (k : ℕ) → k < length kinds → drop k (map valueOf kinds) ≡ valueOf (getD kinds k 0) ∷ drop (suc k) (map valueOf kinds)
 front kinds k h =
@@ -51,7 +51,7 @@ pub back : (kinds : List ℕ) (k v next : ℕ) → 1 ≤ k → k ≤ length kind
 back kinds k v next one below ev en =
     let e : suc (k - 1) ≡ k = omega arith in
     ap₂ (λ (x y : ℕ). x - y) ev en
-    ∙ sym (ap (λ (l : List ℕ). up (settled l)) (front kinds (k - 1) (omega arith)) ∙ up-cons (valueOf (getD kinds (k - 1) 0)) (drop (suc (k - 1)) (map valueOf kinds))
+    ∙ sym (ap (λ (l : List ℕ). aboveZero (settled l)) (front kinds (k - 1) (omega arith)) ∙ up-cons (valueOf (getD kinds (k - 1) 0)) (drop (suc (k - 1)) (map valueOf kinds))
     ∙ ap (λ (j : ℕ). valueOf (getD kinds (k - 1) 0) - gain kinds j) e)
 
 -- ---- in 16 bits

@@ -7,7 +7,7 @@ use lib.Ieee.{Float}
 use Rattle.refusal.specs.Answer.{Answer}
 use Rattle.refusal.proofs.Paper.{one, retract, readBack, number-back}
 use Rattle.fit_adam.specs.Adam.{Fit}
-use Rattle.fit_adam.specs.Promises.{fit, paper, Answers, Steps, Moves, Starts, Nexts, PowersOf, TestsShape}
+use Rattle.fit_adam.specs.Promises.{fitFrom, paper, Answers, StepsFit, Moves, StartsPowers, NextPowers, PowersOf, TestsShape}
 use Rattle.fit_adam.specs.declared.Stepped.{Stepped}
 use Rattle.fit_adam.specs.declared.Stepped.the-variants.{Done, Refused}
 use Rattle.fit_adam.specs.declared.inner.Powers.{Powers}
@@ -24,22 +24,22 @@ answers-one : (a : Answer Fit) (old : Fit) (r s : Stepped) (t u : Fit) → Answe
 answers-one a old r s t u p q = (retract paper (readBack done Refused) paper-back r s (one (p .answer) (q .answer)), one (p .lent) (q .lent))
 
 -- ---- the functions; equal fits have equal moments and weights
-pub step : (g m v w : List Float) (n : ℕ) (rate : Float) (r s : Stepped) (m₁ v₁ w₁ m₂ v₂ w₂ : List Float) → Steps g m v w n rate r m₁ v₁ w₁
-    → Steps g m v w n rate s m₂ v₂ w₂ → (r ≡ s) × (m₁ ≡ m₂) × (v₁ ≡ v₂) × (w₁ ≡ w₂)
+pub step : (g m v w : List Float) (n : ℕ) (rate : Float) (r s : Stepped) (m₁ v₁ w₁ m₂ v₂ w₂ : List Float) → StepsFit g m v w n rate r m₁ v₁ w₁
+    → StepsFit g m v w n rate s m₂ v₂ w₂ → (r ≡ s) × (m₁ ≡ m₂) × (v₁ ≡ v₂) × (w₁ ≡ w₂)
 step g m v w n rate r s m₁ v₁ w₁ m₂ v₂ w₂ p q =
-    let e = answers-one _ (fit m v w) r s (fit m₁ v₁ w₁) (fit m₂ v₂ w₂) p q in
+    let e = answers-one _ (fitFrom m v w) r s (fitFrom m₁ v₁ w₁) (fitFrom m₂ v₂ w₂) p q in
     (e .0, ap (λ (x : Fit). x .m) (e .1), ap (λ (x : Fit). x .v) (e .1), ap (λ (x : Fit). x .weights) (e .1))
 
 pub moved : (g m v w : List Float) (powers : Powers) (rate : Float) (r s : Stepped) (m₁ v₁ w₁ m₂ v₂ w₂ : List Float) → Moves g m v w powers rate r m₁ v₁ w₁
     → Moves g m v w powers rate s m₂ v₂ w₂ → (r ≡ s) × (m₁ ≡ m₂) × (v₁ ≡ v₂) × (w₁ ≡ w₂)
 moved g m v w powers rate r s m₁ v₁ w₁ m₂ v₂ w₂ p q =
-    let e = answers-one _ (fit m v w) r s (fit m₁ v₁ w₁) (fit m₂ v₂ w₂) p q in
+    let e = answers-one _ (fitFrom m v w) r s (fitFrom m₁ v₁ w₁) (fitFrom m₂ v₂ w₂) p q in
     (e .0, ap (λ (x : Fit). x .m) (e .1), ap (λ (x : Fit). x .v) (e .1), ap (λ (x : Fit). x .weights) (e .1))
 
-pub start : (r s : Powers) → Starts r → Starts s → r ≡ s
+pub start : (r s : Powers) → StartsPowers r → StartsPowers s → r ≡ s
 start r s = one
 
-pub next : (p r s : Powers) → Nexts p r → Nexts p s → r ≡ s
+pub next : (p r s : Powers) → NextPowers p r → NextPowers p s → r ≡ s
 next p r s = one
 
 pub powers-of : (n : ℕ) (r s : Powers) → PowersOf n r → PowersOf n s → r ≡ s

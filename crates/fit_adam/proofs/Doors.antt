@@ -1,17 +1,17 @@
 -- What the doors return: one law for each return. Assumes nothing.
-use mathlib.Core.Path.{_≡_, refl, sym, ap, ap₂, subst, _∙_}
-use mathlib.Core.Bool.{Bool, true, false, not, cond, _&&_, _||_}
-use mathlib.Core.List.{List, []}
+use mathlib.Core.Path.{_≡_, refl, sym, ap, subst, _∙_}
+use mathlib.Core.Bool.{Bool, true, false, _&&_, _||_}
+use mathlib.Core.List.{List}
 use Prim.Native.Nat.{ℕ, _≤_, _<_}
 use native.Mathlib.Omega.{arith}
 use borrow.Author.Tests.{le-leb, lt-leb, eqb-true, eqb-false, ltb-true, ltb-false}
-use lib.Dec.{eqb, leb, ltb}
+use lib.Dec.{eqb, ltb}
 use lib.Ieee.{Float}
 use lib.ListN.{length}
 use Rattle.laws.proofs.Truth.{true-T, T-true, and-l, and-r}
-use Rattle.refusal.specs.Answer.{Answer, given, refused, orRefuse}
+use Rattle.refusal.specs.Answer.{Answer, given, orRefuse}
 use Rattle.fit_adam.specs.Adam.{Fit, beta1, beta2, power, stepped}
-use Rattle.fit_adam.specs.Promises.{isShaped, isIteration, movedOf, stepOf, Answers, MovesFrom, StepsFrom, powersOf}
+use Rattle.fit_adam.specs.Promises.{isShaped, isIteration, movedOf, fitStep, Answers, MovesFrom, StepsFrom, powersOf}
 use Rattle.fit_adam.specs.declared.Stepped.{Stepped}
 use Rattle.fit_adam.specs.declared.Stepped.the-variants.{Done, Refused}
 use Rattle.refusal.specs.declared.Refusal.the-variants as R
@@ -49,7 +49,7 @@ module _ (g : List Float) (s : Fit) (rate : Float) where
   -- by an iteration's powers, a step is the iteration's
   pub by-powers : (n : ℕ) (powers : Powers) (r : Stepped) (t : Fit) → isIteration n ≡ true → powers ≡ powersOf n → MovesFrom g s powers rate r t → StepsFrom g s n rate r t
   by-powers n powers r t e p h =
-      let q : movedOf g s powers rate ≡ stepOf g s n rate =
+      let q : movedOf g s powers rate ≡ fitStep g s n rate =
       ap (λ (x : Powers). movedOf g s x rate) p
       ∙ sym (ap (λ (b : Bool). orRefuse (isShaped g s) R.Shape (orRefuse b R.Iteration (given (stepped (power beta1 n) (power beta2 n) rate g s)))) e) in
       subst (λ (a : Answer Fit). Answers a s r t) q h

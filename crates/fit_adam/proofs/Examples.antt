@@ -2,7 +2,7 @@
 use mathlib.Core.Path.{_≡_, refl}
 use lib.Ieee.{Float, binary64, ofBits, round, add, sub, mul, div}
 use Rattle.fit_root.specs.Root.{rootOf}
-use Rattle.fit_adam.specs.Adam.{beta1, beta2, power, firstMoment, secondMoment, moved}
+use Rattle.fit_adam.specs.Adam.{beta1, beta2, power, firstMoment, secondMoment, weightMoved}
 
 abbrev g : Float
 g = ofBits binary64 0x3ff0_0000_0000_0000
@@ -20,6 +20,6 @@ second : secondMoment zero g ≡ ofBits binary64 0x3f50_624d_d2f1_aa00
 unfolding secondMoment ofBits add sub mul round
 second = refl
 
-weight : moved (power beta1 1) (power beta2 1) g (firstMoment zero g) (secondMoment zero g) (ofBits binary64 0x4073_0000_0000_0000) ≡ ofBits binary64 0x4072_f000_0002_af32
-unfolding moved power firstMoment secondMoment rootOf ofBits add sub mul div round
+weight : weightMoved (power beta1 1) (power beta2 1) g (firstMoment zero g) (secondMoment zero g) (ofBits binary64 0x4073_0000_0000_0000) ≡ ofBits binary64 0x4072_f000_0002_af32
+unfolding weightMoved power firstMoment secondMoment rootOf ofBits add sub mul div round
 weight = refl

@@ -34,8 +34,8 @@ unfoldable pub secondMoment : Float → Float → Float
 secondMoment v g = beta2 ⊗ v ⊕ (d1 ⊖ beta2) ⊗ g ⊗ g
 
 -- w -= rate * m_hat / (sqrt(v_hat) + epsilon), where m_hat = m / (1 - p) and v_hat = v / (1 - q), for the powers p of beta1 and q of beta2
-unfoldable pub moved : Float → Float → Float → Float → Float → Float → Float
-moved p q rate m v w = w ⊖ rate ⊗ (m ⊘ (d1 ⊖ p)) ⊘ (rootOf (v ⊘ (d1 ⊖ q)) ⊕ epsilon)
+unfoldable pub weightMoved : Float → Float → Float → Float → Float → Float → Float
+weightMoved p q rate m v w = w ⊖ rate ⊗ (m ⊘ (d1 ⊖ p)) ⊘ (rootOf (v ⊘ (d1 ⊖ q)) ⊕ epsilon)
 
 -- what a fit keeps from step to step: both moments and the weights, 779 each
 pub record Fit : Type 0 where
@@ -58,12 +58,12 @@ firstAt g s i = firstMoment (getD (s .m) i nan) (getD g i nan)
 abbrev pub secondAt : List Float → Fit → ℕ → Float
 secondAt g s i = secondMoment (getD (s .v) i nan) (getD g i nan)
 
-abbrev pub weightAt : Float → Float → Float → List Float → Fit → ℕ → Float
-weightAt p q rate g s i = moved p q rate (firstAt g s i) (secondAt g s i) (getD (s .weights) i nan)
+abbrev pub weightStepped : Float → Float → Float → List Float → Fit → ℕ → Float
+weightStepped p q rate g s i = weightMoved p q rate (firstAt g s i) (secondAt g s i) (getD (s .weights) i nan)
 
 abbrev pub stepped : Float → Float → Float → List Float → Fit → Fit
 stepped p q rate g s = record {
   m = butPawn (s .m) (firstAt g s);
   v = butPawn (s .v) (secondAt g s);
-  weights = butPawn (s .weights) (weightAt p q rate g s);
+  weights = butPawn (s .weights) (weightStepped p q rate g s);
 }

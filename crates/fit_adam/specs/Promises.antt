@@ -18,11 +18,11 @@ use Rattle.fit_adam.specs.declared.inner.Powers.{Powers}
 abbrev pub isShaped : List Float → Fit → Bool
 isShaped g s = eqb (length g) 779 && eqb (length (s .m)) 779 && eqb (length (s .v)) 779 && eqb (length (s .weights)) 779
 
-abbrev pub fit : List Float → List Float → List Float → Fit
-fit m v w = record { m = m; v = v; weights = w }
+abbrev pub fitFrom : List Float → List Float → List Float → Fit
+fitFrom m v w = record { m = m; v = v; weights = w }
 
 abbrev pub TestsShape : List Float → List Float → List Float → List Float → Bool → Type 0
-TestsShape g m v w r = r ≡ isShaped g (fit m v w)
+TestsShape g m v w r = r ≡ isShaped g (fitFrom m v w)
 
 -- "23 ITERATION for an iteration number of zero or above 1,000,000"
 abbrev pub isIteration : ℕ → Bool
@@ -33,8 +33,8 @@ abbrev pub movedOf : List Float → Fit → Powers → Float → Answer Fit
 movedOf g s powers rate = orRefuse (isShaped g s) R.Shape (given (stepped (powers .first) (powers .second) rate g s))
 
 -- the step of an iteration: SHAPE, then ITERATION
-abbrev pub stepOf : List Float → Fit → ℕ → Float → Answer Fit
-stepOf g s n rate =
+abbrev pub fitStep : List Float → Fit → ℕ → Float → Answer Fit
+fitStep g s n rate =
     orRefuse (isShaped g s) R.Shape (orRefuse (isIteration n) R.Iteration (given (stepped (power beta1 n) (power beta2 n) rate g s)))
 
 abbrev pub paper : Stepped → Answer Unit
@@ -42,40 +42,40 @@ paper Done = given tt
 paper (Refused r) = refusalOf r
 
 -- what comes back by value, and what stands in lent memory: "Every refusal .. changes no lent byte"
-abbrev pub valueOf : Answer Fit → Answer Unit
-valueOf (given s) = given tt
-valueOf (refused n l) = refused n l
+abbrev pub steppedByValue : Answer Fit → Answer Unit
+steppedByValue (given s) = given tt
+steppedByValue (refused n l) = refused n l
 
 abbrev pub fitAfter : Answer Fit → Fit → Fit
 fitAfter (given s) old = s
 fitAfter (refused n l) old = old
 
 pub record Answers (a : Answer Fit) (old : Fit) (r : Stepped) (new : Fit) : Type 0 where
-  pub answer : paper r ≡ valueOf a
+  pub answer : paper r ≡ steppedByValue a
   pub lent : new ≡ fitAfter a old
 
 abbrev pub StepsFrom : List Float → Fit → ℕ → Float → Stepped → Fit → Type 0
-StepsFrom g s n rate r t = Answers (stepOf g s n rate) s r t
+StepsFrom g s n rate r t = Answers (fitStep g s n rate) s r t
 
 abbrev pub MovesFrom : List Float → Fit → Powers → Float → Stepped → Fit → Type 0
 MovesFrom g s powers rate r t = Answers (movedOf g s powers rate) s r t
 
 -- the gradient, both moments and the weights before; the iteration and the rate; what comes back, both moments and the weights after
-abbrev pub Steps : List Float → List Float → List Float → List Float → ℕ → Float → Stepped → List Float → List Float → List Float → Type 0
-Steps g m v w n rate r m′ v′ w′ = StepsFrom g (fit m v w) n rate r (fit m′ v′ w′)
+abbrev pub StepsFit : List Float → List Float → List Float → List Float → ℕ → Float → Stepped → List Float → List Float → List Float → Type 0
+StepsFit g m v w n rate r m′ v′ w′ = StepsFrom g (fitFrom m v w) n rate r (fitFrom m′ v′ w′)
 
 abbrev pub Moves : List Float → List Float → List Float → List Float → Powers → Float → Stepped → List Float → List Float → List Float → Type 0
-Moves g m v w powers rate r m′ v′ w′ = MovesFrom g (fit m v w) powers rate r (fit m′ v′ w′)
+Moves g m v w powers rate r m′ v′ w′ = MovesFrom g (fitFrom m v w) powers rate r (fitFrom m′ v′ w′)
 
 -- the powers before the first iteration, and one iteration on
-abbrev pub Starts : Powers → Type 0
-Starts r = r ≡ record { first = d1; second = d1 }
+abbrev pub StartsPowers : Powers → Type 0
+StartsPowers r = r ≡ record { first = d1; second = d1 }
 
-abbrev pub nextOf : Powers → Powers
-nextOf p = record { first = p .first ⊗ beta1; second = p .second ⊗ beta2 }
+abbrev pub powersNext : Powers → Powers
+powersNext p = record { first = p .first ⊗ beta1; second = p .second ⊗ beta2 }
 
-abbrev pub Nexts : Powers → Powers → Type 0
-Nexts p r = r ≡ nextOf p
+abbrev pub NextPowers : Powers → Powers → Type 0
+NextPowers p r = r ≡ powersNext p
 
 -- the powers of an iteration
 abbrev pub powersOf : ℕ → Powers

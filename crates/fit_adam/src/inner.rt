@@ -1,8 +1,8 @@
 // A step by powers that are handed over: for a fit that goes on from iteration to iteration, and does not work them out afresh.
 ghost use mathlib.Core.Path.{_≡_};
 ghost use lib.ListN.{length};
-ghost use Rattle.fit_adam.specs.Adam.{firstMoment, secondMoment, moved, stepped};
-ghost use Rattle.fit_adam.specs.Promises.{fit, TestsShape, Moves, Starts, Nexts, PowersOf};
+ghost use Rattle.fit_adam.specs.Adam.{firstMoment, secondMoment, weightMoved, stepped};
+ghost use Rattle.fit_adam.specs.Promises.{fitFrom, TestsShape, Moves, StartsPowers, NextPowers, PowersOf};
 use crate::Stepped;
 use places::weight::Weight;
 use refusal::Refusal;
@@ -20,7 +20,7 @@ pub struct Powers {
 }
 
 pub fn start() -> Powers
-    ensures { λ r. ⌜ Starts r ⌝ }
+    ensures { λ r. ⌜ StartsPowers r ⌝ }
 {
     Powers {
         first: 1.0,
@@ -29,7 +29,7 @@ pub fn start() -> Powers
 }
 
 pub fn next(powers: Powers) -> Powers
-    ensures { λ r. ⌜ Nexts powers r ⌝ }
+    ensures { λ r. ⌜ NextPowers powers r ⌝ }
 {
     Powers {
         first: powers.first * BETA1,
@@ -64,7 +64,7 @@ fn second_moment(v: f64, g: f64) -> f64
 }
 
 fn moved_weight(powers: Powers, rate: f64, m: f64, v: f64, weight: f64) -> f64
-    ensures { λ r. ⌜ r ≡ moved (powers .first) (powers .second) rate m v weight ⌝ }
+    ensures { λ r. ⌜ r ≡ weightMoved (powers .first) (powers .second) rate m v weight ⌝ }
 {
     let m_hat = m / (1.0 - powers.first);
     let v_hat = v / (1.0 - powers.second);
@@ -91,7 +91,7 @@ fn walk(
     rate: f64,
 )
     requires { ⌜ (length (now gradient) ≡ 779) × (length (now m) ≡ 779) × (length (now v) ≡ 779) × (length (now weights) ≡ 779) ⌝ }
-    ensures { λ _. ⌜ fit (now (m .exit)) (now (v .exit)) (now (weights .exit)) ≡ stepped (powers .first) (powers .second) rate (now (gradient .entry)) (fit (now (m .entry)) (now (v .entry)) (now (weights .entry))) ⌝ }
+    ensures { λ _. ⌜ fitFrom (now (m .exit)) (now (v .exit)) (now (weights .exit)) ≡ stepped (powers .first) (powers .second) rate (now (gradient .entry)) (fitFrom (now (m .entry)) (now (v .entry)) (now (weights .entry))) ⌝ }
 {
     let mut i: usize = 1;
     while i < Weight::COUNT {

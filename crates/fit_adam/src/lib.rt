@@ -1,6 +1,5 @@
 // The Adam update of `tune`: one step of both moments and the weights, 779 each, lent. The pawn's weight never moves.
-ghost use mathlib.Core.Path.{_≡_};
-ghost use Rattle.fit_adam.specs.Promises.{Steps};
+ghost use Rattle.fit_adam.specs.Promises.{StepsFit};
 
 pub mod inner;
 
@@ -22,7 +21,7 @@ pub fn step(
     iteration: u64,
     rate: f64,
 ) -> Stepped
-    ensures { λ r. ⌜ Steps (now (gradient .entry)) (now (m .entry)) (now (v .entry)) (now (weights .entry)) iteration rate r (now (m .exit)) (now (v .exit)) (now (weights .exit)) ⌝ }
+    ensures { λ r. ⌜ StepsFit (now (gradient .entry)) (now (m .entry)) (now (v .entry)) (now (weights .entry)) iteration rate r (now (m .exit)) (now (v .exit)) (now (weights .exit)) ⌝ }
 {
     if !inner::is_shaped(gradient, m, v, weights) {
         return Stepped::Refused(Refusal::Shape);

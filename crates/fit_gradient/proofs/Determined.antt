@@ -5,7 +5,7 @@ use lib.IntN.{ℤ}
 use lib.Ieee.{Float}
 use Rattle.refusal.proofs.Paper.{one, retract, readBack, number-back}
 use Rattle.trace_counts.specs.declared.Trace.{Trace}
-use Rattle.fit_gradient.specs.Promises.{paper, Adds}
+use Rattle.fit_gradient.specs.Promises.{paper, AddsTrace}
 use Rattle.fit_gradient.specs.declared.Added.{Added}
 use Rattle.fit_gradient.specs.declared.Added.the-variants.{Done, Refused}
 
@@ -16,6 +16,6 @@ paper-back : (r : Added) → readBack done Refused (paper r) ≡ r
 paper-back Done = refl
 paper-back (Refused q) = ap Refused (number-back q)
 
-pub add : (t : Trace) (entries : List ℤ) (c : Float) (before : List Float) (r s : Added) (after last : List Float) → Adds t entries c before r after
-    → Adds t entries c before s last → (r ≡ s) × (after ≡ last)
+pub add : (t : Trace) (entries : List ℤ) (c : Float) (before : List Float) (r s : Added) (after last : List Float) → AddsTrace t entries c before r after
+    → AddsTrace t entries c before s last → (r ≡ s) × (after ≡ last)
 add t entries c before r s after last p q = (retract paper (readBack done Refused) paper-back r s (one (p .answer) (q .answer)), one (p .lent) (q .lent))

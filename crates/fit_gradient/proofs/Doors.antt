@@ -1,11 +1,10 @@
 -- What `add` returns: one law for each return. Assumes nothing.
-use mathlib.Core.Path.{_≡_, refl, sym, ap, ap₂, subst, _∙_}
+use mathlib.Core.Path.{_≡_, sym, ap, ap₂, _∙_}
 use mathlib.Core.Bool.{Bool, true, false, _&&_}
 use mathlib.Core.List.{List}
-use Prim.Native.Nat.{ℕ, _≤_}
 use native.Mathlib.Nat.{le-of-eq}
 use borrow.Author.Tests.{eq-eqb, ne-eqb}
-use lib.Dec.{T, eqb}
+use lib.Dec.{T}
 use lib.IntN.{ℤ}
 use lib.ListN.{length}
 use lib.Ieee.{Float}
@@ -14,24 +13,24 @@ use Rattle.laws.proofs.Truth.{true-T, and-r}
 use Rattle.trace_counts.specs.Ranges.{inRanges, areEntries}
 use Rattle.trace_counts.specs.declared.Trace.{Trace}
 use Rattle.doubles.specs.Doubles.{dbl}
-use Rattle.fit_gradient.specs.Gradient.{namedParts, firstRaised, squaresRaised, lineAdded}
+use Rattle.fit_gradient.specs.Gradient.{namedParts, firstRaised, lineAdded}
 use Rattle.fit_gradient.specs.Marks.{partsOf, squaresBy}
-use Rattle.fit_gradient.specs.Promises.{Adds}
+use Rattle.fit_gradient.specs.Promises.{AddsTrace}
 use Rattle.fit_gradient.specs.declared.Added.the-variants.{Done, Refused}
 use Rattle.fit_gradient.specs.declared.Parts.{Parts}
 use Rattle.fit_gradient.proofs.Marks.{all-by-parts}
 
 module _ (t : Trace) (es : List ℤ) (c : Float) (g : List Float) where
-  pub unlike-entries : (length es ≡ 768 → ⊥) → Adds t es c g (Refused R.Shape) g
+  pub unlike-entries : (length es ≡ 768 → ⊥) → AddsTrace t es c g (Refused R.Shape) g
   unlike-entries n = record { answer = rw (ne-eqb (length es) 768 n); lent = rw (ne-eqb (length es) 768 n) }
 
-  pub unlike-gradient : length es ≡ 768 → (length g ≡ 779 → ⊥) → Adds t es c g (Refused R.Shape) g
+  pub unlike-gradient : length es ≡ 768 → (length g ≡ 779 → ⊥) → AddsTrace t es c g (Refused R.Shape) g
   unlike-gradient e n = record { answer = rw (eq-eqb (length es) 768 e, ne-eqb (length g) 779 n); lent = rw (eq-eqb (length es) 768 e, ne-eqb (length g) 779 n) }
 
-  pub no-trace : length es ≡ 768 → length g ≡ 779 → (inRanges t && areEntries es) ≡ false → Adds t es c g (Refused R.Trace) g
+  pub no-trace : length es ≡ 768 → length g ≡ 779 → (inRanges t && areEntries es) ≡ false → AddsTrace t es c g (Refused R.Trace) g
   no-trace e f u = record { answer = simp (eq-eqb (length es) 768 e, eq-eqb (length g) 779 f, u); lent = simp (eq-eqb (length es) 768 e, eq-eqb (length g) 779 f, u) }
 
-  pub worked : length es ≡ 768 → length g ≡ 779 → (inRanges t && areEntries es) ≡ true → (r : List Float) → r ≡ lineAdded t es c g → Adds t es c g Done r
+  pub worked : length es ≡ 768 → length g ≡ 779 → (inRanges t && areEntries es) ≡ true → (r : List Float) → r ≡ lineAdded t es c g → AddsTrace t es c g Done r
   worked e f u r q = record { answer = simp (eq-eqb (length es) 768 e, eq-eqb (length g) 779 f, u); lent = simp (eq-eqb (length es) 768 e, eq-eqb (length g) 779 f, u) q }
 
   -- the code's way round

@@ -1,9 +1,9 @@
 -- The entries of a line, one on and four: what they raise, nothing where an entry is 0, and that a line's four parts are all there are.
 -- Assumes nothing.
-use mathlib.Core.Path.{_≡_, refl, sym, ap, ap₂, _∙_, subst}
+use mathlib.Core.Path.{_≡_, refl, sym, ap, ap₂, _∙_}
 use mathlib.Core.Bool.{Bool, true, false, cond, _&&_}
 use mathlib.Core.List.{List}
-use Prim.Native.Nat.{ℕ, zero, suc, _+_, _-_, _*_, _/_, _%_, _^_, _<_, _≤_}
+use Prim.Native.Nat.{ℕ, zero, suc, _+_, _-_, _%_, _^_, _<_, _≤_}
 use native.Mathlib.Numerals.{add-one}
 use native.Mathlib.Omega.{arith}
 use borrow.Author.Tests.{eq-eqb, ne-eqb}
@@ -11,19 +11,18 @@ use lib.Dec.{T, eqb, eqb→eq, leb→le}
 use lib.IntN.{ℤ, pos, negsuc, natAbs}
 use lib.Signed.{mag, leZ}
 use lib.ListN.{getD, set, length, length-set}
-use lib.Ieee.{Float, nan, binary64, ofInt, ofBits, round}
+use lib.Ieee.{Float, nan, ofInt, ofBits}
 use mir.Syntax.{w32}
 use mir.Val.{ofZ}
 use Rattle.laws.proofs.Words.{held}
 use Rattle.trace_counts.proofs.Held.{read}
-use Rattle.laws.proofs.Truth.{true-T, and-l, and-r}
+use Rattle.laws.proofs.Truth.{and-l, and-r}
 use Rattle.laws.proofs.Tests.{all-at}
-use Rattle.laws.specs.Tests.{allBelow}
 use Rattle.trace_counts.specs.Ranges.{within, areEntries}
 use Rattle.doubles.specs.Doubles.{_⊕_, dbl, d1, minus1}
 use Rattle.places.specs.Places.{colourAt}
-use Rattle.fit_gradient.specs.Gradient.{raised, placeAt, signAt, openingPart, endingPart, firstRaised, marked, squaresRaised}
-use Rattle.fit_gradient.specs.Marks.{partsOf, both, markedBy, squaresBy}
+use Rattle.fit_gradient.specs.Gradient.{raised, placeAt, openingPart, endingPart, firstRaised, entryRaised, squaresRaised}
+use Rattle.fit_gradient.specs.Marks.{partsOf, bothRaised, markedBy, squaresBy}
 use Rattle.fit_gradient.specs.declared.Parts.{Parts}
 
 -- ---- a test of its bits says whether an entry is 0
@@ -44,21 +43,17 @@ module _ (p : Parts) (g : List Float) (k : ℕ) where
   unfolding markedBy
   passed z h e = rw (sym (zero-same z h) ∙ eq-eqb (ofZ w32 z) 0 e)
 
-  pub still : (z : ℤ) → z ≡ pos 0 → g ≡ markedBy p g k z
-  unfolding markedBy
-  still z e = rw e
-
-  pub white : (z : ℤ) (r : List Float) → mag z < 2 ^ 31 → (ofZ w32 z ≡ 0 → ⊥) → k % 2 ≡ 0 → r ≡ both g k (p .«white_opening») (p .«white_ending») → r ≡ markedBy p g k z
+  pub white : (z : ℤ) (r : List Float) → mag z < 2 ^ 31 → (ofZ w32 z ≡ 0 → ⊥) → k % 2 ≡ 0 → r ≡ bothRaised g k (p .«white_opening») (p .«white_ending») → r ≡ markedBy p g k z
   unfolding markedBy
   white z r h e o q = rw (sym (zero-same z h) ∙ ne-eqb (ofZ w32 z) 0 e, eq-eqb (k % 2) 0 o) q
 
-  pub black : (z : ℤ) (r : List Float) → mag z < 2 ^ 31 → (ofZ w32 z ≡ 0 → ⊥) → (k % 2 ≡ 0 → ⊥) → r ≡ both g k (p .«black_opening») (p .«black_ending») → r ≡ markedBy p g k z
+  pub black : (z : ℤ) (r : List Float) → mag z < 2 ^ 31 → (ofZ w32 z ≡ 0 → ⊥) → (k % 2 ≡ 0 → ⊥) → r ≡ bothRaised g k (p .«black_opening») (p .«black_ending») → r ≡ markedBy p g k z
   unfolding markedBy
   black z r h e o q = rw (sym (zero-same z h) ∙ ne-eqb (ofZ w32 z) 0 e, ne-eqb (k % 2) 0 o) q
 
 -- the two places of an entry's weights
 pub at-places : (g : List Float) (k a b : ℕ) (o e : Float) → a ≡ placeAt 0 k → b ≡ placeAt 1 k
-    → set (set g a (getD g a nan ⊕ o)) b (getD (set g a (getD g a nan ⊕ o)) b nan ⊕ e) ≡ both g k o e
+    → set (set g a (getD g a nan ⊕ o)) b (getD (set g a (getD g a nan ⊕ o)) b nan ⊕ e) ≡ bothRaised g k o e
 at-places g k a b o e p q = ap₂ (λ (i j : ℕ). raised (raised g i o) j e) p q
 
 pub as-long : (g : List Float) (a b : ℕ) (x y : Float) → length g ≡ 779 → length (set (set g a x) b y) ≡ 779
@@ -130,13 +125,13 @@ mark-of (pos (suc zero)) t = yes
 mark-of (pos (suc (suc n))) t = absurd (omega (arith, leb→le (suc (suc n)) 1 (and-r (leZ (pos 0) (pos (suc (suc n)))) (leZ (pos (suc (suc n))) (pos 1)) t)))
 mark-of (negsuc n) t = absurd t
 
-by-parts : (c x : Float) (g : List Float) (k : ℕ) {z : ℤ} → Mark z → marked c x g k z ≡ markedBy (partsOf c x) g k z
-unfolding marked markedBy
+by-parts : (c x : Float) (g : List Float) (k : ℕ) {z : ℤ} → Mark z → entryRaised c x g k z ≡ markedBy (partsOf c x) g k z
+unfolding entryRaised markedBy
 by-parts c x g k no = refl
 by-parts c x g k yes = rw one-is (go (eqb (colourAt k) 0))
   where
-    go : (t : Bool) → both g k (openingPart c (cond t d1 minus1) d1 x) (endingPart c (cond t d1 minus1) d1 x)
-        ≡ cond t (both g k (openingPart c d1 d1 x) (endingPart c d1 d1 x)) (both g k (openingPart c minus1 d1 x) (endingPart c minus1 d1 x))
+    go : (t : Bool) → bothRaised g k (openingPart c (cond t d1 minus1) d1 x) (endingPart c (cond t d1 minus1) d1 x)
+        ≡ cond t (bothRaised g k (openingPart c d1 d1 x) (endingPart c d1 d1 x)) (bothRaised g k (openingPart c minus1 d1 x) (endingPart c minus1 d1 x))
     go true = refl
     go false = refl
 
@@ -144,7 +139,7 @@ pub all-by-parts : (c x : Float) (es : List ℤ) (g : List Float) → T (areEntr
 unfolding squaresRaised squaresBy
 all-by-parts c x es g t zero h = refl
 all-by-parts c x es g t (suc n) h =
-    ap (λ (y : List Float). marked c x y n (getD es n (pos 0))) (all-by-parts c x es g t n (omega arith))
+    ap (λ (y : List Float). entryRaised c x y n (getD es n (pos 0))) (all-by-parts c x es g t n (omega arith))
     ∙ by-parts c x (squaresBy (partsOf c x) es g n) n (mark-of (getD es n (pos 0)) (all-at (length es) (λ k. within (pos 1) (getD es k (pos 0))) t n h))
 
 -- ---- the named weights, one on

@@ -9,7 +9,7 @@ use lib.ListN.{getD, set}
 use lib.Ieee.{Float, nan}
 use Rattle.places.specs.Places.{weightPlace, kindAt, squareAt, colourAt}
 use Rattle.doubles.specs.Doubles.{_⊕_, _⊖_, _⊗_, _⊘_, dbl, d1, minus1, d2, d10, d32}
-use Rattle.trace_named.specs.Named.{attacked}
+use Rattle.trace_named.specs.Named.{attackedIn}
 use Rattle.trace_counts.specs.declared.Trace.{Trace}
 
 -- gradient[i] += part
@@ -30,8 +30,8 @@ abbrev pub namedParts : Trace → Float → List Float
 namedParts t c =
     countPart c (t .pawns) ∷ countPart c (t .knights) ∷ countPart c (t .bishops) ∷ countPart c (t .rooks) ∷ countPart c (t .queens)
     ∷ countPart c (t .«bishop_pair»)
-    ∷ mobilityPart c (attacked t 1 0) (attacked t 1 1) ∷ mobilityPart c (attacked t 2 0) (attacked t 2 1)
-    ∷ mobilityPart c (attacked t 3 0) (attacked t 3 1) ∷ mobilityPart c (attacked t 4 0) (attacked t 4 1)
+    ∷ mobilityPart c (attackedIn t 1 0) (attackedIn t 1 1) ∷ mobilityPart c (attackedIn t 2 0) (attackedIn t 2 1)
+    ∷ mobilityPart c (attackedIn t 3 0) (attackedIn t 3 1) ∷ mobilityPart c (attackedIn t 4 0) (attackedIn t 4 1)
     ∷ (c ⊗ dbl (t .side)) ∷ []
 
 -- the first n places, each by its part
@@ -57,16 +57,16 @@ abbrev pub placeAt : ℕ → ℕ → ℕ
 placeAt phase k = 11 + weightPlace (kindAt k) phase (squareAt k)
 
 -- the entry at k: nothing where it is 0
-unfoldable pub marked : Float → Float → List Float → ℕ → ℤ → List Float
-marked c x g k entry =
+unfoldable pub entryRaised : Float → Float → List Float → ℕ → ℤ → List Float
+entryRaised c x g k entry =
     let o : List Float = raised g (placeAt 0 k) (openingPart c (signAt k) (dbl entry) x) in
     cond (eqb (natAbs entry) 0) g (raised o (placeAt 1 k) (endingPart c (signAt k) (dbl entry) x))
 
 -- the first n entries, in the order of their places: by kind, by square, White before Black
 unfoldable pub squaresRaised : Float → Float → List ℤ → List Float → ℕ → List Float
-unfolding marked
+unfolding entryRaised
 squaresRaised c x entries g zero = g
-squaresRaised c x entries g (suc n) = marked c x (squaresRaised c x entries g n) n (getD entries n (pos 0))
+squaresRaised c x entries g (suc n) = entryRaised c x (squaresRaised c x entries g n) n (getD entries n (pos 0))
 
 -- ---- the line
 unfoldable pub lineAdded : Trace → List ℤ → Float → List Float → List Float

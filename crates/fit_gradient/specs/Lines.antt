@@ -11,27 +11,27 @@ use Rattle.fit_gradient.specs.Gradient.{lineAdded}
 use Rattle.fit_gradient.specs.Promises.{addedOf, gradientAfter}
 
 -- a line's trace, its entries, and the coefficient that the caller supplies
-pub record Line : Type 0 where
+pub record FitLine : Type 0 where
   pub trace : Trace
   pub entries : List ℤ
   pub coefficient : Float
 
 -- lines that are not refused
-pub record Good (l : Line) : Type 0 where
+pub record Good (l : FitLine) : Type 0 where
   pub shaped : length (l .entries) ≡ 768
   pub traced : (inRanges (l .trace) && areEntries (l .entries)) ≡ true
 
-pub data AllGood : List Line → Type 0 where
+pub data AllGood : List FitLine → Type 0 where
   none : AllGood []
-  more : {l : Line} {ls : List Line} → Good l → AllGood ls → AllGood (l ∷ ls)
+  more : {l : FitLine} {ls : List FitLine} → Good l → AllGood ls → AllGood (l ∷ ls)
 
 -- what calls of `add` leave, one for each line, in order
-unfoldable pub fed : List Float → List Line → List Float
-fed g [] = g
-fed g (l ∷ ls) = fed (gradientAfter (addedOf (l .trace) (l .entries) (l .coefficient) g) g) ls
+unfoldable pub gradientFed : List Float → List FitLine → List Float
+gradientFed g [] = g
+gradientFed g (l ∷ ls) = gradientFed (gradientAfter (addedOf (l .trace) (l .entries) (l .coefficient) g) g) ls
 
 -- the sum in line order
-unfoldable pub summed : List Float → List Line → List Float
+unfoldable pub gradientSummed : List Float → List FitLine → List Float
 unfolding lineAdded
-summed g [] = g
-summed g (l ∷ ls) = summed (lineAdded (l .trace) (l .entries) (l .coefficient) g) ls
+gradientSummed g [] = g
+gradientSummed g (l ∷ ls) = gradientSummed (lineAdded (l .trace) (l .entries) (l .coefficient) g) ls

@@ -20,13 +20,13 @@ partsOf c x = record {
   «black_ending» = endingPart c minus1 d1 x;
 }
 
-abbrev pub both : List Float → ℕ → Float → Float → List Float
-both g k opening ending = raised (raised g (placeAt 0 k) opening) (placeAt 1 k) ending
+abbrev pub bothRaised : List Float → ℕ → Float → Float → List Float
+bothRaised g k opening ending = raised (raised g (placeAt 0 k) opening) (placeAt 1 k) ending
 
 unfoldable pub markedBy : Parts → List Float → ℕ → ℤ → List Float
 markedBy p g k entry =
     cond (eqb (natAbs entry) 0) g
-    (cond (eqb (colourAt k) 0) (both g k (p .«white_opening») (p .«white_ending»)) (both g k (p .«black_opening») (p .«black_ending»)))
+    (cond (eqb (colourAt k) 0) (bothRaised g k (p .«white_opening») (p .«white_ending»)) (bothRaised g k (p .«black_opening») (p .«black_ending»)))
 
 unfoldable pub squaresBy : Parts → List ℤ → List Float → ℕ → List Float
 unfolding markedBy

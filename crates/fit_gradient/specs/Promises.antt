@@ -24,15 +24,15 @@ abbrev pub paper : Added → Answer Unit
 paper Done = given tt
 paper (Refused r) = refusalOf r
 
-abbrev pub valueOf : Answer (List Float) → Answer Unit
-valueOf (given g) = given tt
-valueOf (refused n l) = refused n l
+abbrev pub addedByValue : Answer (List Float) → Answer Unit
+addedByValue (given g) = given tt
+addedByValue (refused n l) = refused n l
 
 -- "Every refusal .. changes no lent byte"
 abbrev pub gradientAfter : Answer (List Float) → List Float → List Float
 gradientAfter (given g) old = g
 gradientAfter (refused n l) old = old
 
-pub record Adds (t : Trace) (entries : List ℤ) (c : Float) (before : List Float) (r : Added) (after : List Float) : Type 0 where
-  pub answer : paper r ≡ valueOf (addedOf t entries c before)
+pub record AddsTrace (t : Trace) (entries : List ℤ) (c : Float) (before : List Float) (r : Added) (after : List Float) : Type 0 where
+  pub answer : paper r ≡ addedByValue (addedOf t entries c before)
   pub lent : after ≡ gradientAfter (addedOf t entries c before) before

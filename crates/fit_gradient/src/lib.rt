@@ -3,10 +3,9 @@ ghost use mathlib.Core.Path.{_≡_};
 ghost use lib.IntN.{pos};
 ghost use lib.ListN.{length, getD};
 ghost use Prim.Native.Nat.{_+_, _*_, _<_};
-ghost use Rattle.doubles.specs.Doubles.{dbl};
 ghost use Rattle.fit_gradient.specs.Gradient.{countPart, mobilityPart, namedParts, firstRaised};
-ghost use Rattle.fit_gradient.specs.Marks.{partsOf, both, markedBy, squaresBy};
-ghost use Rattle.fit_gradient.specs.Promises.{Adds};
+ghost use Rattle.fit_gradient.specs.Marks.{partsOf, bothRaised, markedBy, squaresBy};
+ghost use Rattle.fit_gradient.specs.Promises.{AddsTrace};
 use chess::color::Color;
 use chess::piece::Piece;
 use places::entry::Entry;
@@ -104,7 +103,7 @@ fn square_parts(coefficient: f64, x: f64) -> Parts
 // The weights of the entry at k are raised.
 fn raise(gradient: &mut [f64], k: usize, opening: f64, ending: f64)
     requires { ⌜ (length (now gradient) ≡ 779) × (k < 768) ⌝ }
-    ensures { λ _. ⌜ (now (gradient .exit) ≡ both (now (gradient .entry)) k opening ending) × (length (now (gradient .exit)) ≡ 779) ⌝ }
+    ensures { λ _. ⌜ (now (gradient .exit) ≡ bothRaised (now (gradient .entry)) k opening ending) × (length (now (gradient .exit)) ≡ 779) ⌝ }
 {
     let at = Weight::NAMED
         + k / SquareWeight::PER_KIND * SquareWeight::PER_KIND
@@ -167,7 +166,7 @@ fn squares_added(gradient: &mut [f64], parts: Parts, entries: &[i32])
 
 // The 768 entries and the 779 sums are lent. SHAPE, then TRACE.
 pub fn add(trace: Trace, entries: &[i32], coefficient: f64, gradient: &mut [f64]) -> Added
-    ensures { λ r. ⌜ Adds trace (now (entries .entry)) coefficient (now (gradient .entry)) r (now (gradient .exit)) ⌝ }
+    ensures { λ r. ⌜ AddsTrace trace (now (entries .entry)) coefficient (now (gradient .entry)) r (now (gradient .exit)) ⌝ }
 {
     if entries.len() != Entry::COUNT {
         return Added::Refused(Refusal::Shape);

@@ -1,21 +1,18 @@
 -- No other double is as near to the root as `rootOf` gives, and there are no ties. The root is N·2^k units for an N of 53 digits; the doubles
 -- next to it are 2^k units away, or half as many below a power of two, where the root is not below N·2^k. Assumes nothing.
 use mathlib.Core.Path.{_≡_, refl, sym, ap, _∙_, subst}
-use mathlib.Core.Bool.{Bool, true, false, not, _&&_}
+use mathlib.Core.Bool.{Bool, true, false, not}
 use mathlib.Core.Logic.{_⊎_, inl, inr}
 use Prim.Native.Nat.{ℕ, zero, suc, _+_, _-_, _*_, _/_, _%_, _^_, _≤_, _<_, zero-le}
-use native.Mathlib.Nat.{le-trans, le-of-eq, le-of-lt, mod-lt, lt-irrefl, lt-of-lt-of-le, lt-of-le-of-lt, lt-of-not-le, not-le-of-lt, mul-assoc, mul-comm, mul-left-comm, mul-right-comm, mul-mul-mul-comm, mul-pos, mul-le-mul, mul-le-mul-left, mul-le-mul-right, mul-lt-mul-of-pos-right, lt-of-mul-lt-mul-right, eq-or-lt-of-le, suc-mul, add-mul, pow-suc, eq-of-mul-eq-mul-right}
+use native.Mathlib.Nat.{le-trans, le-of-eq, le-of-lt, mod-lt, lt-of-lt-of-le, lt-of-le-of-lt, lt-of-not-le, not-le-of-lt, mul-assoc, mul-comm, mul-right-comm, mul-mul-mul-comm, mul-pos, mul-le-mul, mul-le-mul-left, mul-le-mul-right, mul-lt-mul-of-pos-right, lt-of-mul-lt-mul-right, suc-mul, pow-suc}
 use native.Mathlib.Omega.{arith}
 use lib.Pow.{pow-add, pow-pos, pow-mono}
-use lib.IntN.{ℤ, pos, negsuc}
 use lib.Arith.{lt-of-le-ne}
-use lib.Dec.{T, lit≤, leb→le, nleb→lt, ltb→lt, eqb, ltb, leb}
-use lib.Ieee.{Float, nan, inf, fin, binary64, up, down, fits}
-use lib.Ieee.Exact.{HasValue}
-use Rattle.fit_root.specs.Root.{wholeRoot, nearestRoot, rootOf}
+use lib.Dec.{T, lit≤, leb→le, nleb→lt, leb}
+use Rattle.fit_root.specs.Root.{wholeRoot, nearestRoot}
 use Rattle.fit_root.specs.Whole.{IsRoot}
 use Rattle.fit_root.specs.Closest.{IsDouble, IsNearest, Nearest}
-use Rattle.fit_root.proofs.Whole.{root-lt, whole-is, whole-fits, doubled-or-not}
+use Rattle.fit_root.proofs.Whole.{whole-is, whole-fits, doubled-or-not}
 use Rattle.fit_root.proofs.Rounded.{odd-square, root-value, root-low, itself-at-least, scaled-units, halved}
 
 -- ---- doubles next to N·2^k

@@ -2,23 +2,20 @@
 use mathlib.Core.Path.{_≡_, refl, sym, ap, _∙_, subst}
 use mathlib.Core.Logic.{inl, inr}
 use mathlib.Core.Bool.{Bool, true, false, not, _&&_, cond, true≢false}
-use Prim.Native.Nat.{ℕ, zero, suc, _+_, _-_, _*_, _/_, _%_, _^_, _≤_, _<_}
-use native.Mathlib.Nat.{le-trans, le-of-eq, lt-irrefl, lt-of-lt-of-le, zero-lt-suc, zero-mul, mul-one, mul-pos, eq-of-mul-eq-mul-right, add-zero, add-comm, eq-zero-or-pos, mul-div-cancel}
+use Prim.Native.Nat.{ℕ, zero, suc, _+_, _*_, _/_, _%_, _^_, _≤_, _<_}
+use native.Mathlib.Nat.{lt-irrefl, zero-lt-suc, zero-mul, mul-pos, add-comm, eq-zero-or-pos, mul-div-cancel}
 use native.Mathlib.Omega.{arith}
-use lib.IntN.{ℤ, pos}
-use lib.Dec.{T, ltb, leb, eqb, leb→le, nleb→lt, eqb→eq, ltb→lt}
+use lib.IntN.{ℤ}
+use lib.Dec.{T, leb, eqb}
 use lib.Pow.{pow-pos}
-use lib.Ieee.{Float, nan, inf, fin, Format, binary64, prec, low, hid, top, ones, up, down, odd, ofFields, ofBits, toBits, fits, isNan, eq, lt, ne, div}
+use lib.Ieee.{Float, nan, inf, fin, Format, binary64, prec, low, hid, ones, up, down, ofFields, ofBits, toBits, fits, isNan, eq, lt, ne, div}
 use lib.Ieee.Fits.{up-pos, down-pos}
 use lib.Ieee.Exact.{HasValue, odd-sign}
-use lib.Ieee.Bits.{ofBits-toBits, toBits-lt}
+use lib.Ieee.Bits.{ofBits-toBits}
 use lib.Ieee.Compare.{differs-from-itself, nan-differs}
-use borrow.Author.Tests.{eq-eqb, ne-eqb, eqb-true, eqb-false, ltb-true, ltb-false, leb-false, lt-leb}
+use borrow.Author.Tests.{eq-eqb, ne-eqb, eqb-true, ltb-true, ltb-false, leb-false, lt-leb}
 use Rattle.doubles.specs.Doubles.{d0}
-use Rattle.fit_root.specs.Root.{unitsOf, nearestRoot, rootOf}
-
-no : {b : Bool} → b ≡ true → b ≡ false → ⊥
-no p q = true≢false (sym p ∙ q)
+use Rattle.fit_root.specs.Root.{nearestRoot, rootOf}
 
 both-l : (a b : Bool) → a && b ≡ true → a ≡ true
 both-l true b e = refl
@@ -130,9 +127,6 @@ clear b h = leb-false (2 ^ 63) b h
 
 -- ---- 5. the bits b of an x above zero
 module _ (x : Float) (A : Above x) (F : T (fits binary64 x)) where
-  bits : ℕ
-  bits = toBits binary64 x
-
   back : x ≡ ofFields binary64 (leb (2 ^ 63) (toBits binary64 x)) (toBits binary64 x % 2 ^ 63 / 2 ^ 52) (toBits binary64 x % 2 ^ 52)
   back = sym (unfold ofBits in ofBits-toBits binary64 x F)
 

@@ -1,25 +1,25 @@
 -- The double whose bits `sqrt` makes is the root, rounded: what `round` gives at a fraction that lies strictly nearest to a number of `prec`
 -- digits, that value's bits, and roots of scaled numbers. No tie: an odd root's square is not even. Assumes nothing.
 use mathlib.Core.Path.{_≡_, refl, sym, ap, _∙_, subst}
-use mathlib.Core.Bool.{Bool, true, false, not, _&&_, cond}
+use mathlib.Core.Bool.{Bool, true, false, not, cond}
 use mathlib.Core.Logic.{inl, inr}
 use Prim.Native.Nat.{ℕ, zero, suc, _+_, _-_, _*_, _/_, _%_, _^_, _≤_, _<_}
-use native.Mathlib.Nat.{le-refl, le-of-suc-le-suc, le-trans, le-of-eq, le-antisymm, lt-of-lt-of-le, lt-of-le-of-lt, lt-of-not-le, not-le-of-lt, mul-comm, mul-assoc, mul-right-comm, mul-left-comm, mul-mul-mul-comm, mul-pos, mul-one, add-mul, mul-le-mul, mul-le-mul-left, mul-le-mul-right, mul-lt-mul-of-pos-right, lt-of-mul-lt-mul-right, le-of-mul-le-mul-right, eq-of-mul-eq-mul-right, mul-div-cancel, le-div-iff-mul-le, div-lt-iff-lt-mul, suc-mul, pow-suc, zero-add, mul-add, eq-or-lt-of-le, eq-zero-or-pos}
+use native.Mathlib.Nat.{le-of-suc-le-suc, le-trans, le-of-eq, le-antisymm, lt-of-lt-of-le, lt-of-le-of-lt, lt-of-not-le, not-le-of-lt, mul-comm, mul-assoc, mul-right-comm, mul-left-comm, mul-mul-mul-comm, mul-pos, mul-one, add-mul, mul-le-mul-left, mul-le-mul-right, mul-lt-mul-of-pos-right, eq-of-mul-eq-mul-right, mul-div-cancel, le-div-iff-mul-le, div-lt-iff-lt-mul, suc-mul, zero-add, eq-or-lt-of-le, eq-zero-or-pos}
 use native.Mathlib.Omega.{arith}
-use lib.Dec.{T, ltb, eqb, eqb→eq, lit≤}
+use lib.Dec.{T, eqb, eqb→eq, lit≤}
 use lib.Pow.{pow-add, pow-pos, pow-mono}
-use lib.Ieee.{Float, nan, inf, fin, Format, binary64, prec, emax, low, hid, top, ones, up, down, size, units, round, toBits, ofBits, nanBits, fits}
+use lib.Ieee.{Float, nan, inf, fin, Format, binary64, prec, low, hid, up, down, size, units, round, toBits, ofBits, nanBits, fits}
 use lib.Ieee.Digits.{size-lt, size-le}
 use lib.Ieee.Fits.{round-is, round-fits, down-pos, two, two-le-pos}
 use lib.Ieee.Exact.{HasValue, units-val}
 use lib.Ieee.Bits.{ofBits-toBits, nanBits-above}
 use lib.Ieee.Nearest.{closest}
-use lib.Ieee.Order.{drop, kept}
-use borrow.Author.Tests.{le-ltb, eqb-true}
+use lib.Ieee.Order.{drop}
+use borrow.Author.Tests.{le-ltb}
 use Rattle.fit_root.specs.Root.{left, wholeRoot, nearestRoot}
 use Rattle.fit_root.specs.Whole.{IsRoot}
 use Rattle.fit_root.proofs.Closest.{Half, closest-off}
-use Rattle.fit_root.proofs.Whole.{root-lt, even, square, whole-is, whole-fits, short-root}
+use Rattle.fit_root.proofs.Whole.{root-lt, square, whole-is, whole-fits, short-root}
 
 -- ---- the only number strictly nearest
 below : (c N u n : ℕ) → 0 < u → c * u * 2 ≤ n * 2 + u → n * 2 < N * u * 2 + u → c ≤ N
@@ -294,12 +294,6 @@ half-pow e (suc b) h =
 
 pub halved : (n e : ℕ) → n * (1 + e % 2) * (2 ^ (e / 2) * 2 ^ (e / 2)) ≡ n * 2 ^ e
 halved n e = mul-right-comm n (1 + e % 2) (2 ^ (e / 2) * 2 ^ (e / 2)) ∙ mul-assoc n (2 ^ (e / 2) * 2 ^ (e / 2)) (1 + e % 2) ∙ ap (λ (x : ℕ). n * x) (sym (half-pow e (e % 2) refl))
-
-pub doubled-at-most : (n e : ℕ) → n * (1 + e % 2) ≤ n * 2
-doubled-at-most n e = mul-le-mul-left n (two-at-most e)
-  where
-    two-at-most : (e : ℕ) → 1 + e % 2 ≤ 2
-    two-at-most e = omega arith
 
 pub itself-at-least : (n e : ℕ) → n ≤ n * (1 + e % 2)
 itself-at-least n e = le-trans (le-of-eq (sym (mul-one n))) (mul-le-mul-left n (one-at-least e))

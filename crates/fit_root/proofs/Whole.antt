@@ -1,5 +1,5 @@
 -- Roots of whole numbers: there is one, `wholeRoot` is it, and a number near √(m·2^52) is half of √(m·2^54), rounded. Assumes nothing.
-use mathlib.Core.Path.{_≡_, refl, sym, ap, _∙_, subst}
+use mathlib.Core.Path.{_≡_, sym, ap, _∙_, subst}
 use mathlib.Core.Bool.{Bool, true, false, not, cond}
 use Prim.Native.Nat.{ℕ, zero, suc, _+_, _-_, _*_, _/_, _%_, _^_, _≤_, _<_}
 use native.Mathlib.Nat.{le-of-suc-le-suc, le-antisymm, lt-of-le-of-lt, lt-of-not-le, not-le-of-lt, mul-le-mul, add-mul, mul-add, mul-assoc, mul-comm, suc-mul, mul-suc, mul-right-comm, mul-mul-mul-comm, pow-suc}

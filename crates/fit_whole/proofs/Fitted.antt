@@ -1,29 +1,27 @@
 -- A program that calls `fit_gradient::add` for each line and `fit_adam::step` for each iteration has `fitted` in its memory. Assumes nothing.
 use mathlib.Core.Path.{_≡_, refl, sym, ap, _∙_, subst}
-use mathlib.Core.Bool.{Bool, true, _&&_}
+use mathlib.Core.Bool.{true}
 use mathlib.Core.List.{List, [], _∷_}
 use Prim.Native.Nat.{ℕ, zero, suc, _≤_}
 use native.Mathlib.Omega.{arith}
 use borrow.Author.Tests.{eq-eqb, le-leb}
-use lib.Dec.{eqb}
 use lib.Ieee.{Float}
 use lib.ListN.{length}
-use Rattle.laws.specs.Tables.{tabulate}
 use Rattle.laws.proofs.Tables.{tabulate-length}
 use Rattle.doubles.specs.Doubles.{d0}
-use Rattle.fit_gradient.specs.Lines.{Line, AllGood, fed, summed}
+use Rattle.fit_gradient.specs.Lines.{FitLine, AllGood, gradientFed, gradientSummed}
 use Rattle.fit_gradient.specs.Gradient.{lineAdded}
 use Rattle.fit_gradient.proofs.Lines.{in-line-order, line-length}
 use Rattle.fit_adam.specs.Adam.{Fit, beta1, beta2, power, stepped, butPawn, ruled}
-use Rattle.fit_adam.specs.Promises.{isShaped, isIteration, stepOf, fitAfter}
-use Rattle.fit_whole.specs.Fitted.{zeros, fitted, Ran, begun, iterated, Long, Whole}
+use Rattle.fit_adam.specs.Promises.{isShaped, isIteration, fitStep, fitAfter}
+use Rattle.fit_whole.specs.Fitted.{zeros, fitted, Ran, begun, iterated, Long, WholeFit}
 
 zeros-length : length zeros ≡ 779
 unfolding zeros
 zeros-length = tabulate-length 779 (λ i. d0)
 
-summed-length : (g : List Float) (ls : List Line) → length g ≡ 779 → length (summed g ls) ≡ 779
-unfolding summed
+summed-length : (g : List Float) (ls : List FitLine) → length g ≡ 779 → length (gradientSummed g ls) ≡ 779
+unfolding gradientSummed
 summed-length g [] e = e
 summed-length g (l ∷ ls) e = summed-length (lineAdded (l .trace) (l .entries) (l .coefficient) g) ls (line-length (l .trace) (l .entries) (l .coefficient) g ∙ e)
 
@@ -40,26 +38,26 @@ shaped g s e l = rw (eq-eqb (length g) 779 e, eq-eqb (length (s .m)) 779 (l .m),
 numbered : (n : ℕ) → suc n ≤ 1000000 → isIteration (suc n) ≡ true
 numbered n h = let a : 1 ≤ suc n = omega arith in rw (le-leb 1 (suc n) a, le-leb (suc n) 1000000 h)
 
-worked : (g : List Float) (s u : Fit) (n : ℕ) (rate : Float) → isShaped g s ≡ true → isIteration n ≡ true → u ≡ fitAfter (stepOf g s n rate) s
+worked : (g : List Float) (s u : Fit) (n : ℕ) (rate : Float) → isShaped g s ≡ true → isIteration n ≡ true → u ≡ fitAfter (fitStep g s n rate) s
     → u ≡ stepped (power beta1 n) (power beta2 n) rate g s
 worked g s u n rate e i q = rw (e, i) at q
 
-fitted-long : (lines : ℕ → List Line) (rate : Float) (s : Fit) (n : ℕ) → Long s → Long (fitted lines rate s n)
+fitted-long : (lines : ℕ → List FitLine) (rate : Float) (s : Fit) (n : ℕ) → Long s → Long (fitted lines rate s n)
 unfolding fitted
 fitted-long lines rate s zero l = l
-fitted-long lines rate s (suc n) l = stepped-long (power beta1 (suc n)) (power beta2 (suc n)) rate (summed zeros (lines (suc n))) (fitted lines rate s n)
+fitted-long lines rate s (suc n) l = stepped-long (power beta1 (suc n)) (power beta2 (suc n)) rate (gradientSummed zeros (lines (suc n))) (fitted lines rate s n)
 
-iterations : (lines : ℕ → List Line) (rate : Float) (s t : Fit) (n : ℕ) → ((i : ℕ) → AllGood (lines i)) → Long s → n ≤ 1000000 → Ran lines rate s n t
+iterations : (lines : ℕ → List FitLine) (rate : Float) (s t : Fit) (n : ℕ) → ((i : ℕ) → AllGood (lines i)) → Long s → n ≤ 1000000 → Ran lines rate s n t
     → t ≡ fitted lines rate s n
 unfolding fitted
 iterations lines rate s t zero good l h begun = refl
 iterations lines rate s u (suc n) good l h (iterated {t = t} {r = r} ran step) =
     let before : t ≡ fitted lines rate s n = iterations lines rate s t n good l (omega arith) ran in
-    let sum : fed zeros (lines (suc n)) ≡ summed zeros (lines (suc n)) = in-line-order zeros zeros-length (good (suc n)) in
+    let sum : gradientFed zeros (lines (suc n)) ≡ gradientSummed zeros (lines (suc n)) = in-line-order zeros zeros-length (good (suc n)) in
     let long : Long t = subst Long (sym before) (fitted-long lines rate s n l) in
-    let g = fed zeros (lines (suc n)) in
+    let g = gradientFed zeros (lines (suc n)) in
     let e : isShaped g t ≡ true = shaped g t (ap length sum ∙ summed-length zeros (lines (suc n)) zeros-length) long in
     worked g t u (suc n) rate e (numbered n h) (step .lent) ∙ rw (sum, before)
 
-pub whole : (lines : ℕ → List Line) (rate : Float) (s t : Fit) (n : ℕ) → Whole lines rate s t n
+pub whole : (lines : ℕ → List FitLine) (rate : Float) (s t : Fit) (n : ℕ) → WholeFit lines rate s t n
 whole lines rate s t n = record { fit = iterations lines rate s t n }

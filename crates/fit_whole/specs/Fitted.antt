@@ -7,7 +7,7 @@ use lib.ListN.{length}
 use lib.Ieee.{Float}
 use Rattle.laws.specs.Tables.{tabulate}
 use Rattle.doubles.specs.Doubles.{d0}
-use Rattle.fit_gradient.specs.Lines.{Line, AllGood, fed, summed}
+use Rattle.fit_gradient.specs.Lines.{FitLine, AllGood, gradientFed, gradientSummed}
 use Rattle.fit_adam.specs.Adam.{Fit, beta1, beta2, power, stepped}
 use Rattle.fit_adam.specs.Promises.{StepsFrom}
 use Rattle.fit_adam.specs.declared.Stepped.{Stepped}
@@ -18,16 +18,16 @@ unfolding tabulate
 zeros = tabulate 779 (λ i. d0)
 
 -- what the fit is after n iterations; `lines i` are the collection's lines with the coefficients of iteration i
-unfoldable pub fitted : (ℕ → List Line) → Float → Fit → ℕ → Fit
-unfolding zeros summed power
+unfoldable pub fitted : (ℕ → List FitLine) → Float → Fit → ℕ → Fit
+unfolding zeros gradientSummed power
 fitted lines rate s zero = s
-fitted lines rate s (suc n) = stepped (power beta1 (suc n)) (power beta2 (suc n)) rate (summed zeros (lines (suc n))) (fitted lines rate s n)
+fitted lines rate s (suc n) = stepped (power beta1 (suc n)) (power beta2 (suc n)) rate (gradientSummed zeros (lines (suc n))) (fitted lines rate s n)
 
 -- what a program does that calls `fit_gradient::add` for each line of an iteration, from zeros, and then `fit_adam::step`: the memory after n
 -- iterations is t
-pub data Ran (lines : ℕ → List Line) (rate : Float) (s : Fit) : ℕ → Fit → Type 0 where
+pub data Ran (lines : ℕ → List FitLine) (rate : Float) (s : Fit) : ℕ → Fit → Type 0 where
   begun : Ran lines rate s 0 s
-  iterated : {n : ℕ} {t u : Fit} {r : Stepped} → Ran lines rate s n t → StepsFrom (fed zeros (lines (suc n))) t (suc n) rate r u → Ran lines rate s (suc n) u
+  iterated : {n : ℕ} {t u : Fit} {r : Stepped} → Ran lines rate s n t → StepsFrom (gradientFed zeros (lines (suc n))) t (suc n) rate r u → Ran lines rate s (suc n) u
 
 -- both moments and the weights are 779 long
 pub record Long (s : Fit) : Type 0 where
@@ -37,5 +37,5 @@ pub record Long (s : Fit) : Type 0 where
 
 -- THE FIT: whatever memory a program has after n iterations is `fitted`, for lines that are not refused, any coefficients, any rate, up to
 -- 1,000,000 iterations
-pub record Whole (lines : ℕ → List Line) (rate : Float) (s t : Fit) (n : ℕ) : Type 0 where
+pub record WholeFit (lines : ℕ → List FitLine) (rate : Float) (s t : Fit) (n : ℕ) : Type 0 where
   pub fit : ((i : ℕ) → AllGood (lines i)) → Long s → n ≤ 1000000 → Ran lines rate s n t → t ≡ fitted lines rate s n

@@ -2,17 +2,16 @@
 -- Assumes nothing.
 use mathlib.Core.Path.{_≡_, refl, sym, ap₂, subst}
 use mathlib.Core.Logic.{⊎-elim}
-use mathlib.Core.Bool.{Bool, true, false, _&&_}
+use mathlib.Core.Bool.{Bool, true, _&&_}
 use mathlib.Core.List.{List, [], _∷_}
-use Prim.Native.Nat.{ℕ, zero, suc, _+_, _<_, _≤_, zero-le}
+use Prim.Native.Nat.{ℕ, zero, suc, _<_, _≤_, zero-le}
 use native.Mathlib.Nat.{not-suc-le-zero, le-suc-iff, suc-inj}
-use native.Mathlib.Numerals.{add-one}
 use native.Mathlib.Omega.{arith}
 use lib.Dec.{T, eqb, leb, eqb→eq, leb→le}
 use lib.ListN.{getD}
 use Rattle.laws.specs.Tests.{allBelow, allBelow2}
 pub use Rattle.laws.specs.Tests.{same}
-use Rattle.laws.proofs.Truth.{and-l, and-r, and-i, iff, true-T}
+use Rattle.laws.proofs.Truth.{and-l, and-r, and-i, iff}
 
 -- ---- all numbers below n
 pub all-at : (n : ℕ) (f : ℕ → Bool) → T (allBelow n f) → (k : ℕ) → k < n → T (f k)
@@ -49,21 +48,6 @@ all-same n f g h =
 pub all2-at : (m n : ℕ) (f : ℕ → ℕ → Bool) → T (allBelow2 m n f) → (i j : ℕ) → i < m → j < n → T (f i j)
 unfolding allBelow2
 all2-at m n f t i j hi hj = all-at n (f i) (all-at m (λ e. allBelow n (f e)) t i hi) j hj
-
--- ---- a loop that tries f at 0, 1, .. and stops where it fails
-pub tried-none : (f : ℕ → Bool) → T (allBelow 0 f)
-unfolding allBelow
-tried-none f = tt
-
-pub tried-more : (k : ℕ) (f : ℕ → Bool) → T (allBelow k f) → f k ≡ true → T (allBelow (k + 1) f)
-unfolding allBelow
-tried-more k f t e = rw add-one (and-i (f k) (allBelow k f) (true-T e) t)
-
-pub tried-fails : (n k : ℕ) (f : ℕ → Bool) → k < n → f k ≡ false → false ≡ allBelow n f
-tried-fails n k f h e = iff false (allBelow n f) (λ t. absurd t) (λ t. subst T e (all-at n f t k h))
-
-pub tried-all : (n k : ℕ) (f : ℕ → Bool) → k ≡ n → T (allBelow k f) → true ≡ allBelow n f
-tried-all n k f e t = iff true (allBelow n f) (λ u. subst (λ (j : ℕ). T (allBelow j f)) e t) (λ u. tt)
 
 -- ---- two lists, number by number
 pub is-same : (xs ys : List ℕ) → T (same xs ys) → xs ≡ ys

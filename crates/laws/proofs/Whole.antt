@@ -5,7 +5,7 @@ use mathlib.Core.Bool.{Bool, true, false}
 use Prim.Native.Nat.{ℕ, zero, suc, _+_, _*_}
 use native.Mathlib.Nat.{add-mul, one-mul}
 use lib.IntN.{ℤ, pos, negsuc, negℤ, negℤ-negℤ, negℤ-+ℤ, _+ℤ_, _-ℤ_, _*ℤ_, +ℤ-assoc, +ℤ-comm, *ℤ-zero, *ℤ-negsuc, zero-*ℤ}
-use Rattle.laws.proofs.Diff.{up, dn, diff-of, diff-add, diff-scale, diff-eq}
+use Rattle.laws.proofs.Diff.{aboveZero, belowZero, diff-of, diff-add, diff-scale, diff-eq}
 
 pub cross : (a b c d : ℤ) → (a +ℤ b) +ℤ (c +ℤ d) ≡ (a +ℤ c) +ℤ (b +ℤ d)
 cross a b c d =
@@ -16,11 +16,11 @@ cross a b c d =
 times-pos : (a b : ℤ) (n : ℕ) → (a +ℤ b) *ℤ pos n ≡ a *ℤ pos n +ℤ b *ℤ pos n
 times-pos a b n =
     diff-eq ((a +ℤ b) *ℤ pos n) (a *ℤ pos n +ℤ b *ℤ pos n)
-    ((up a + up b) * n) ((dn a + dn b) * n) (up a * n + up b * n) (dn a * n + dn b * n)
-    (diff-scale (a +ℤ b) n (up a + up b) (dn a + dn b) (diff-add a b (up a) (dn a) (up b) (dn b) (diff-of a) (diff-of b)))
-    (diff-add (a *ℤ pos n) (b *ℤ pos n) (up a * n) (dn a * n) (up b * n) (dn b * n)
-    (diff-scale a n (up a) (dn a) (diff-of a)) (diff-scale b n (up b) (dn b) (diff-of b)))
-    (ap₂ _+_ (add-mul (up a) (up b) n) (sym (add-mul (dn a) (dn b) n)))
+    ((aboveZero a + aboveZero b) * n) ((belowZero a + belowZero b) * n) (aboveZero a * n + aboveZero b * n) (belowZero a * n + belowZero b * n)
+    (diff-scale (a +ℤ b) n (aboveZero a + aboveZero b) (belowZero a + belowZero b) (diff-add a b (aboveZero a) (belowZero a) (aboveZero b) (belowZero b) (diff-of a) (diff-of b)))
+    (diff-add (a *ℤ pos n) (b *ℤ pos n) (aboveZero a * n) (belowZero a * n) (aboveZero b * n) (belowZero b * n)
+    (diff-scale a n (aboveZero a) (belowZero a) (diff-of a)) (diff-scale b n (aboveZero b) (belowZero b) (diff-of b)))
+    (ap₂ _+_ (add-mul (aboveZero a) (aboveZero b) n) (sym (add-mul (belowZero a) (belowZero b) n)))
 
 pub times : (a b k : ℤ) → (a +ℤ b) *ℤ k ≡ a *ℤ k +ℤ b *ℤ k
 times a b (pos n) = times-pos a b n

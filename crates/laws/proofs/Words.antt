@@ -1,12 +1,12 @@
 -- Numbers that fit a signed word, and a signed local read back from its bits, for every width. Assumes nothing.
 use mathlib.Core.Path.{_≡_, refl, sym, ap, _∙_}
-use mathlib.Core.Bool.{Bool, true, false, true≢false, false≢true}
-use Prim.Native.Nat.{ℕ, zero, suc, _-_, _^_, _<_, _≤_}
+use mathlib.Core.Bool.{true, false, true≢false, false≢true}
+use Prim.Native.Nat.{ℕ, suc, _-_, _^_, _<_, _≤_}
 use native.Mathlib.Nat.{lt-of-lt-of-le, lt-of-le-of-lt, le-trans}
 use native.Mathlib.Omega.{arith}
 use lib.Dec.{T, leb, ltb, leb·zero, leb→le, ltb→lt}
 use lib.IntN.{ℤ, pos, negsuc, natAbs, _-ℤ_}
-use lib.Signed.{mag, leZ}
+use lib.Signed.{leZ}
 use borrow.Author.Tests.{le-ltb}
 use mir.Syntax.{Width}
 use mir.Val.{SFits, hbits, toZ, ofZ}

@@ -4,13 +4,13 @@ use mathlib.Core.Bool.{Bool, true, false}
 use mathlib.Core.List.{List, []}
 use Prim.Native.Nat.{ℕ, _+_, _*_, _/_, _^_, _≤_, _<_}
 use native.Mathlib.Omega.{arith}
-use lib.Dec.{eqb, leb, ltb}
+use lib.Dec.{leb, ltb}
 use lib.ListN.{length}
 use borrow.Author.Tests.{eq-eqb, ne-eqb, le-leb, lt-leb, ltb-true}
 use Rattle.refusal.specs.declared.Refusal.the-variants as R
 use Rattle.text_out.specs.Text.{writtenOf}
 use Rattle.ledger_feed.specs.Machine.{Machine, at, run, ends}
-use Rattle.ledger_feed.specs.Promises.{Came, turnedBy, many, full, came, fit, feedOf, fed, valueOf, lineAfter, textAfter, wrote, Feeds, Ready, Takes}
+use Rattle.ledger_feed.specs.Promises.{Came, turnedBy, many, full, came, fit, feedOf, fed, cameByValue, lineAfter, textAfter, wrote, Feeds, Ready, Takes}
 use Rattle.ledger_feed.specs.declared.State.{State}
 use Rattle.ledger_feed.specs.declared.Fed.{Fed}
 use Rattle.ledger_feed.specs.declared.Fed.the-variants as F
@@ -45,10 +45,10 @@ module _ (state : State) (line chunk out : List ℕ) where
   m = run (at state line []) chunk
 
   -- an answer of its own, with nothing changed
-  unchanged : (r : Fed) (a : Came Machine) → feedOf state line chunk out ≡ a → fed r ≡ valueOf a → lineAfter a line ≡ line → textAfter a ≡ [] → wrote (fed r) ≡ 0
+  unchanged : (r : Fed) (a : Came Machine) → feedOf state line chunk out ≡ a → fed r ≡ cameByValue a → lineAfter a line ≡ line → textAfter a ≡ [] → wrote (fed r) ≡ 0
       → Feeds state line chunk out r line out
   unchanged r a e f k t z = record {
-    answer = f ∙ sym (ap valueOf e);
+    answer = f ∙ sym (ap cameByValue e);
     kept = sym (ap (λ (b : Came Machine). lineAfter b line) e ∙ k);
     rows = written-nothing out ∙ sym (ap (λ (b : Came Machine). writtenOf out 0 (textAfter b)) e ∙ ap (writtenOf out 0) t);
     within = omega arith;
@@ -76,7 +76,7 @@ module _ (state : State) (line chunk out : List ℕ) where
       feed-rows h r line′ out′ t =
           let e : feedOf state line chunk out ≡ came m = fit-came line lines room m size counts (le-leb (32 * ends chunk) (length out) (omega arith)) in
           record {
-            answer = ap fed (t .answer) ∙ sym (ap valueOf e);
+            answer = ap fed (t .answer) ∙ sym (ap cameByValue e);
             kept = t .kept ∙ sym (ap (λ (a : Came Machine). lineAfter a line) e);
             rows = t .rows ∙ sym (ap (λ (a : Came Machine). writtenOf out 0 (textAfter a)) e);
             within = subst (λ (q : Fed). wrote (fed q) ≤ length out) (sym (t .answer)) (t .within);

@@ -12,7 +12,7 @@ use Rattle.position_boards.specs.Boards.{bitboardsOf}
 use Rattle.score.specs.Score.{scoreOf}
 use Rattle.text_out.specs.Text.{digitsUpTo}
 use Rattle.ledger_row.specs.Row.{loadedRow, refusedRow}
-use Rattle.ledger_feed.specs.Machine.{Machine, run}
+use Rattle.ledger_feed.specs.Machine.{run}
 
 -- over a buffer that held other bytes: 256 bytes are read, with CR LF too; 257 are LONG, and so is any longer line
 written : List ℕ → List ℕ

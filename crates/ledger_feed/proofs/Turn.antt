@@ -15,8 +15,8 @@ use Rattle.text_out.specs.Text.{writtenOf, Adds}
 use Rattle.text_out.proofs.Wrote.{written-is}
 use Rattle.ledger_close.specs.Ended.{saidOf}
 use Rattle.ledger_close.proofs.Closed.{said-32}
-use Rattle.ledger_feed.specs.Machine.{Machine, run, step, close, push, at, keptByte, oneMore, bareOf, tally, ends}
-use Rattle.ledger_feed.specs.Promises.{stateOf, Made, Ready, Takes}
+use Rattle.ledger_feed.specs.Machine.{Machine, run, step, close, at, keptByte, oneMore, bareOf, tally, ends}
+use Rattle.ledger_feed.specs.Promises.{stateOf, MakesState, Ready, Takes}
 use Rattle.ledger_feed.specs.declared.State.{State}
 use Rattle.ledger_feed.specs.declared.Fed.the-variants as F
 use Rattle.ledger_feed.proofs.Counted.{ends-line, ends-byte, tally-both}
@@ -100,7 +100,7 @@ turn-none state line chunk out r =
 -- after the last
 pub turn-end : (state : State) (line₀ chunk out₀ line out : List ℕ) (held : ℕ) (cr : Bool) (loaded refused w i : ℕ) → length chunk ≤ i
     → Turn (at state line₀ []) chunk out₀ line out held cr loaded refused w i
-    → (next : State) → Made held cr loaded refused next → Takes state line₀ chunk out₀ (F.Rows next w) line out
+    → (next : State) → MakesState held cr loaded refused next → Takes state line₀ chunk out₀ (F.Rows next w) line out
 unfolding run
 turn-end state line₀ chunk out₀ line out held cr loaded refused w i h t next made =
     let m : run (at state line₀ []) chunk ≡ machine line held cr loaded refused (take w out) = t .runs ∙ rw (drop-of-length-le chunk h) in

@@ -51,11 +51,11 @@ fed (F.Refused r) = turnedBy r
 abbrev pub stateOf : Machine → State
 stateOf m = record { held = m .held; cr = m .cr; loaded = m .loaded; refused = m .refused }
 
-abbrev pub valueOf : Came Machine → Came (State × ℕ)
-valueOf (came m) = came (stateOf m, length (m .text))
-valueOf (turned n l) = turned n l
-valueOf many = many
-valueOf full = full
+abbrev pub cameByValue : Came Machine → Came (State × ℕ)
+cameByValue (came m) = came (stateOf m, length (m .text))
+cameByValue (turned n l) = turned n l
+cameByValue many = many
+cameByValue full = full
 
 -- what stands in lent memory afterwards: as it was, unless rows are written
 abbrev pub lineAfter : Came Machine → List ℕ → List ℕ
@@ -78,7 +78,7 @@ wrote many = 0
 wrote full = 0
 
 pub record Feeds (state : State) (line chunk out : List ℕ) (r : Fed) (line′ out′ : List ℕ) : Type 0 where
-  pub answer : fed r ≡ valueOf (feedOf state line chunk out)
+  pub answer : fed r ≡ cameByValue (feedOf state line chunk out)
   pub kept : line′ ≡ lineAfter (feedOf state line chunk out) line
   pub rows : out′ ≡ writtenOf out 0 (textAfter (feedOf state line chunk out))
   -- follows from the others, for who takes the rows out
@@ -96,5 +96,5 @@ pub record Takes (state : State) (line chunk out : List ℕ) (r : Fed) (line′ 
   pub rows : out′ ≡ writtenOf out 0 (run (at state line []) chunk .text)
   pub within : length (run (at state line []) chunk .text) ≤ length out
 
-abbrev pub Made : ℕ → Bool → ℕ → ℕ → State → Type 0
-Made held ends loaded others r = r ≡ record { held = held; cr = ends; loaded = loaded; refused = others }
+abbrev pub MakesState : ℕ → Bool → ℕ → ℕ → State → Type 0
+MakesState held ends loaded others r = r ≡ record { held = held; cr = ends; loaded = loaded; refused = others }

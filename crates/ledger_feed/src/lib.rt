@@ -6,7 +6,7 @@ ghost use lib.ListN.{length};
 ghost use Rattle.attack_steps.specs.Steps.{stepTables};
 ghost use Rattle.score_pst.specs.Pst.{pstTable};
 ghost use Rattle.ledger_feed.specs.Machine.{ends as endsOf, keptByte, oneMore, bareOf, tally as tallyOf};
-ghost use Rattle.ledger_feed.specs.Promises.{Starts, Countable, Feeds, Made, Ready, Takes};
+ghost use Rattle.ledger_feed.specs.Promises.{Starts, Countable, Feeds, MakesState, Ready, Takes};
 use attack_steps::inner::ROWS;
 use chess::square::Square;
 use refusal::Refusal;
@@ -116,7 +116,7 @@ pub fn countable(loaded: u64, refused: u64, more: usize) -> bool
 }
 
 fn made(held: usize, cr: bool, loaded: u64, refused: u64) -> State
-    ensures { λ r. ⌜ Made held cr loaded refused r ⌝ }
+    ensures { λ r. ⌜ MakesState held cr loaded refused r ⌝ }
 {
     State {
         held,

@@ -10,7 +10,7 @@ use Rattle.ledger_feed.specs.Machine.{lf, at, run}
 use Rattle.ledger_feed.specs.Promises.{stateOf}
 use Rattle.ledger_feed.specs.declared.State.{State}
 use Rattle.ledger_whole.specs.Ledger.{endsInCR, linesOf, rowsFrom, totalsOf}
-use Rattle.ledger_whole.specs.Calls.{Call, Last, Made, Roomy, written, input, fresh}
+use Rattle.ledger_whole.specs.Calls.{Call, Last, CallsMade, Roomy, allWritten, input, fresh}
 use Rattle.ledger_files.specs.declared.Ending.{Ending}
 use Rattle.ledger_files.specs.declared.Ending.the-variants as C
 
@@ -54,8 +54,8 @@ ledgerOfAll files = rowsFrom 1 (linesOfAll files) ++ totalsOf (linesOfAll files)
 
 -- what is claimed: however the files are cut into calls, all that is written is their ledger, where what `closing` gives is fed after each
 pub record Files (line : List ℕ) (files : List (List ℕ)) (calls : List Call) (last : Last) : Type 0 where
-  pub ledger : length line ≡ 256 → Roomy calls last → length (linesOfAll files) < 2 ^ 64 → Made fresh line calls last → input calls ≡ fedOf files
-      → written calls last ≡ ledgerOfAll files
+  pub ledger : length line ≡ 256 → Roomy calls last → length (linesOfAll files) < 2 ^ 64 → CallsMade fresh line calls last → input calls ≡ fedOf files
+      → allWritten calls last ≡ ledgerOfAll files
 
 -- and that `closing` gives what `closed` adds: by the state after a file, whatever files were before it
 pub record Closed (line : List ℕ) (before : List (List ℕ)) (file : List ℕ) (r : Ending) : Type 0 where

@@ -1,7 +1,7 @@
 -- Worked examples of the definitions, by computation: a last line with no LF, and none. Assumes nothing.
 use mathlib.Core.Path.{_≡_, refl}
 use mathlib.Core.Bool.{false}
-use mathlib.Core.List.{List, [], _∷_, _++_}
+use mathlib.Core.List.{List, [], _∷_}
 use Prim.Native.Nat.{ℕ}
 use lib.ListN.{replicate}
 use Rattle.laws.specs.Tables.{tabulate}
@@ -13,7 +13,7 @@ use Rattle.score.specs.Score.{scoreOf}
 use Rattle.text_out.specs.Text.{digitsUpTo}
 use Rattle.ledger_row.specs.Row.{loadedRow, refusedRow}
 use Rattle.ledger_totals.specs.Totals.{lastRow}
-use Rattle.ledger_feed.specs.Machine.{Machine, run}
+use Rattle.ledger_feed.specs.Machine.{run}
 use Rattle.ledger_feed.proofs.Examples.{long}
 use Rattle.ledger_finish.specs.Last.{finished}
 

@@ -1,5 +1,5 @@
 -- Where the tables that are lent are 01's, the rows are 01's; and the score that they show is the one that `eval` gives. Assumes nothing.
-use mathlib.Core.Path.{_≡_, refl, ap, ap₂, sym, _∙_}
+use mathlib.Core.Path.{_≡_, refl, ap, ap₂, _∙_}
 use mathlib.Core.List.{List}
 use Prim.Native.Nat.{ℕ}
 use lib.IntN.{ℤ}
@@ -9,7 +9,7 @@ use Rattle.attack_steps.specs.Steps.{stepTables}
 use Rattle.score_pst.specs.Pst.{pstTable}
 use Rattle.line_parse.specs.Line.{Line, lineOf}
 use Rattle.line.proofs.Loaded.{loaded-checked}
-use Rattle.score.specs.Score.{Outcome, scoreOf, evalOf}
+use Rattle.score.specs.Score.{scoreOf, evalOf}
 use Rattle.score.proofs.Lent.{lent-score}
 use Rattle.ledger_row.specs.Row.{rowBy, rowOf, loadedRow}
 use Rattle.ledger_row.specs.Promises.{scoreWith}

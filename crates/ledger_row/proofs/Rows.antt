@@ -1,22 +1,20 @@
 -- What is put is the row of what the line says. Assumes nothing.
 use mathlib.Core.Path.{_≡_, refl, sym, ap, ap₂, subst, _∙_}
-use mathlib.Core.Bool.{Bool, true, false}
-use mathlib.Core.List.{List, [], _∷_, _++_}
-use Prim.Native.Nat.{ℕ, suc, _+_, _/_, _≤_, _<_}
+use mathlib.Core.Bool.{true, false}
+use mathlib.Core.List.{List}
+use Prim.Native.Nat.{ℕ}
 use native.Mathlib.Omega.{arith}
-use lib.IntN.{ℤ, pos, negsuc}
-use lib.ListN.{length, length-append}
+use lib.IntN.{ℤ}
 use Rattle.refusal.specs.Answer.{Answer, given, refused, refusalOf}
 use Rattle.refusal.specs.Refusals.{numberOf}
 use Rattle.refusal.specs.declared.Refusal.{Refusal}
 use Rattle.refusal.proofs.Answers.{given-not}
 use Rattle.position_boards.specs.Boards.{bitboardsOf}
 use Rattle.position.specs.declared.State.{State}
-use Rattle.line_ranks.specs.Promises.{bare}
+use Rattle.line_ranks.specs.Promises.{emptyBoard}
 use Rattle.line_parse.specs.Line.{Line, lineOf}
-use Rattle.line_parse.specs.Promises.{paper, valueOf}
+use Rattle.line_parse.specs.Promises.{paper, byValue}
 use Rattle.line.specs.Promises.{bitboardsAfter, Loads}
-use Rattle.line_parse.specs.declared.Read.{Read}
 use Rattle.line_parse.specs.declared.Read.the-variants.{Position, Refused}
 use Rattle.line.specs.declared.inner.Loaded.{Loaded}
 use Rattle.score_taper.specs.Parts.{in16, pointsOf}
@@ -24,21 +22,19 @@ use Rattle.score_taper.specs.declared.Side.{Side}
 use Rattle.score_taper.proofs.Sides.{given-short}
 use Rattle.score_verdict.specs.Verdict.{Verdict, lost, won, drawn, none, verdictOf, toMove}
 use Rattle.score_tally.specs.Sides.{sideBy}
-use Rattle.score.specs.Score.{Outcome, verdict, score, settled, scoreBy}
+use Rattle.score.specs.Score.{Outcome, score, verdictFirst, scoreBy}
 use Rattle.score_material.specs.Pieces.{pieces}
 use Rattle.attack.specs.Attacks.{other}
 use Rattle.score.specs.Answers.{scored}
 use Rattle.score.specs.declared.Scored.{Scored}
-use Rattle.score.specs.declared.Scored.the-variants as S
 use Rattle.text_out.specs.Text.{Puts}
 use Rattle.text_out.specs.declared.Placed.{Placed}
-use Rattle.ledger_row.specs.Row.{rowBy, loadedRow, refusedRow, isLoaded}
+use Rattle.ledger_row.specs.Row.{rowBy, loadedRow, refusedRow}
 use Rattle.ledger_row.specs.Promises.{PutsRow, Short}
-use Rattle.ledger_row.specs.declared.Row.{Row}
 
 -- ---- a score is short
 
-settled-short : (v : Verdict) (a : Answer ℤ) (z : ℤ) → ((y : ℤ) → given y ≡ a → in16 y ≡ true) → given (score z) ≡ settled v a → in16 z ≡ true
+settled-short : (v : Verdict) (a : Answer ℤ) (z : ℤ) → ((y : ℤ) → given y ≡ a → in16 y ≡ true) → given (score z) ≡ verdictFirst v a → in16 z ≡ true
 settled-short lost a z h e = absurd (let k : _≡_ {A = ℕ} 0 1 = cc in omega arith)
 settled-short won a z h e = absurd (let k : _≡_ {A = ℕ} 0 1 = cc in omega arith)
 settled-short drawn a z h e = absurd (let k : _≡_ {A = ℕ} 0 1 = cc in omega arith)
@@ -61,7 +57,7 @@ module _ (rule : List ℕ → State → Answer Outcome) (number : ℕ) (line old
       → PutsRow old new at (lineOf line) (rowBy rule number (lineOf line)) (record { placed = p; loaded = false })
   row-refused q told p h = go (lineOf line) (sym (ap paper told) ∙ reads .answer)
     where
-      go : (a : Answer Line) → refusalOf q ≡ valueOf a → PutsRow old new at a (rowBy rule number a) (record { placed = p; loaded = false })
+      go : (a : Answer Line) → refusalOf q ≡ byValue a → PutsRow old new at a (rowBy rule number a) (record { placed = p; loaded = false })
       go (given l) e = given-not (sym e)
       go (refused n v) e = record { puts = subst (λ (k : ℕ). Puts old new at (refusedRow number k) p) (cc e) h; loaded = refl }
 
@@ -70,7 +66,7 @@ module _ (rule : List ℕ → State → Answer Outcome) (number : ℕ) (line old
       → PutsRow old new at (lineOf line) (rowBy rule number (lineOf line)) (record { placed = p; loaded = true })
   row-loaded state half told a s p h = go (lineOf line) (sym (ap paper told) ∙ reads .answer) (reads .boards)
     where
-      go : (b : Answer Line) → given (state, half) ≡ valueOf b → read .bitboards ≡ bitboardsAfter b (bitboardsOf bare)
+      go : (b : Answer Line) → given (state, half) ≡ byValue b → read .bitboards ≡ bitboardsAfter b (bitboardsOf emptyBoard)
           → PutsRow old new at b (rowBy rule number b) (record { placed = p; loaded = true })
       go (refused n v) e f = given-not e
       go (given l) e f =

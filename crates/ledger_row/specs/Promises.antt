@@ -8,7 +8,7 @@ use Rattle.refusal.specs.Answer.{Answer}
 use Rattle.refusal.specs.Refusals.{numberOf}
 use Rattle.refusal.specs.declared.Refusal.{Refusal}
 use Rattle.position.specs.declared.State.{State}
-use Rattle.attack.specs.Lent.{attacksWith}
+use Rattle.attack.specs.PrivateLent.{attacksWith}
 use Rattle.score_pst.specs.Pst.{weightIn}
 use Rattle.line_parse.specs.Line.{Line, lineOf}
 use Rattle.score.specs.Score.{Outcome, scoreBy}

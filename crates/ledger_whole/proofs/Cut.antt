@@ -15,7 +15,7 @@ use Rattle.text_out.specs.Text.{writtenOf, roomFor}
 use Rattle.text_out.proofs.Wrote.{written-front}
 use Rattle.ledger_close.specs.Ended.{saidOf}
 use Rattle.ledger_feed.specs.Machine.{lf, Machine, at, run, step, close, push, bareOf, tally, ends}
-use Rattle.ledger_feed.specs.Promises.{Came, came, feedOf, fed, valueOf, lineAfter, textAfter, wrote, stateOf, Feeds}
+use Rattle.ledger_feed.specs.Promises.{Came, came, feedOf, fed, cameByValue, lineAfter, textAfter, wrote, stateOf, Feeds}
 use Rattle.ledger_feed.specs.declared.State.{State}
 use Rattle.ledger_feed.specs.declared.Fed.{Fed}
 use Rattle.ledger_feed.specs.declared.Fed.the-variants as F
@@ -27,7 +27,7 @@ use Rattle.ledger_finish.specs.Promises.{lastLines, finishOf, finishPaper, leng
 use Rattle.ledger_finish.specs.declared.Finished.{Finished}
 use Rattle.ledger_finish.specs.declared.Finished.the-variants as E
 use Rattle.ledger_finish.proofs.Doors.{finished-116}
-use Rattle.ledger_whole.specs.Calls.{Call, Last, next, rowsOf, lastRowsOf, Made, written, input, Roomy, fresh}
+use Rattle.ledger_whole.specs.Calls.{Call, Last, next, rowsOf, lastRowsOf, CallsMade, allWritten, input, Roomy, fresh}
 use Rattle.ledger_whole.specs.Whole.{Whole}
 use Rattle.ledger_whole.proofs.Machines.{linesIn, machine-ledger, machine-lines}
 
@@ -156,7 +156,7 @@ feed-given state line chunk out r line′ out′ f size counts room =
     let e : feedOf state line chunk out ≡ came m =
     fit-came line (state .loaded + state .refused + ends chunk) (leb (32 * ends chunk) (length out)) m size
     (lt-ltb (state .loaded + state .refused + ends chunk) (2 ^ 64) counts) (le-leb (32 * ends chunk) (length out) room) in
-    let a : r ≡ F.Rows (stateOf m) (length (m .text)) = rows-of r (stateOf m) (length (m .text)) (f .answer ∙ ap valueOf e) in
+    let a : r ≡ F.Rows (stateOf m) (length (m .text)) = rows-of r (stateOf m) (length (m .text)) (f .answer ∙ ap cameByValue e) in
     let h : length (m .text) ≤ length out = subst (λ (q : Fed). wrote (fed q) ≤ length out) a (f .within) in
     record {
       answer = a;
@@ -181,9 +181,9 @@ less : (a b c d : ℕ) (n : ℕ) → a ≡ b + (c + d) → a + n < 2 ^ 64 → b 
 less a b c d n e h = omega arith
 
 all : (state : State) (line : List ℕ) (calls : List Call) (last : Last) → length line ≡ 256 → Roomy calls last
-    → linesIn (run (at state line []) (input calls)) < 2 ^ 64 → Made state line calls last
-    → written calls last ≡ finished (run (at state line []) (input calls))
-unfolding run input Roomy Made written
+    → linesIn (run (at state line []) (input calls)) < 2 ^ 64 → CallsMade state line calls last
+    → allWritten calls last ≡ finished (run (at state line []) (input calls))
+unfolding run input Roomy CallsMade allWritten
 all state line [] last size room counts made = finish-given state line (last .out) (last .finished) (last .out′) made size counts room
 all state line (c ∷ cs) last size room counts made =
     let m : Machine = run (at state line []) (c .chunk) in
@@ -192,9 +192,9 @@ all state line (c ∷ cs) last size room counts made =
     let total = run-counts (at state line []) (c .chunk ++ s) ∙ ap (λ (n : ℕ). state .loaded + state .refused + n) (ends-append (c .chunk) s) in
     let g = feed-given state line (c .chunk) (c .out) (c .fed) (c .line′) (c .out′) (made .0) size
     (less _ (state .loaded + state .refused) (ends (c .chunk)) (ends s) _ total counts) (room .0) in
-    let rest : Made (stateOf m) (m .line) cs last =
-    subst (λ (l : List ℕ). Made (stateOf m) l cs last) (g .kept)
-    (subst (λ (r : Fed). Made (next r state) (c .line′) cs last) (g .answer) (made .1)) in
+    let rest : CallsMade (stateOf m) (m .line) cs last =
+    subst (λ (l : List ℕ). CallsMade (stateOf m) l cs last) (g .kept)
+    (subst (λ (r : Fed). CallsMade (next r state) (c .line′) cs last) (g .answer) (made .1)) in
     ap₂ _++_ (g .rows)
     (all (stateOf m) (m .line) cs last (run-size (at state line []) (c .chunk) ∙ size) (room .1) (subst (λ (n : ℕ). n < 2 ^ 64) (ap linesIn cut) counts) rest)
     ∙ sym (finished-after (m .text) (run (quiet m) s)) ∙ sym (ap finished cut)

@@ -5,7 +5,7 @@ use mathlib.Core.List.{List, [], _∷_, _++_, append-assoc}
 use Prim.Native.Nat.{ℕ, suc, _+_, _<_, min}
 use native.Mathlib.Nat.{add-zero, zero-add}
 use native.Mathlib.Omega.{arith}
-use lib.Dec.{ltb, eqb}
+use lib.Dec.{eqb}
 use lib.ListN.{length}
 use borrow.Author.Tests.{lt-ltb, le-ltb}
 use Rattle.refusal.specs.Answer.{Answer}
@@ -14,7 +14,7 @@ use Rattle.ledger_row.specs.Row.{rowOf, isLoaded}
 use Rattle.ledger_totals.specs.Totals.{lastRow}
 use Rattle.ledger_close.specs.Ended.{saidOf}
 use Rattle.ledger_feed.specs.Machine.{lf, Machine, run, close, push, bareOf, tally}
-use Rattle.ledger_whole.specs.Ledger.{endsInCR, withoutCR, atEnd, linesFrom, linesOf, rowsFrom, loadedIn, refusedIn, ledgerOf}
+use Rattle.ledger_whole.specs.Ledger.{withoutCR, atEnd, linesFrom, linesOf, rowsFrom, loadedIn, refusedIn, ledgerOf}
 use Rattle.ledger_finish.specs.Last.{finished}
 use Rattle.ledger_finish.specs.Promises.{unfinished}
 use Rattle.ledger_feed.proofs.Counted.{tally-both}

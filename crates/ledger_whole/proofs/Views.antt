@@ -4,7 +4,7 @@ use mathlib.Core.Bool.{Bool, true, false, cond}
 use mathlib.Core.List.{List, [], _∷_, _++_}
 use Prim.Native.Nat.{ℕ, zero, suc, _+_, _-_, _≤_, _<_, min}
 use native.Mathlib.Omega.{arith}
-use lib.Dec.{ltb, leb, eqb}
+use lib.Dec.{ltb, eqb}
 use lib.ListN.{length, take, set, length-append, length-take}
 use lib.Seq.{take-suc-set, take-set-le, take-append-le, take-all, take-length}
 use borrow.Author.Tests.{lt-ltb, ltb-true, ltb-false, lt-leb}

@@ -1,7 +1,7 @@
 -- A ledger made by calls: a chunk and a buffer for each call of `feed`, and a buffer for the call of `finish`. Definitions only.
 use mathlib.Core.Bool.{false}
 use mathlib.Core.List.{List, [], _∷_, _++_}
-use Prim.Native.Nat.{ℕ, _+_, _*_, _≤_}
+use Prim.Native.Nat.{ℕ, _*_, _≤_}
 use lib.ListN.{length, take}
 use Rattle.ledger_feed.specs.Machine.{ends}
 use Rattle.ledger_feed.specs.Promises.{Feeds}
@@ -46,14 +46,14 @@ lastRowsOf E.Many out′ = []
 lastRowsOf (E.Refused r) out′ = []
 
 -- each call does what `feed` promises, from the state and the line buffer that the call before it left; then `finish`
-unfoldable pub Made : State → List ℕ → List Call → Last → Type 0
-Made state line [] last = Finishes state line (last .out) (last .finished) (last .out′)
-Made state line (c ∷ cs) last = Feeds state line (c .chunk) (c .out) (c .fed) (c .line′) (c .out′) × Made (next (c .fed) state) (c .line′) cs last
+unfoldable pub CallsMade : State → List ℕ → List Call → Last → Type 0
+CallsMade state line [] last = Finishes state line (last .out) (last .finished) (last .out′)
+CallsMade state line (c ∷ cs) last = Feeds state line (c .chunk) (c .out) (c .fed) (c .line′) (c .out′) × CallsMade (next (c .fed) state) (c .line′) cs last
 
 -- all that is written, call after call
-unfoldable pub written : List Call → Last → List ℕ
-written [] last = lastRowsOf (last .finished) (last .out′)
-written (c ∷ cs) last = rowsOf (c .fed) (c .out′) ++ written cs last
+unfoldable pub allWritten : List Call → Last → List ℕ
+allWritten [] last = lastRowsOf (last .finished) (last .out′)
+allWritten (c ∷ cs) last = rowsOf (c .fed) (c .out′) ++ allWritten cs last
 
 -- the whole input, which the chunks are cut from
 unfoldable pub input : List Call → List ℕ

@@ -9,12 +9,12 @@ use Rattle.line_parse.specs.Line.{lineOf}
 use Rattle.ledger_row.specs.Row.{rowOf}
 use Rattle.ledger_feed.specs.Machine.{lf}
 use Rattle.ledger_whole.specs.Ledger.{withoutCR, atEnd, linesOf, loadedIn, refusedIn, ledgerOf, totalsOf}
-use Rattle.ledger_whole.specs.Calls.{Call, Last, Made, Roomy, written, input, fresh}
+use Rattle.ledger_whole.specs.Calls.{Call, Last, CallsMade, Roomy, allWritten, input, fresh}
 
 -- THE LEDGER: for every way the input is cut into chunks, whatever the line buffer held, all that is written is the ledger of the whole
 -- input; wherever there is room for the rows and the input has fewer than 2^64 lines
 pub record Whole (line : List ℕ) (calls : List Call) (last : Last) : Type 0 where
-  pub ledger : length line ≡ 256 → Roomy calls last → length (linesOf (input calls)) < 2 ^ 64 → Made fresh line calls last → written calls last ≡ ledgerOf (input calls)
+  pub ledger : length line ≡ 256 → Roomy calls last → length (linesOf (input calls)) < 2 ^ 64 → CallsMade fresh line calls last → allWritten calls last ≡ ledgerOf (input calls)
 
 -- the rows of a ledger, one for each line, numbered from 1 in the lines' order
 unfoldable pub rowList : ℕ → List (List ℕ) → List (List ℕ)

@@ -12,7 +12,7 @@ use Rattle.refusal.specs.declared.Refusal.the-variants as R
 use Rattle.refusal.proofs.Answers.{given-not}
 use lib.Dec.{leb}
 use lib.ListN.{length}
-use Rattle.text_in.specs.Text.{semicolon, space, isText, every, holds, before, placeIn}
+use Rattle.text_in.specs.Text.{semicolon, isText, every, holds, before, placeIn}
 use Rattle.text_in.proofs.Within.{Within, Part, inner, cut, before-within, trim-within}
 use Rattle.line_ranks.specs.Ranks.{areEightRanks, boardOf}
 use Rattle.line_ranks.proofs.Placing.{none-left}

@@ -1,7 +1,7 @@
 -- What a line that is not refused writes is a consistent position, and the only one whose bytes its ranks spell. So a call on it meets
 -- neither SHAPE nor BOARD. Assumes nothing.
-use mathlib.Core.Path.{_≡_, sym, ap, subst, _∙_}
-use mathlib.Core.Bool.{Bool, true}
+use mathlib.Core.Path.{_≡_, sym, ap, _∙_}
+use mathlib.Core.Bool.{true}
 use mathlib.Core.List.{List}
 use Prim.Native.Nat.{ℕ, _^_, _<_}
 use lib.Dec.{eqb}
@@ -17,7 +17,7 @@ use Rattle.position_boards.specs.Boards.{isByte, coded, bitboardsOf}
 use Rattle.position_consistent.proofs.Only.{made-consistent, made-length, only-made}
 use Rattle.position.proofs.Doors.{in-shape, sound}
 use Rattle.text_in.proofs.Every.{every-at}
-use Rattle.line_ranks.specs.Ranks.{areEightRanks, boardOf}
+use Rattle.line_ranks.specs.Ranks.{boardOf}
 use Rattle.line_ranks.proofs.Board.{board-64, board-passes}
 use Rattle.line_parse.specs.Line.{Line, ranksOf, positionField, lineOf}
 use Rattle.line_parse.proofs.Given.{given-spells}

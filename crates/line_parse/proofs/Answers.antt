@@ -1,24 +1,20 @@
 -- Each way through a line gives what its definition says: "First in order wins." Assumes nothing.
-use mathlib.Core.Path.{_≡_, refl, sym, ap, _∙_}
-use mathlib.Core.Bool.{Bool, true, false}
-use mathlib.Core.List.{List, []}
+use mathlib.Core.Path.{_≡_, ap, _∙_}
+use mathlib.Core.Bool.{true, false}
+use mathlib.Core.List.{List}
 use Prim.Native.Nat.{ℕ, _≤_, _<_}
 use native.Mathlib.Omega.{arith}
 use lib.Dec.{ltb}
 use lib.ListN.{length}
 use borrow.Author.Tests.{lt-leb, le-leb, lt-ltb, le-ltb}
-use Rattle.refusal.specs.Answer.{refused}
-use Rattle.refusal.specs.declared.Refusal.{Refusal}
 use Rattle.refusal.specs.declared.Refusal.the-variants as R
-use Rattle.position.specs.declared.State.{State}
 use Rattle.text_in.specs.Text.{semicolon, isText, every, holds, before, placeIn}
 use Rattle.text_in.proofs.Parts.{before-le, holds-is}
 use Rattle.line_ranks.specs.Ranks.{areEightRanks, boardOf}
-use Rattle.line_parse.specs.Line.{Line, sides, results, ranksOf, sideWord, positionField, resultField, fieldsSay, lineOf}
+use Rattle.line_parse.specs.Line.{sides, results, ranksOf, sideWord, positionField, resultField, fieldsSay, lineOf}
 use Rattle.line_parse.specs.Promises.{Says, Turned, paper}
 use Rattle.line_parse.specs.declared.Parsed.{Parsed}
-use Rattle.line_parse.specs.declared.Read.{Read}
-use Rattle.line_parse.specs.declared.Read.the-variants.{Position, Refused}
+use Rattle.line_parse.specs.declared.Read.the-variants.{Position}
 
 abbrev parsed : ℕ → ℕ → List ℕ → Parsed
 parsed side half board = record { answer = Position (record { side = side }) half; board = board }
@@ -52,11 +48,6 @@ module _ (field result : List ℕ) where
           record { answer = rw (p, s, u, e, q); board = b ∙ rw (p, s, u) }
 
 -- ---- LONG, BYTE, FIELD
--- a line of more than 256 bytes, whatever they are
-pub long-line : (line : List ℕ) → 256 < length line → lineOf line ≡ refused 8 []
-unfolding lineOf
-long-line line l = rw (lt-leb (length line) 256 l)
-
 module _ (line : List ℕ) where
   pub too-long : (r : Parsed) → Turned R.Long r → 256 < length line → Says (lineOf line) r
   unfolding lineOf

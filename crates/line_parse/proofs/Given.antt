@@ -1,15 +1,14 @@
 -- A line that is not refused passed every test, and says what its fields spell. Assumes nothing.
 use mathlib.Core.Path.{_≡_, sym, ap, subst}
-use mathlib.Core.Bool.{Bool, true}
+use mathlib.Core.Bool.{true}
 use mathlib.Core.List.{List}
-use Prim.Native.Nat.{ℕ, _<_, _≤_}
-use lib.Dec.{leb, ltb}
+use Prim.Native.Nat.{ℕ, _<_}
+use lib.Dec.{leb}
 use lib.ListN.{length}
 use borrow.Author.Tests.{ltb-true}
 use Rattle.refusal.specs.Answer.{Answer, given, orRefuse}
 use Rattle.refusal.specs.declared.Refusal.the-variants as R
 use Rattle.refusal.proofs.Answers.{passed}
-use Rattle.position.specs.declared.State.{State}
 use Rattle.text_in.specs.Text.{semicolon, isText, every, holds, placeIn}
 use Rattle.line_ranks.specs.Ranks.{areEightRanks, boardOf}
 use Rattle.line_parse.specs.Line.{Line, sides, results, isOneOf, ranksOf, sideWord, positionField, resultField, fieldsSay, lineOf}

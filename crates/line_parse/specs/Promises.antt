@@ -5,7 +5,7 @@ use Prim.Native.Nat.{ℕ}
 use Rattle.refusal.specs.Answer.{Answer, given, refused, refusalOf}
 use Rattle.refusal.specs.declared.Refusal.{Refusal}
 use Rattle.position.specs.declared.State.{State}
-use Rattle.line_ranks.specs.Promises.{bare}
+use Rattle.line_ranks.specs.Promises.{emptyBoard}
 use Rattle.line_parse.specs.Line.{Line, lineOf}
 use Rattle.line_parse.specs.declared.Read.{Read}
 use Rattle.line_parse.specs.declared.Read.the-variants.{Position, Refused}
@@ -17,9 +17,9 @@ paper (Position state half) = given (state, half)
 paper (Refused r) = refusalOf r
 
 -- what comes back by value
-abbrev pub valueOf : Answer Line → Answer (State × ℕ)
-valueOf (given l) = given (l .state, l .half)
-valueOf (refused n v) = refused n v
+abbrev pub byValue : Answer Line → Answer (State × ℕ)
+byValue (given l) = given (l .state, l .half)
+byValue (refused n v) = refused n v
 
 -- what stands in lent memory afterwards: "Every refusal .. changes no lent byte"
 abbrev pub boardAfter : Answer Line → List ℕ → List ℕ
@@ -28,8 +28,8 @@ boardAfter (refused n v) old = old
 
 -- the answer, and the board, which is bare where there is a refusal
 pub record Says (a : Answer Line) (r : Parsed) : Type 0 where
-  pub answer : paper (r .answer) ≡ valueOf a
-  pub board : r .board ≡ boardAfter a bare
+  pub answer : paper (r .answer) ≡ byValue a
+  pub board : r .board ≡ boardAfter a emptyBoard
 
 abbrev pub Parses : List ℕ → Parsed → Type 0
 Parses line r = Says (lineOf line) r
@@ -37,4 +37,4 @@ Parses line r = Says (lineOf line) r
 -- ---- private functions
 pub record Turned (refusal : Refusal) (r : Parsed) : Type 0 where
   pub answer : r .answer ≡ Refused refusal
-  pub board : r .board ≡ bare
+  pub board : r .board ≡ emptyBoard

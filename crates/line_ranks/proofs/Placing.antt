@@ -11,8 +11,8 @@ use lib.Seq.{drop-cons, set-at}
 use borrow.Author.Tests.{eq-eqb, ne-eqb}
 use Rattle.text_in.specs.Text.{every, before, after}
 use Rattle.line_ranks.specs.Ranks.{pieceOf, runOf, digitFirst, wholeRuns, areRanks, stacked, squaresOf}
-use Rattle.line_ranks.specs.Steps.{stepOf}
-use Rattle.line_ranks.specs.Promises.{Places, Nothing, bare}
+use Rattle.line_ranks.specs.PrivateSteps.{stepOf}
+use Rattle.line_ranks.specs.Promises.{Places, Nothing, emptyBoard}
 use Rattle.line_ranks.specs.declared.inner.Placed.{Placed}
 use Rattle.line_ranks.specs.declared.inner.Next.{Next}
 use Rattle.line_ranks.specs.declared.inner.Next.the-variants.{Below, Piece, Empty, Wrong}
@@ -38,7 +38,7 @@ pub record Turn (s board : List ℕ) (rank file : ℕ) (digit : Bool) (i : ℕ) 
   pub decides : areRanks 7 s ≡ Rows.goesOn rank digit file (drop i s)
   pub spells : stacked 7 s ≡ Rows.comes rank row (drop i s) ++ done
 
-pub turn-first : (s : List ℕ) → Turn s bare 7 0 false 0
+pub turn-first : (s : List ℕ) → Turn s emptyBoard 7 0 false 0
 turn-first s =
     record {
       row = [];

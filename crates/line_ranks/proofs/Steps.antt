@@ -6,7 +6,7 @@ use native.Mathlib.Omega.{arith}
 use lib.Dec.{leb}
 use borrow.Author.Tests.{eq-eqb, ne-eqb, le-leb, lt-leb, lt-ltb, le-ltb, leb-true}
 use Rattle.line_ranks.specs.Ranks.{pieceOf, runOf}
-use Rattle.line_ranks.specs.Steps.{stepOf}
+use Rattle.line_ranks.specs.PrivateSteps.{stepOf}
 use Rattle.line_ranks.specs.declared.inner.Next.the-variants.{Below, Piece, Empty, Wrong}
 
 -- a digit stands for eight squares at most

@@ -2,7 +2,7 @@
 ghost use mathlib.Core.Path.{_≡_};
 ghost use Prim.Native.Nat.{_≤_};
 ghost use Rattle.line_ranks.specs.Ranks.{pieceOf, runOf};
-ghost use Rattle.line_ranks.specs.Steps.{stepOf};
+ghost use Rattle.line_ranks.specs.PrivateSteps.{stepOf};
 ghost use Rattle.line_ranks.specs.Promises.{Places, Nothing};
 use chess::piece::Piece;
 use chess::square::Square;

@@ -8,7 +8,7 @@ use lib.Dec.{eqb, leb}
 use lib.ListN.{replicate}
 use borrow.Author.Tests.{eqb-true, eq-eqb, ne-eqb, leb-true}
 use Rattle.line_ranks.specs.Ranks.{pieceOf, runOf, squaresOf}
-use Rattle.line_text.specs.Spelt.{letterOf, digit, spelt}
+use Rattle.line_text.specs.Spelt.{letterOf, runDigit, spelt}
 
 -- ---- a byte is the letter of its piece, or the digit of its run
 module _ (b : ℕ) where
@@ -46,11 +46,11 @@ module _ (b : ℕ) (s : List ℕ) where
   squares-digit n = rw (ne-eqb (runOf b) 0 n)
 
 -- ---- the text of squares
-pub spelt-letter : (n c : ℕ) (squares : List ℕ) → (c ≡ 0 → ⊥) → spelt n (c ∷ squares) ≡ digit n ++ (letterOf c ∷ spelt 0 squares)
+pub spelt-letter : (n c : ℕ) (squares : List ℕ) → (c ≡ 0 → ⊥) → spelt n (c ∷ squares) ≡ runDigit n ++ (letterOf c ∷ spelt 0 squares)
 unfolding spelt
 spelt-letter n zero squares z = absurd (z refl)
 spelt-letter n (suc c) squares z = refl
 
-pub digit-is : (n : ℕ) → (n ≡ 0 → ⊥) → digit n ≡ (48 + n) ∷ []
+pub digit-is : (n : ℕ) → (n ≡ 0 → ⊥) → runDigit n ≡ (48 + n) ∷ []
 digit-is zero z = absurd (z refl)
 digit-is (suc n) z = refl

@@ -15,7 +15,7 @@ use Rattle.text_in.proofs.Within.{cut-at}
 use Rattle.line_ranks.specs.Ranks.{pieceOf, runOf, isDigit, isMark, isRank, digitFirst, wholeRuns, squaresOf, areRanks, stacked}
 use Rattle.line_ranks.proofs.Board.{board-many, rank-eight}
 use Rattle.line_ranks.proofs.Placing.{none-left}
-use Rattle.line_text.specs.Spelt.{digit, spelt, rankOf, ranksText}
+use Rattle.line_text.specs.Spelt.{runDigit, spelt, rankOf, ranksText}
 use Rattle.line_text.proofs.Marks.{letter-of-piece, digit-of-run, squares-letter, squares-digit, spelt-letter, digit-is}
 
 -- ---- a run of empty squares
@@ -51,16 +51,16 @@ module _ (b : ℕ) (s : List ℕ) where
   unfolding every
   marks-rest m = and-r (isMark b) (every isMark s) m
 
-pub normal : (s : List ℕ) (n : ℕ) → ((n ≡ 0 → ⊥) → digitFirst s ≡ false) → T (every isMark s) → T (wholeRuns s) → spelt n (squaresOf s) ≡ digit n ++ s
+pub normal : (s : List ℕ) (n : ℕ) → ((n ≡ 0 → ⊥) → digitFirst s ≡ false) → T (every isMark s) → T (wholeRuns s) → spelt n (squaresOf s) ≡ runDigit n ++ s
 unfolding spelt squaresOf
-normal [] n first m w = sym (append-nil (digit n))
+normal [] n first m w = sym (append-nil (runDigit n))
 normal (b ∷ s) n first m w =
     elim (ℕ-discrete (runOf b) 0) [
       | yes e ↦
           let z = marked b (marks-first b s m) e in
           ap (spelt n) (squares-letter b s e)
           ∙ spelt-letter n (pieceOf b) (squaresOf s) z
-          ∙ ap₂ (λ (x : ℕ) (l : List ℕ). digit n ++ (x ∷ l)) (letter-of-piece b z) (normal s 0 (λ y. absurd (y refl)) (marks-rest b s m) (whole-rest b s w))
+          ∙ ap₂ (λ (x : ℕ) (l : List ℕ). runDigit n ++ (x ∷ l)) (letter-of-piece b z) (normal s 0 (λ y. absurd (y refl)) (marks-rest b s m) (whole-rest b s w))
       | no e ↦
           elim (ℕ-discrete n 0) [
             | yes q ↦
@@ -69,7 +69,7 @@ normal (b ∷ s) n first m w =
                 ∙ ap (λ (k : ℕ). spelt k (squaresOf s)) (let k : runOf b + n ≡ runOf b = omega arith in k)
                 ∙ normal s (runOf b) (λ y. whole-next b s w e) (marks-rest b s m) (whole-rest b s w)
                 ∙ ap (λ (l : List ℕ). l ++ s) (digit-is (runOf b) e ∙ ap (λ (k : ℕ). k ∷ []) (digit-of-run b e))
-                ∙ ap (λ (k : ℕ). digit k ++ (b ∷ s)) (sym q)
+                ∙ ap (λ (k : ℕ). runDigit k ++ (b ∷ s)) (sym q)
             | no q ↦ absurd (let y = first q in let x = first-is b s e in let z : _≡_ {A = ℕ} 0 1 = cc in omega arith)
           ]
     ]

@@ -10,16 +10,16 @@ unfoldable pub letterOf : ℕ → ℕ
 letterOf c = getD (0 ∷ 0 ∷ text "PpNnKkBbRrQq") c 0
 
 -- W-203: "a digit stand for the number of contiguous empty squares"; nothing for none
-abbrev pub digit : ℕ → List ℕ
-digit zero = []
-digit (suc n) = (code "0" + suc n) ∷ []
+abbrev pub runDigit : ℕ → List ℕ
+runDigit zero = []
+runDigit (suc n) = (code "0" + suc n) ∷ []
 
 -- the text of the squares from left to right, after a run of n empty ones that is not written yet: "the run must be written whole"
 unfoldable pub spelt : ℕ → List ℕ → List ℕ
 unfolding letterOf
-spelt n [] = digit n
+spelt n [] = runDigit n
 spelt n (zero ∷ squares) = spelt (suc n) squares
-spelt n (suc c ∷ squares) = digit n ++ (letterOf (suc c) ∷ spelt 0 squares)
+spelt n (suc c ∷ squares) = runDigit n ++ (letterOf (suc c) ∷ spelt 0 squares)
 
 -- the eight squares of a rank from file a on; rank 1 is 0
 abbrev pub rankOf : ℕ → List ℕ → List ℕ

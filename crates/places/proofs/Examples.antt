@@ -1,7 +1,7 @@
 -- Worked examples of the definitions, by computation. Assumes nothing.
 use mathlib.Core.Path.{_≡_, refl}
-use mathlib.Core.List.{List, [], _∷_}
-use Prim.Native.Nat.{ℕ, _+_}
+use mathlib.Core.List.{[], _∷_}
+use Prim.Native.Nat.{_+_}
 use Rattle.refusal.specs.Answer.{given, refused}
 use Rattle.places.specs.Phases.{madeOf}
 use Rattle.places.specs.Places.{entryPlace, weightPlace, kindAt, squareAt, colourAt}

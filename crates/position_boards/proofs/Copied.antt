@@ -9,7 +9,7 @@ use lib.ListN.{getD, set}
 use borrow.Author.Tests.{lt-ltb, le-ltb, ltb-true, ltb-false}
 use Rattle.laws.specs.Tables.{tabulate}
 use Rattle.laws.proofs.Tables.{tabulate-same, tabulate-set}
-use Rattle.position_boards.specs.Tested.{standing, boardsBy}
+use Rattle.position_boards.specs.PrivateTested.{colourSquares, boardsBy}
 
 abbrev pub copiedTo : ℕ → (ℕ → ℕ) → ℕ → List ℕ
 copiedTo size f bound = tabulate size (λ b. cond (ltb b bound) (f b) 0)
@@ -38,11 +38,11 @@ module _ (size : ℕ) (f : ℕ → ℕ) where
 -- ---- the boards of the sorted bytes
 module _ (squares : List ℕ) where
   abbrev pub boardBy : ℕ → ℕ
-  boardBy board = cond (ltb board 2) (standing squares board) (getD squares board 0)
+  boardBy board = cond (ltb board 2) (colourSquares squares board) (getD squares board 0)
 
   pub boards-more : (code : ℕ) → 2 ≤ code → code < 14 → set (copiedTo 14 boardBy code) code (getD squares code 0) ≡ copiedTo 14 boardBy (suc code)
   boards-more code l h =
-      copied-more 14 boardBy code (getD squares code 0) h (sym (ap (λ (t : Bool). cond t (standing squares code) (getD squares code 0)) (le-ltb code 2 l)))
+      copied-more 14 boardBy code (getD squares code 0) h (sym (ap (λ (t : Bool). cond t (colourSquares squares code) (getD squares code 0)) (le-ltb code 2 l)))
 
   pub boards-all : (code : ℕ) → code ≡ 14 → copiedTo 14 boardBy code ≡ boardsBy squares
   unfolding boardsBy

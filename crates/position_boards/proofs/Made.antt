@@ -18,11 +18,11 @@ use Rattle.bits.proofs.Some.{some-same}
 use Rattle.bits.proofs.Those.{has-those, those-same, those-or, those-none}
 use Rattle.position_boards.specs.Sound.{ofColour}
 use Rattle.position_boards.specs.Boards.{isByte, coded, standsOn, bitboardsOf}
-use Rattle.position_boards.specs.Tested.{placeOf, standing, sortedBy, boardsBy}
+use Rattle.position_boards.specs.PrivateTested.{tablePlace, colourSquares, sortedBy, boardsBy}
 use Rattle.position_boards.proofs.Places.{by-place, no-piece}
 
 -- ---- where a byte is sorted, and where it stands
-pub on-its-board : (byte board : ℕ) → 2 ≤ board → board < 14 → eqb (placeOf byte) board ≡ standsOn byte board
+pub on-its-board : (byte board : ℕ) → 2 ≤ board → board < 14 → eqb (tablePlace byte) board ≡ standsOn byte board
 unfolding allBelow2 allBelow
 on-its-board byte board l h =
     by-place (λ b p. eqb p board ≡ standsOn b board)
@@ -34,7 +34,7 @@ on-its-board byte board l h =
     pick b true e t = is-beq (eqb b board) (standsOn b board) t
     pick b false e t = absurd (mathlib.Core.Bool.false≢true e)
 
-pub on-its-colour : (byte colour : ℕ) → colour < 2 → some 6 (λ n. eqb (placeOf byte) (2 + 2 * n + colour)) ≡ standsOn byte colour
+pub on-its-colour : (byte colour : ℕ) → colour < 2 → some 6 (λ n. eqb (tablePlace byte) (2 + 2 * n + colour)) ≡ standsOn byte colour
 unfolding allBelow2 allBelow some
 on-its-colour byte colour h =
     by-place (λ b p. some 6 (λ n. eqb p (2 + 2 * n + colour)) ≡ standsOn b colour)
@@ -47,7 +47,7 @@ on-its-colour byte colour h =
         is-beq (some 6 (λ n. eqb b (2 + 2 * n + colour))) (standsOn b colour)
         (all2-at 15 2 (λ c d. Bool·beq (some 6 (λ n. eqb c (2 + 2 * n + d))) (standsOn c d)) tt b colour hb h)
 
-no-code : (byte : ℕ) → not (eqb (placeOf byte) 1 || eqb (placeOf byte) 14) ≡ isByte byte
+no-code : (byte : ℕ) → not (eqb (tablePlace byte) 1 || eqb (tablePlace byte) 14) ≡ isByte byte
 unfolding allBelow
 no-code =
     by-place (λ b p. not (eqb p 1 || eqb p 14) ≡ isByte b)
@@ -56,28 +56,28 @@ no-code =
 
 -- ---- the boards
 module _ (bytes : List ℕ) where
-  sorted-at : (place : ℕ) → place < 15 → getD (sortedBy bytes) place 0 ≡ those 64 (λ k. eqb (placeOf (getD bytes k 0)) place)
+  sorted-at : (place : ℕ) → place < 15 → getD (sortedBy bytes) place 0 ≡ those 64 (λ k. eqb (tablePlace (getD bytes k 0)) place)
   unfolding sortedBy
-  sorted-at place h = entry 15 (λ place. those 64 (λ k. eqb (placeOf (getD bytes k 0)) place)) 0 place h
+  sorted-at place h = entry 15 (λ place. those 64 (λ k. eqb (tablePlace (getD bytes k 0)) place)) 0 place h
 
   piece-board : (board : ℕ) → 2 ≤ board → board < 14 → getD (sortedBy bytes) board 0 ≡ those 64 (λ k. standsOn (getD bytes k 0) board)
   piece-board board l h =
       sorted-at board (omega arith)
-      ∙ those-same (λ k. eqb (placeOf (getD bytes k 0)) board) (λ k. standsOn (getD bytes k 0) board) (λ k hk. on-its-board (getD bytes k 0) board l h)
+      ∙ those-same (λ k. eqb (tablePlace (getD bytes k 0)) board) (λ k. standsOn (getD bytes k 0) board) (λ k hk. on-its-board (getD bytes k 0) board l h)
 
-  colour-board : (colour : ℕ) → colour < 2 → standing (sortedBy bytes) colour ≡ those 64 (λ k. standsOn (getD bytes k 0) colour)
+  colour-board : (colour : ℕ) → colour < 2 → colourSquares (sortedBy bytes) colour ≡ those 64 (λ k. standsOn (getD bytes k 0) colour)
   unfolding ofColour
   colour-board colour h =
       those-same (ofColour (sortedBy bytes) colour) (λ k. standsOn (getD bytes k 0) colour)
       (λ k hk.
-      some-same 6 (λ n. has (getD (sortedBy bytes) (2 + 2 * n + colour) 0) k) (λ n. eqb (placeOf (getD bytes k 0)) (2 + 2 * n + colour))
-      (λ n hn. ap (λ (b : ℕ). has b k) (sorted-at (2 + 2 * n + colour) (omega arith)) ∙ has-those 64 (λ j. eqb (placeOf (getD bytes j 0)) (2 + 2 * n + colour)) k hk)
+      some-same 6 (λ n. has (getD (sortedBy bytes) (2 + 2 * n + colour) 0) k) (λ n. eqb (tablePlace (getD bytes k 0)) (2 + 2 * n + colour))
+      (λ n hn. ap (λ (b : ℕ). has b k) (sorted-at (2 + 2 * n + colour) (omega arith)) ∙ has-those 64 (λ j. eqb (tablePlace (getD bytes j 0)) (2 + 2 * n + colour)) k hk)
       ∙ on-its-colour (getD bytes k 0) colour h)
 
-  each-board : (board : ℕ) → board < 14 → cond (ltb board 2) (standing (sortedBy bytes) board) (getD (sortedBy bytes) board 0) ≡ those 64 (λ k. standsOn (getD bytes k 0) board)
+  each-board : (board : ℕ) → board < 14 → cond (ltb board 2) (colourSquares (sortedBy bytes) board) (getD (sortedBy bytes) board 0) ≡ those 64 (λ k. standsOn (getD bytes k 0) board)
   each-board board h = go (ltb board 2) refl
     where
-      go : (t : Bool) → ltb board 2 ≡ t → cond t (standing (sortedBy bytes) board) (getD (sortedBy bytes) board 0) ≡ those 64 (λ k. standsOn (getD bytes k 0) board)
+      go : (t : Bool) → ltb board 2 ≡ t → cond t (colourSquares (sortedBy bytes) board) (getD (sortedBy bytes) board 0) ≡ those 64 (λ k. standsOn (getD bytes k 0) board)
       go true e = colour-board board (ltb-true board 2 e)
       go false e = piece-board board (ltb-false board 2 e) h
 
@@ -86,13 +86,13 @@ pub made : (bytes squares boards : List ℕ) → squares ≡ sortedBy bytes → 
 unfolding boardsBy bitboardsOf
 made bytes squares boards s b =
     b ∙ ap boardsBy s
-    ∙ tabulate-same 14 (λ board. cond (ltb board 2) (standing (sortedBy bytes) board) (getD (sortedBy bytes) board 0))
+    ∙ tabulate-same 14 (λ board. cond (ltb board 2) (colourSquares (sortedBy bytes) board) (getD (sortedBy bytes) board 0))
     (λ board. those 64 (λ k. standsOn (getD bytes k 0) board)) (each-board bytes)
 
 pub strays-seen : (bytes s : List ℕ) → s ≡ sortedBy bytes → eqb (bitOr (getD s 1 0) (getD s 14 0)) 0 ≡ coded bytes
 unfolding coded
 strays-seen bytes s e =
-    let at : ℕ → ℕ → Bool = λ place k. eqb (placeOf (getD bytes k 0)) place in
+    let at : ℕ → ℕ → Bool = λ place k. eqb (tablePlace (getD bytes k 0)) place in
     ap (λ (t : List ℕ). eqb (bitOr (getD t 1 0) (getD t 14 0)) 0) e
     ∙ ap₂ (λ (x y : ℕ). eqb (bitOr x y) 0) (sorted-at bytes 1 (omega arith)) (sorted-at bytes 14 (omega arith))
     ∙ ap (λ (x : ℕ). eqb x 0) (those-or (at 1) (at 14))

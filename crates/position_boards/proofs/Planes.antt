@@ -18,7 +18,7 @@ use Rattle.laws.proofs.Truth.{T-true, and-l, and-r, is-beq}
 use Rattle.bits.specs.Bitboard.{has, those, digit}
 use Rattle.bits.proofs.Digits.{has-or, has-and, has-not, has-shl, has-shr, has-zero, has-high, ext}
 use Rattle.bits.proofs.Those.{those-lt, has-those, is-those, those-same}
-use Rattle.position_boards.specs.Tested.{placeOf, sortedBy}
+use Rattle.position_boards.specs.PrivateTested.{tablePlace, sortedBy}
 use Rattle.position_boards.specs.Planes.{Row, Rows, Covers, Sliced, stack, rankWord, digitsOf, digitPlane, highOf, beyondOf, placeBy, placesBy}
 
 -- ---- numbers of eight digits, one above the other
@@ -319,20 +319,20 @@ module _ (bytes : List ℕ) (small : Rows bytes 8) where
 abbrev byDigits : ℕ → ℕ
 byDigits b = placeBy (has b 0) (has b 1) (has b 2) (has b 3) ((has b 4 || has b 5) || (has b 6 || has b 7))
 
-by-digits : (b : ℕ) → b < 256 → byDigits b ≡ placeOf b
+by-digits : (b : ℕ) → b < 256 → byDigits b ≡ tablePlace b
 unfolding allBelow has
-by-digits b h = eqb→eq (byDigits b) (placeOf b) (all-at 256 (λ c. eqb (byDigits c) (placeOf c)) tt b h)
+by-digits b h = eqb→eq (byDigits b) (tablePlace b) (all-at 256 (λ c. eqb (byDigits c) (tablePlace c)) tt b h)
 
 sorted-by : (bytes : List ℕ) → Rows bytes 8
     → placesBy (has (digitPlane bytes 0)) (has (digitPlane bytes 1)) (has (digitPlane bytes 2)) (has (digitPlane bytes 3)) (has (beyondOf bytes)) ≡ sortedBy bytes
 unfolding sortedBy
 sorted-by bytes small =
     let f : ℕ → ℕ = λ k. placeBy (has (digitPlane bytes 0) k) (has (digitPlane bytes 1) k) (has (digitPlane bytes 2) k) (has (digitPlane bytes 3) k) (has (beyondOf bytes) k) in
-    tabulate-same 15 (λ place. those 64 (λ k. eqb (f k) place)) (λ place. those 64 (λ k. eqb (placeOf (getD bytes k 0)) place))
-    (λ place hp. those-same (λ k. eqb (f k) place) (λ k. eqb (placeOf (getD bytes k 0)) place) (λ k hk. ap (λ (p : ℕ). eqb p place) (at k hk)))
+    tabulate-same 15 (λ place. those 64 (λ k. eqb (f k) place)) (λ place. those 64 (λ k. eqb (tablePlace (getD bytes k 0)) place))
+    (λ place hp. those-same (λ k. eqb (f k) place) (λ k. eqb (tablePlace (getD bytes k 0)) place) (λ k hk. ap (λ (p : ℕ). eqb p place) (at k hk)))
   where
     at : (k : ℕ) → k < 64
-        → placeBy (has (digitPlane bytes 0) k) (has (digitPlane bytes 1) k) (has (digitPlane bytes 2) k) (has (digitPlane bytes 3) k) (has (beyondOf bytes) k) ≡ placeOf (getD bytes k 0)
+        → placeBy (has (digitPlane bytes 0) k) (has (digitPlane bytes 1) k) (has (digitPlane bytes 2) k) (has (digitPlane bytes 3) k) (has (beyondOf bytes) k) ≡ tablePlace (getD bytes k 0)
     at k h =
         rw (plane-at bytes small k 0 h (omega arith), plane-at bytes small k 1 h (omega arith), plane-at bytes small k 2 h (omega arith), plane-at bytes small k 3 h (omega arith), beyond-at bytes small k h)
         (by-digits (getD bytes k 0) (byte-at bytes small k h))

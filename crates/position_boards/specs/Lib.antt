@@ -1,5 +1,5 @@
 pub mod Sound
 pub mod Boards
 pub mod Promises
-pub mod Tested
+pub mod PrivateTested
 pub mod Planes

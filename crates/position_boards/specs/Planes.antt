@@ -8,7 +8,7 @@ use lib.Dec.{eqb}
 use lib.ListN.{getD}
 use Rattle.laws.specs.Tables.{tabulate}
 use Rattle.bits.specs.Bitboard.{has, those, digit}
-use Rattle.position_boards.specs.Tested.{placeOf}
+use Rattle.position_boards.specs.PrivateTested.{tablePlace}
 
 -- the first n bytes of a rank are bytes
 pub record Row (bytes : List ℕ) (rank n : ℕ) : Type 0 where
@@ -54,7 +54,7 @@ pub record Sliced (word : ℕ → ℕ) (n a b c d all : ℕ) : Type 0 where
 
 -- the place of a byte by its four lowest digits, and whether it has others
 abbrev pub placeBy : Bool → Bool → Bool → Bool → Bool → ℕ
-placeBy a b c d beyond = cond beyond 14 (placeOf (digit a + 2 * digit b + 4 * digit c + 8 * digit d))
+placeBy a b c d beyond = cond beyond 14 (tablePlace (digit a + 2 * digit b + 4 * digit c + 8 * digit d))
 
 abbrev pub placesBy : (ℕ → Bool) → (ℕ → Bool) → (ℕ → Bool) → (ℕ → Bool) → (ℕ → Bool) → List ℕ
 placesBy a b c d beyond = tabulate 15 (λ place. those 64 (λ k. eqb (placeBy (a k) (b k) (c k) (d k) (beyond k)) place))

@@ -4,7 +4,7 @@ ghost use Prim.Native.Nat.{_≤_, _<_};
 ghost use lib.ListN.{length, getD};
 ghost use Rattle.laws.specs.Tables.{tabulate};
 ghost use Rattle.bits.specs.Bitboard.{has};
-ghost use Rattle.position_boards.specs.Tested.{sharedBy, standing, sortedBy, boardsBy};
+ghost use Rattle.position_boards.specs.PrivateTested.{sharedBy, colourSquares, sortedBy, boardsBy};
 ghost use Rattle.position_boards.specs.Planes.{Row, Rows, Covers, Sliced, rankWord, digitsOf, highOf, beyondOf, placesBy};
 ghost use Rattle.position_boards.specs.Promises.{TestsBoards, Makes};
 use chess::color::BLACK_BOARD;
@@ -43,7 +43,7 @@ fn shared(bitboards: &[u64]) -> u64
 // A colour's piece boards together.
 fn unite(bitboards: &[u64], color: usize) -> u64
     requires { ⌜ (14 ≤ length (now bitboards)) × (color < 2) ⌝ }
-    ensures { λ r. ⌜ r ≡ standing (now (bitboards .entry)) color ⌝ }
+    ensures { λ r. ⌜ r ≡ colourSquares (now (bitboards .entry)) color ⌝ }
 {
     let mut all: u64 = 0;
     let mut n: usize = 0;

@@ -3,7 +3,7 @@
 use mathlib.Core.Path.{_≡_, refl, sym, ap, ap₂, _∙_}
 use mathlib.Core.Bool.{Bool, true, false, cond, _||_, _&&_, and-false}
 use mathlib.Core.List.{List}
-use Prim.Native.Nat.{ℕ, zero, suc, _+_, _*_, _-_, _^_, _≤_, _<_}
+use Prim.Native.Nat.{ℕ, zero, suc, _+_, _*_, _^_, _≤_, _<_}
 use native.Mathlib.Omega.{arith}
 use lib.Dec.{T, eqb}
 use lib.ListN.{getD, length}
@@ -22,7 +22,7 @@ use Rattle.position_boards.specs.Sound.{on, boardsWith, apart, ofColour, united
 use Rattle.position_consistent.specs.Consistent.{agrees, consistent}
 use Rattle.position_boards.specs.Boards.{isByte, coded, standsOn, bitboardsOf}
 use Rattle.position_boards.specs.Promises.{Makes}
-use Rattle.position_boards.specs.Tested.{placeOf}
+use Rattle.position_boards.specs.PrivateTested.{tablePlace}
 use Rattle.position_boards.specs.declared.Boards.{Boards}
 use Rattle.position_boards.proofs.Places.{by-place, no-piece}
 use Rattle.position_boards.proofs.Made.{on-its-board, on-its-colour}
@@ -31,7 +31,7 @@ use Rattle.position_boards.proofs.United.{united-white, united-black, united-at
 use Rattle.position_consistent.proofs.Parts.{three-consistent, consistent-united, board-by-byte}
 
 -- ---- a byte stands on as many piece boards as it is a piece: one, or none
-one-board : (byte : ℕ) → howMany 12 (λ n. eqb (placeOf byte) (2 + n)) ≡ digit (isPiece byte)
+one-board : (byte : ℕ) → howMany 12 (λ n. eqb (tablePlace byte) (2 + n)) ≡ digit (isPiece byte)
 unfolding allBelow howMany
 one-board =
     by-place (λ b p. howMany 12 (λ n. eqb p (2 + n)) ≡ digit (isPiece b)) (λ b h. table b (omega arith))
@@ -53,14 +53,14 @@ module _ (bbs bytes : List ℕ) (k : ℕ) (stands : (board : ℕ) → 2 ≤ boar
   pub boardsWith-of : boardsWith bbs k ≡ digit (isPiece (getD bytes k 0))
   unfolding boardsWith
   boardsWith-of =
-      many-same 12 (λ n. on bbs (2 + n) k) (λ n. eqb (placeOf (getD bytes k 0)) (2 + n))
+      many-same 12 (λ n. on bbs (2 + n) k) (λ n. eqb (tablePlace (getD bytes k 0)) (2 + n))
       (λ n h. stands (2 + n) (omega arith) (omega arith) ∙ sym (on-its-board (getD bytes k 0) (2 + n) (omega arith) (omega arith)))
       ∙ one-board (getD bytes k 0)
 
   pub colour-of : (colour : ℕ) → colour < 2 → ofColour bbs colour k ≡ standsOn (getD bytes k 0) colour
   unfolding ofColour
   colour-of colour h =
-      some-same 6 (λ n. on bbs (2 + 2 * n + colour) k) (λ n. eqb (placeOf (getD bytes k 0)) (2 + 2 * n + colour))
+      some-same 6 (λ n. on bbs (2 + 2 * n + colour) k) (λ n. eqb (tablePlace (getD bytes k 0)) (2 + 2 * n + colour))
       (λ n l. stands (2 + 2 * n + colour) (omega arith) (omega arith) ∙ sym (on-its-board (getD bytes k 0) (2 + 2 * n + colour) (omega arith) (omega arith)))
       ∙ on-its-colour (getD bytes k 0) colour h
 

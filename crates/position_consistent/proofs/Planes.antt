@@ -22,7 +22,7 @@ use Rattle.bits.proofs.Some.{some-at, some-none, some-where, Somewhere}
 use Rattle.bits.proofs.Those.{has-those, those-lt, those-of, those-or, is-those}
 use Rattle.position_boards.specs.Sound.{on, boardsWith, apart}
 use Rattle.position_consistent.specs.Consistent.{agrees}
-use Rattle.position_consistent.specs.Tested.{chosenBy, digitThere, planeOf, firstFile, fileCodes, rankRight, filesRight}
+use Rattle.position_consistent.specs.PrivateTested.{chosenBy, digitThere, planeOf, firstFile, fileCodes, rankRight, filesRight}
 use Rattle.position_boards.proofs.Apart.{code-from, code-to, code-is, apart-one}
 use Rattle.position_consistent.proofs.Bytes.{Empty, agrees-either, vacant-agrees, occupied-agrees}
 

@@ -10,7 +10,7 @@ use Rattle.laws.specs.Tests.{allBelow}
 use Rattle.position_boards.specs.Sound.{apart, united, sound}
 use Rattle.position_boards.proofs.Tested.{sound-apart}
 use Rattle.position_consistent.specs.Consistent.{agrees, consistent}
-use Rattle.position_consistent.specs.Tested.{planeOf, filesRight}
+use Rattle.position_consistent.specs.PrivateTested.{planeOf, filesRight}
 use Rattle.position_consistent.proofs.Planes.{files-agree}
 
 -- 14 boards, 64 bytes, the boards' two tests, the bytes'

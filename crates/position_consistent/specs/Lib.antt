@@ -1,3 +1,3 @@
 pub mod Consistent
 pub mod Promises
-pub mod Tested
+pub mod PrivateTested

@@ -3,7 +3,7 @@ ghost use mathlib.Core.Path.{_≡_};
 ghost use Prim.Native.Nat.{_<_, _*_, _/_, _%_, _^_};
 ghost use lib.Dec.{eqb};
 ghost use lib.ListN.{length};
-ghost use Rattle.position_consistent.specs.Tested.{chosenBy, planeOf, fileCodes, fileRight, filesRight};
+ghost use Rattle.position_consistent.specs.PrivateTested.{chosenBy, planeOf, fileCodes, fileRight, filesRight};
 ghost use Rattle.position_consistent.specs.Promises.{Fits};
 use chess::color::Color;
 use chess::piece::Piece;

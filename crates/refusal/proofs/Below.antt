@@ -6,8 +6,8 @@ use borrow.Author.Tests.{lt-ltb, le-ltb}
 use Rattle.refusal.specs.Answer.{given, refusalOf, orRefuse, below}
 use Rattle.refusal.specs.declared.Refusal.{Refusal}
 
-pub within : (bound : ℕ) (r : Refusal) (n : ℕ) → n < bound → given n ≡ below bound r n
-within bound r n h = sym (ap (λ (t : Bool). orRefuse t r (given n)) (lt-ltb n bound h))
+pub within-bound : (bound : ℕ) (r : Refusal) (n : ℕ) → n < bound → given n ≡ below bound r n
+within-bound bound r n h = sym (ap (λ (t : Bool). orRefuse t r (given n)) (lt-ltb n bound h))
 
-pub beyond : (bound : ℕ) (r : Refusal) (n : ℕ) → bound ≤ n → refusalOf r ≡ below bound r n
-beyond bound r n h = sym (ap (λ (t : Bool). orRefuse t r (given n)) (le-ltb n bound h))
+pub beyond-bound : (bound : ℕ) (r : Refusal) (n : ℕ) → bound ≤ n → refusalOf r ≡ below bound r n
+beyond-bound bound r n h = sym (ap (λ (t : Bool). orRefuse t r (given n)) (le-ltb n bound h))

@@ -1,11 +1,10 @@
 -- The numbers of a question, as the code tests them. Assumes nothing.
-use mathlib.Core.Path.{_≡_, refl, sym, _∙_}
-use mathlib.Core.Bool.{Bool, true, false, cond, _&&_, and-false}
+use mathlib.Core.Path.{_≡_, _∙_}
+use mathlib.Core.Bool.{and-false}
 use Prim.Native.Nat.{ℕ, _+_, _-_, _*_, _/_, _≤_, _<_}
 use native.Mathlib.Omega.{arith}
-use lib.Dec.{eqb, leb}
 use borrow.Author.Tests.{eq-eqb, ne-eqb, le-leb, lt-leb}
-use Rattle.replay_question.specs.Question.{grown, withDigit, turned}
+use Rattle.replay_question.specs.Question.{grown, withDigit, negativeBits}
 
 module _ (n d : ℕ) where
   pub room : n ≤ (18446744073709551615 - d) / 10 → n * 10 + d ≡ grown n d
@@ -25,10 +24,10 @@ module _ (n b : ℕ) where
   digit h k = simp (le-leb 48 b h, le-leb b 57 k)
 
 module _ (n : ℕ) where
-  pub nothing : n ≡ 0 → 0 ≡ turned n
+  pub nothing : n ≡ 0 → 0 ≡ negativeBits n
   nothing e = simp (eq-eqb n 0 e)
 
-  pub below : (n ≡ 0 → ⊥) → n ≤ 18446744073709551615 → 18446744073709551615 - n + 1 ≡ turned n
+  pub below : (n ≡ 0 → ⊥) → n ≤ 18446744073709551615 → 18446744073709551615 - n + 1 ≡ negativeBits n
   below e h = sub-one ∙ simp (ne-eqb n 0 e)
     where
       sub-one : 18446744073709551615 - n + 1 ≡ 18446744073709551616 - n

@@ -1,13 +1,12 @@
 -- Worked examples of the definitions, by computation. Assumes nothing.
 use mathlib.Core.Path.{_≡_, refl}
-use mathlib.Core.List.{List, [], _∷_}
-use Prim.Native.Nat.{ℕ}
-use Rattle.text_in.specs.Text.{text, before, space}
-use Rattle.replay_question.specs.Question.{numberOf, numbersOf, slashed, positionOf}
+use mathlib.Core.List.{[], _∷_}
+use Rattle.text_in.specs.Text.{text}
+use Rattle.replay_question.specs.Question.{leadingNumber, numbersOf, slashed, positionOf}
 
 -- the largest number of 64 bits; one that would pass it stays where it was; a number below zero as its 64 bits
-bounds : numberOf (text "18446744073709551615 1") ∷ numberOf (text "18446744073709551616") ∷ numberOf (text "-1") ∷ numberOf (text "-0") ∷ numberOf [] ∷ [] ≡ 18446744073709551615 ∷ 1844674407370955161 ∷ 18446744073709551615 ∷ 0 ∷ 0 ∷ []
-unfolding numberOf
+bounds : leadingNumber (text "18446744073709551615 1") ∷ leadingNumber (text "18446744073709551616") ∷ leadingNumber (text "-1") ∷ leadingNumber (text "-0") ∷ leadingNumber [] ∷ [] ≡ 18446744073709551615 ∷ 1844674407370955161 ∷ 18446744073709551615 ∷ 0 ∷ 0 ∷ []
+unfolding leadingNumber
 bounds = refl
 
 -- the numbers after the word, and 0 where there is none

@@ -1,17 +1,16 @@
 -- One turn of each loop over a question, and its numbers. Assumes nothing.
-use mathlib.Core.Path.{_≡_, refl, sym, ap, _∙_}
+use mathlib.Core.Path.{_≡_, sym, ap, _∙_}
 use mathlib.Core.Bool.{Bool, true, false, cond}
 use mathlib.Core.List.{List, [], _∷_}
-use Prim.Native.Nat.{ℕ, zero, suc, _+_, _-_, _≤_, _<_}
+use Prim.Native.Nat.{ℕ, suc, _+_, _-_, _≤_, _<_}
 use native.Mathlib.Numerals.{add-one}
-use native.Mathlib.Omega.{arith}
 use lib.Dec.{eqb}
 use lib.ListN.{length, take, drop, getD, drop-of-length-le}
 use lib.Seq.{drop-cons}
 use borrow.Author.Tests.{eq-eqb, ne-eqb}
 use Rattle.text_in.specs.Text.{space, before, after}
 use Rattle.text_in.proofs.Parts.{rest}
-use Rattle.replay_question.specs.Question.{withDigit, digits, turned, numberOf, later, numbersOf, slashed}
+use Rattle.replay_question.specs.Question.{withDigit, digits, negativeBits, leadingNumber, later, numbersOf, slashed}
 
 -- ---- a number's digits
 module _ (s : List ℕ) (whole i n : ℕ) (e : whole ≡ digits n (drop i s)) where
@@ -46,20 +45,20 @@ module _ (s front : List ℕ) (n m : ℕ) (e : front ≡ before space s) (d : n 
   read : n ≡ digits 0 (before space s)
   read = d ∙ ap (digits 0) e
 
-  picked : (t : Bool) → eqb m 0 ≡ t → cond t (turned n) n ≡ numberOf s
-  unfolding numberOf
-  picked t q = ap (λ (k : ℕ). cond t (turned k) k) read ∙ ap (λ (u : Bool). cond u (turned (digits 0 (before space s))) (digits 0 (before space s))) (sym q ∙ ap (λ (k : ℕ). eqb k 0) f)
+  picked : (t : Bool) → eqb m 0 ≡ t → cond t (negativeBits n) n ≡ leadingNumber s
+  unfolding leadingNumber
+  picked t q = ap (λ (k : ℕ). cond t (negativeBits k) k) read ∙ ap (λ (u : Bool). cond u (negativeBits (digits 0 (before space s))) (digits 0 (before space s))) (sym q ∙ ap (λ (k : ℕ). eqb k 0) f)
 
-  pub minus-first : m ≡ 0 → turned n ≡ numberOf s
+  pub minus-first : m ≡ 0 → negativeBits n ≡ leadingNumber s
   minus-first h = picked true (eq-eqb m 0 h)
 
-  pub digit-first : (m ≡ 0 → ⊥) → n ≡ numberOf s
+  pub digit-first : (m ≡ 0 → ⊥) → n ≡ leadingNumber s
   digit-first h = picked false (ne-eqb m 0 h)
 
 -- ---- the five numbers
 -- from the parts one after the other
 pub five : (q a b c d e : List ℕ) → a ≡ after space q → b ≡ after space a → c ≡ after space b → d ≡ after space c → e ≡ after space d
-    → (v w x y z : ℕ) → v ≡ numberOf a → w ≡ numberOf b → x ≡ numberOf c → y ≡ numberOf d → z ≡ numberOf e
+    → (v w x y z : ℕ) → v ≡ leadingNumber a → w ≡ leadingNumber b → x ≡ leadingNumber c → y ≡ leadingNumber d → z ≡ leadingNumber e
     → v ∷ w ∷ x ∷ y ∷ z ∷ [] ≡ numbersOf q
 unfolding later numbersOf
 five q a b c d e p1 p2 p3 p4 p5 v w x y z q1 q2 q3 q4 q5 = simp (q1, q2, q3, q4, q5, p5, p4, p3, p2, p1)

@@ -21,13 +21,13 @@ digits n [] = n
 digits n (b ∷ s) = digits (withDigit n b) s
 
 -- a number below zero stands as its 64 bits
-abbrev pub turned : ℕ → ℕ
-turned n = cond (eqb n 0) 0 (18446744073709551616 - n)
+abbrev pub negativeBits : ℕ → ℕ
+negativeBits n = cond (eqb n 0) 0 (18446744073709551616 - n)
 
 -- "at times with `-`": the number that a text begins with
-unfoldable pub numberOf : List ℕ → ℕ
+unfoldable pub leadingNumber : List ℕ → ℕ
 unfolding before digits
-numberOf s = let n : ℕ = digits 0 (before space s) in cond (eqb (length (before 45 s)) 0) (turned n) n
+leadingNumber s = let n : ℕ = digits 0 (before space s) in cond (eqb (length (before 45 s)) 0) (negativeBits n) n
 
 -- ---- parts
 -- what comes after so many spaces
@@ -38,8 +38,8 @@ later (suc n) s = later n (after space s)
 
 -- the five parts after the word
 unfoldable pub numbersOf : List ℕ → List ℕ
-unfolding later numberOf
-numbersOf question = numberOf (later 1 question) ∷ numberOf (later 2 question) ∷ numberOf (later 3 question) ∷ numberOf (later 4 question) ∷ numberOf (later 5 question) ∷ []
+unfolding later leadingNumber
+numbersOf question = leadingNumber (later 1 question) ∷ leadingNumber (later 2 question) ∷ leadingNumber (later 3 question) ∷ leadingNumber (later 4 question) ∷ leadingNumber (later 5 question) ∷ []
 
 -- with a part before a text: the part where a slash comes next, else the text's own part with one
 unfoldable pub slashed : List ℕ → List ℕ → List ℕ

@@ -1,7 +1,7 @@
 // A question of the oracle taken apart: its word, its numbers and its position (oracle/README.md). Total, and no door.
 ghost use mathlib.Core.Path.{_≡_};
 ghost use Prim.Native.Nat.{_≤_};
-ghost use Rattle.replay_question.specs.Question.{grown, withDigit, digits, turned, numberOf};
+ghost use Rattle.replay_question.specs.Question.{grown, withDigit, digits, negativeBits, leadingNumber};
 ghost use Rattle.replay_question.specs.Promises.{GivesWord, GivesNumbers, GivesPosition};
 use text_in::inner::find;
 use text_in::inner::text_after;
@@ -50,7 +50,7 @@ fn digits(s: &[u8]) -> u64
 
 // A number below zero stands as its 64 bits.
 fn turned(n: u64) -> u64
-    ensures { λ r. ⌜ r ≡ turned n ⌝ }
+    ensures { λ r. ⌜ r ≡ negativeBits n ⌝ }
 {
     if n == 0 {
         return 0;
@@ -60,7 +60,7 @@ fn turned(n: u64) -> u64
 
 // The number that a text begins with.
 fn number(s: &[u8]) -> u64
-    ensures { λ r. ⌜ r ≡ numberOf (now (s .entry)) ⌝ }
+    ensures { λ r. ⌜ r ≡ leadingNumber (now (s .entry)) ⌝ }
 {
     let n = digits(text_before(s, b' '));
     if find(s, b'-') == 0 {

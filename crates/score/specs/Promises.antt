@@ -4,7 +4,7 @@ use mathlib.Core.List.{List}
 use Prim.Native.Nat.{ℕ}
 use lib.IntN.{ℤ}
 use Rattle.position.specs.declared.State.{State}
-use Rattle.attack.specs.Lent.{attacksWith}
+use Rattle.attack.specs.PrivateLent.{attacksWith}
 use Rattle.score_pst.specs.Pst.{weightIn}
 use Rattle.score.specs.Score.{scoreBy, evalOf}
 use Rattle.score.specs.Answers.{scored}

@@ -21,12 +21,12 @@ pub data Outcome : Type 0 where
   score : ℤ → Outcome
 
 -- "SCORE is given exactly if no verdict applies and ..": a verdict that applies comes first
-abbrev pub settled : Verdict → Answer ℤ → Answer Outcome
-settled lost points = given (verdict lost)
-settled won points = given (verdict won)
-settled drawn points = given (verdict drawn)
-settled none (refused number beside) = refused number beside
-settled none (given z) = given (score z)
+abbrev pub verdictFirst : Verdict → Answer ℤ → Answer Outcome
+verdictFirst lost points = given (verdict lost)
+verdictFirst won points = given (verdict won)
+verdictFirst drawn points = given (verdict drawn)
+verdictFirst none (refused number beside) = refused number beside
+verdictFirst none (given z) = given (score z)
 
 -- the score of own less other, for any rules of attacks and weights
 abbrev pub pointsBy : (ℕ → ℕ → ℕ → ℕ → ℕ) → (ℕ → ℕ → ℕ → ℤ) → List ℕ → ℕ → Answer ℤ
@@ -34,7 +34,7 @@ pointsBy attack weight bbs side = pointsOf (sideBy attack weight bbs (toMove sid
 
 unfoldable pub scoreBy : (ℕ → ℕ → ℕ → ℕ → ℕ) → (ℕ → ℕ → ℕ → ℤ) → List ℕ → ℕ → Answer Outcome
 unfolding verdictOf weighedBy material mobilityBy pieces
-scoreBy attack weight bbs side = settled (verdictOf bbs side) (pointsBy attack weight bbs side)
+scoreBy attack weight bbs side = verdictFirst (verdictOf bbs side) (pointsBy attack weight bbs side)
 
 -- the score by 01's attacks and square weights
 unfoldable pub scoreOf : List ℕ → State → Answer Outcome

@@ -11,19 +11,19 @@ use Rattle.score_material.specs.declared.Material.{Material}
 use Rattle.score_material.specs.declared.Material.the-variants.{Is, Refused}
 
 -- the answer on the paper
-abbrev pub material : Material → Answer ℤ
-material (Is z) = given z
-material (Refused r) = refusalOf r
+abbrev pub materialPaper : Material → Answer ℤ
+materialPaper (Is z) = given z
+materialPaper (Refused r) = refusalOf r
 
 abbrev pub EvalsMaterial : List ℕ → List ℕ → State → ℕ → Material → Type 0
-EvalsMaterial bitboards board state colour r = material r ≡ materialOf bitboards board state colour
+EvalsMaterial bitboards board state colour r = materialPaper r ≡ materialOf bitboards board state colour
 
 -- ---- the inner functions, on any bitboards
-abbrev pub Numbers : List ℕ → ℕ → ℕ → ℕ → Type 0
-Numbers bitboards kind colour r = r ≡ count bitboards kind colour
+abbrev pub CountsKind : List ℕ → ℕ → ℕ → ℕ → Type 0
+CountsKind bitboards kind colour r = r ≡ count bitboards kind colour
 
-abbrev pub Worth : List ℕ → ℕ → ℕ → Type 0
-Worth bitboards colour r = r ≡ worth bitboards colour
+abbrev pub SideWorth : List ℕ → ℕ → ℕ → Type 0
+SideWorth bitboards colour r = r ≡ worth bitboards colour
 
 abbrev pub Pairs : List ℕ → ℕ → ℕ → Type 0
 Pairs bitboards colour r = r ≡ pair bitboards colour * pairValue

@@ -2,7 +2,7 @@
 ghost use mathlib.Core.Path.{_≡_};
 ghost use Prim.Native.Nat.{_*_, _≤_};
 ghost use Rattle.chess.specs.Values.{valueOf};
-ghost use Rattle.score_material.specs.Promises.{Numbers, Worth, Pairs};
+ghost use Rattle.score_material.specs.Promises.{CountsKind, SideWorth, Pairs};
 use crate::BISHOP_PAIR;
 use crate::PIECE_VALUES;
 use attack::inner::standing;
@@ -13,7 +13,7 @@ use chess::kind::KINDS;
 
 // How many pieces of a kind and a colour there are.
 pub fn number(bitboards: &[u64], kind: u8, color: u8) -> u32
-    ensures { λ r. ⌜ Numbers (now (bitboards .entry)) kind color r ⌝ }
+    ensures { λ r. ⌜ CountsKind (now (bitboards .entry)) kind color r ⌝ }
 {
     bits::count(standing(bitboards, kind, color))
 }
@@ -28,7 +28,7 @@ fn value(n: u32, kind: u8) -> u32
 
 // What a colour's pieces are worth, the pair of bishops not counted.
 pub fn material(bitboards: &[u64], color: u8) -> u32
-    ensures { λ r. ⌜ Worth (now (bitboards .entry)) color r ⌝ }
+    ensures { λ r. ⌜ SideWorth (now (bitboards .entry)) color r ⌝ }
 {
     let mut sum: u32 = 0;
     let mut kind: u8 = 0;

@@ -1,7 +1,6 @@
 -- Worked examples of the definitions, by computation. Assumes nothing.
 use mathlib.Core.Path.{_≡_, refl}
-use mathlib.Core.List.{List, [], _∷_}
-use lib.IntN.{ℤ, pos, negℤ}
+use mathlib.Core.List.{[], _∷_}
 use Rattle.score_pst.specs.Grids.{p, m}
 use Rattle.score_pst.specs.Pst.{pstOf, pstPlace}
 

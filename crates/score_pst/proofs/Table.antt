@@ -1,9 +1,9 @@
 -- The table has each weight at its place, and no weight is farther than 117 from zero. Assumes nothing.
 use mathlib.Core.Path.{_≡_, ap, ap₂, _∙_}
-use Prim.Native.Nat.{ℕ, _+_, _*_, _/_, _%_, _<_, _≤_}
+use Prim.Native.Nat.{ℕ, _/_, _%_, _<_, _≤_}
 use native.Mathlib.Omega.{arith}
 use lib.Dec.{leb, leb→le}
-use lib.IntN.{ℤ, pos, natAbs}
+use lib.IntN.{pos, natAbs}
 use Rattle.laws.specs.Tests.{allBelow, allBelow2}
 use Rattle.laws.proofs.Tests.{all-at, all2-at}
 use Rattle.laws.proofs.Tables.{entry}

@@ -5,11 +5,11 @@ use Prim.Native.Nat.{ℕ}
 use lib.IntN.{ℤ}
 use Rattle.score_pst.specs.Pst.{pstTable, pstPlace, weightIn}
 
-abbrev pub Makes : List ℤ → Type 0
-Makes r = r ≡ pstTable
+abbrev pub MakesTable : List ℤ → Type 0
+MakesTable r = r ≡ pstTable
 
-abbrev pub Places : ℕ → ℕ → ℕ → ℕ → Type 0
-Places code square phase r = r ≡ pstPlace code square phase
+abbrev pub PlacesWeight : ℕ → ℕ → ℕ → ℕ → Type 0
+PlacesWeight code square phase r = r ≡ pstPlace code square phase
 
 abbrev pub Weighs : List ℤ → ℕ → ℕ → ℕ → ℤ → Type 0
 Weighs pst code square phase r = r ≡ weightIn pst code square phase

@@ -1,7 +1,7 @@
 -- The square weights: which entry of which grid a piece takes, and the table of all of them. Definitions only.
 use mathlib.Core.Bool.{cond}
 use mathlib.Core.List.{List, [], _∷_}
-use Prim.Native.Nat.{ℕ, _+_, _*_, _/_, _%_}
+use Prim.Native.Nat.{ℕ, _/_, _%_}
 use lib.Bits.{bitXor}
 use lib.Dec.{eqb}
 use lib.IntN.{ℤ, pos}

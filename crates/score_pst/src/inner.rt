@@ -1,6 +1,6 @@
 // The table for the loops of the crates above: made once, lent, and read. Total, and no door.
 ghost use mathlib.Core.Path.{_≡_};
-ghost use Rattle.score_pst.specs.Promises.{Makes, Weighs, Places};
+ghost use Rattle.score_pst.specs.Promises.{MakesTable, Weighs, PlacesWeight};
 use crate::COUNT;
 use crate::PER_CODE;
 use crate::PST;
@@ -9,14 +9,14 @@ use places::phase::Phase;
 
 // The whole table. A constant is built anew wherever it is read: who loops makes it once and lends it.
 pub fn table() -> [i8; COUNT]
-    ensures { λ r. ⌜ Makes r ⌝ }
+    ensures { λ r. ⌜ MakesTable r ⌝ }
 {
     PST
 }
 
 // Where a table has the weight of a code, a square and a phase.
 pub fn place(code: u8, square: u8, phase: u8) -> usize
-    ensures { λ r. ⌜ Places code square phase r ⌝ }
+    ensures { λ r. ⌜ PlacesWeight code square phase r ⌝ }
 {
     PER_CODE * index(code) + Phase::COUNT * index(square) + index(phase)
 }

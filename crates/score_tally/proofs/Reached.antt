@@ -14,10 +14,10 @@ use Rattle.bits.proofs.Sums.{counted-squares}
 use Rattle.attack_rays.specs.Rays.{seen, straight, slanted}
 use Rattle.attack_steps.specs.Steps.{stepIn}
 use Rattle.attack.specs.Attacks.{standing, attacksBy}
-use Rattle.attack.specs.Lent.{attacksWith}
+use Rattle.attack.specs.PrivateLent.{attacksWith}
 use Rattle.attack.proofs.ByKind.{slides}
 use Rattle.score_tally.specs.Mobility.{factorOf, attackedFrom, attackedBy, mobilityBy}
-use Rattle.score_tally.specs.Lent.{stepFrom, reachWith, reaching}
+use Rattle.score_tally.specs.PrivateLent.{stepFrom, reachWith, reaching}
 
 -- ---- an entry of the knight's table
 pub on-board : (knights : List ℕ) (s r : ℕ) → s ≤ 63 → r ≡ getD knights s 0 → r ≡ stepFrom knights s

@@ -22,8 +22,8 @@ use Rattle.score_pst.specs.Pst.{weightIn}
 use Rattle.score_tally.specs.Mobility.{factorOf, attackedFrom, attackedBy, mobilityBy}
 use Rattle.score_tally.specs.Weights.{weighedFrom, weighedBy}
 use Rattle.score_tally.specs.Sides.{sideBy, sidesBy}
-use Rattle.score_tally.specs.Lent.{reachWith, reaching}
-use Rattle.score_tally.specs.Walked.{sumAt, plusOf, sideWith, bothWith}
+use Rattle.score_tally.specs.PrivateLent.{reachWith, reaching}
+use Rattle.score_tally.specs.PrivateWalked.{sumAt, plusOf, sideWith, bothWith}
 
 -- of a colour and a kind: what the board weighs in a phase, and its mobility in tenths
 abbrev pub weighs : List ℤ → List ℕ → ℕ → ℕ → ℕ → ℤ

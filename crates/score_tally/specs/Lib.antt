@@ -1,6 +1,6 @@
 pub mod Mobility
 pub mod Weights
 pub mod Sides
-pub mod Lent
-pub mod Walked
+pub mod PrivateLent
+pub mod PrivateWalked
 pub mod Promises

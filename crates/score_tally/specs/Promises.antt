@@ -4,7 +4,7 @@ use mathlib.Core.List.{List}
 use Prim.Native.Nat.{ℕ}
 use lib.IntN.{ℤ}
 use Rattle.score_pst.specs.Pst.{weightIn}
-use Rattle.score_tally.specs.Lent.{reaching}
+use Rattle.score_tally.specs.PrivateLent.{reaching}
 use Rattle.score_tally.specs.Sides.{sidesBy}
 use Rattle.score_tally.specs.declared.Sides.{Sides}
 

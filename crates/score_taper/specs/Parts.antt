@@ -18,15 +18,15 @@ abbrev pub in16 : ℤ → Bool
 in16 z = ltb (mag z) 32768
 
 -- "With y0 opening and y1 ending": y0·(2−x)
-abbrev pub openingOf : ℤ → ℕ → ℤ
-openingOf y0 x = y0 *ℤ (pos 2 -ℤ pos x)
+abbrev pub openingProduct : ℤ → ℕ → ℤ
+openingProduct y0 x = y0 *ℤ (pos 2 -ℤ pos x)
 
 -- y1·(x−32)
-abbrev pub endingOf : ℤ → ℕ → ℤ
-endingOf y1 x = y1 *ℤ (pos x -ℤ pos 32)
+abbrev pub endingProduct : ℤ → ℕ → ℤ
+endingProduct y1 x = y1 *ℤ (pos x -ℤ pos 32)
 
 abbrev pub productsOf : ℤ → ℤ → ℕ → ℤ
-productsOf y0 y1 x = openingOf y0 x +ℤ endingOf y1 x
+productsOf y0 y1 x = openingProduct y0 x +ℤ endingProduct y1 x
 
 -- "a side's part is (y0·(2−x) + y1·(x−32)) / (−30), truncated toward zero, each side by itself"
 abbrev pub partOf : ℤ → ℤ → ℕ → ℤ
@@ -39,7 +39,7 @@ sidePart side x = partOf (side .opening) (side .ending) x
 abbrev pub sideFits : Side → ℕ → Bool
 sideFits side x =
     leb (side .material) 32767 && leb (side .mobility) 32767
-    && in16 (openingOf (side .opening) x) && in16 (endingOf (side .ending) x) && in16 (productsOf (side .opening) (side .ending) x)
+    && in16 (openingProduct (side .opening) x) && in16 (endingProduct (side .ending) x) && in16 (productsOf (side .opening) (side .ending) x)
 
 -- "Score = own minus other square weights, plus own minus other material, plus own minus other mobility, plus 11": the sum after each of its
 -- three additions, "in the order just given"; "The three differences are formed first"

@@ -1,8 +1,7 @@
 -- Worked examples of the definitions, by computation. Assumes nothing.
 use mathlib.Core.Path.{_≡_, refl}
-use mathlib.Core.Bool.{Bool, true, false}
-use mathlib.Core.List.{List, [], _∷_}
-use Prim.Native.Nat.{ℕ}
+use mathlib.Core.Bool.{true, false}
+use mathlib.Core.List.{[], _∷_}
 use Rattle.text_in.specs.Text.{text, semicolon, isText, isBlank, isSpace, every, holds, before, after, without, trim, placeIn}
 
 -- the first and the last byte of a line, tab and CR; and bytes that are none: LF, 31, DEL

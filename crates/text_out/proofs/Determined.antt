@@ -1,9 +1,9 @@
 -- Each public function is determined by its promise: two answers, and two buffers, that it allows are equal. Assumes nothing.
 use mathlib.Core.Path.{_≡_, refl, sym, _∙_}
-use mathlib.Core.List.{List, [], _∷_}
+use mathlib.Core.List.{List}
 use Prim.Native.Nat.{ℕ}
 use lib.IntN.{ℤ}
-use Rattle.text_out.specs.Text.{place, Puts, PutsDecimal, PutsSigned, After, signedOf, decimalOf}
+use Rattle.text_out.specs.Text.{place, Puts, PutsDecimal, PutsSigned, PlaceAfter, signedOf, decimalOf}
 use Rattle.text_out.specs.declared.Placed.{Placed}
 use Rattle.text_out.specs.declared.Placed.the-variants.{At, Full}
 
@@ -22,5 +22,5 @@ decimal old new new′ at n r s p q = put old new new′ at (decimalOf n) r s p 
 pub signed : (old new new′ : List ℕ) (at : ℕ) (n : ℤ) (r s : Placed) → PutsSigned old new at n r → PutsSigned old new′ at n s → (r ≡ s) × (new ≡ new′)
 signed old new new′ at n r s p q = put old new new′ at (signedOf n) r s p q
 
-pub placed-or : (p : Placed) (at r s : ℕ) → After p at r → After p at s → r ≡ s
+pub placed-or : (p : Placed) (at r s : ℕ) → PlaceAfter p at r → PlaceAfter p at s → r ≡ s
 placed-or p at r s e f = e ∙ sym f

@@ -1,8 +1,8 @@
 -- Worked examples of the definitions, by computation. Assumes nothing.
 use mathlib.Core.Path.{_≡_, refl}
-use mathlib.Core.List.{List, [], _∷_}
-use Prim.Native.Nat.{ℕ, _-_, _^_}
-use lib.IntN.{ℤ, pos, negsuc}
+use mathlib.Core.List.{[], _∷_}
+use Prim.Native.Nat.{_-_, _^_}
+use lib.IntN.{pos, negsuc}
 use lib.ListN.{length}
 use Rattle.text_out.specs.Text.{digitsUpTo, decimalOf, signedOf, writtenOf, placeOf}
 

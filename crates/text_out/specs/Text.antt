@@ -63,8 +63,8 @@ abbrev pub afterOf : List ℕ → ℕ → ℕ
 afterOf [] at = at
 afterOf (r ∷ l) at = r
 
-abbrev pub After : Placed → ℕ → ℕ → Type 0
-After p at r = r ≡ afterOf (place p) at
+abbrev pub PlaceAfter : Placed → ℕ → ℕ → Type 0
+PlaceAfter p at r = r ≡ afterOf (place p) at
 
 -- for who puts one text after another: the text is put where it has room, and the place after it is given, or the one that was asked for
 pub record Adds (old : List ℕ) (at : ℕ) (text new : List ℕ) (r : ℕ) : Type 0 where

@@ -1,7 +1,7 @@
 // Text put into a lent buffer at a place: bytes, decimal numbers, and decimal numbers with a sign.
 ghost use Prim.Native.Nat.{_+_, _≤_};
 ghost use lib.ListN.{length};
-ghost use Rattle.text_out.specs.Text.{Wrote, Puts, PutsDecimal, PutsSigned, After, minus};
+ghost use Rattle.text_out.specs.Text.{Wrote, Puts, PutsDecimal, PutsSigned, PlaceAfter, minus};
 
 // The place after the text; or that there is too little room, and then nothing has changed.
 pub enum Placed {
@@ -12,7 +12,7 @@ pub enum Placed {
 impl Placed {
     // The place after the text, or the one given where there was no room.
     pub fn or(self, at: usize) -> usize
-        ensures { λ r. ⌜ After self at r ⌝ }
+        ensures { λ r. ⌜ PlaceAfter self at r ⌝ }
     {
         match self {
             Placed::At(next) => next,

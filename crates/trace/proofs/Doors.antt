@@ -15,7 +15,7 @@ use Rattle.position.specs.declared.Checked.the-variants.{Fit}
 use Rattle.trace_counts.specs.declared.Trace.{Trace}
 use Rattle.trace.specs.Trace.{traceOf}
 use Rattle.attack_steps.specs.Steps.{stepTables}
-use Rattle.trace.specs.Marked.{filledTo, mobilityWith, traceWith, refusedWith}
+use Rattle.trace.specs.PrivateMarked.{filledTo, mobilityWith, traceWith, refusedWith}
 use Rattle.trace.specs.Promises.{tracedOf, paper, traceFrom, entriesAfter, Traces}
 use Rattle.trace.proofs.Planes.{filled-is}
 use Rattle.trace.proofs.Walks.{lent-mobility}

@@ -13,7 +13,7 @@ use lib.Ieee.{Float}
 use mir.Syntax.{w32}
 use Rattle.laws.proofs.Words.{held}
 use Rattle.bits.specs.Bitboard.{has, squaresFrom, squares}
-use Rattle.trace_double.specs.Double.{added, folded}
+use Rattle.trace_double.specs.Double.{entryAdded, folded}
 use Rattle.trace_double.specs.Marks.{marks, entriesFrom}
 use Rattle.trace_double.proofs.Marks.{marks-lt, marks-none, marks-high, no-digit}
 use Rattle.trace_counts.proofs.Held.{read}
@@ -98,7 +98,7 @@ module _ (F : ℕ → Float) where
 module _ (squares : List Float) (x : Float) (entries : List ℤ) where
   -- one entry more, read back from its bits
   pub one-more : (score : Float) (k j : ℕ) {here now : Float} → mag (getD entries (k + j) (pos 0)) < 2 ^ 31 → here ≡ entriesFrom squares x entries score k j
-      → now ≡ added squares x here (k + j) (held w32 (getD entries (k + j) (pos 0))) → now ≡ entriesFrom squares x entries score k (suc j)
+      → now ≡ entryAdded squares x here (k + j) (held w32 (getD entries (k + j) (pos 0))) → now ≡ entriesFrom squares x entries score k (suc j)
   unfolding entriesFrom
   one-more score k j h e p = p ∙ rw (e, read (getD entries (k + j) (pos 0)) h)
 
@@ -107,7 +107,7 @@ module _ (squares : List Float) (x : Float) (entries : List ℤ) where
   none-yet score k = refl
 
   pub one-still : (score : Float) (k j : ℕ) → getD entries (k + j) (pos 0) ≡ pos 0 → entriesFrom squares x entries score k j ≡ entriesFrom squares x entries score k (suc j)
-  unfolding entriesFrom added
+  unfolding entriesFrom entryAdded
   one-still score k j z = rw z
 
   pub all-still : (score : Float) (k n : ℕ) → ((j : ℕ) → j < n → getD entries (k + j) (pos 0) ≡ pos 0) → score ≡ entriesFrom squares x entries score k n
@@ -119,13 +119,13 @@ module _ (squares : List Float) (x : Float) (entries : List ℤ) where
   unfolding entriesFrom
   join score k m zero = ap (entriesFrom squares x entries score k) (let q : m ≡ m + 0 = omega arith in q)
   join score k m (suc n) =
-      ap₂ (λ (s : Float) (i : ℕ). added squares x s i (getD entries i (pos 0))) (join score k m n) (add-assoc k m n)
+      ap₂ (λ (s : Float) (i : ℕ). entryAdded squares x s i (getD entries i (pos 0))) (join score k m n) (add-assoc k m n)
       ∙ ap (entriesFrom squares x entries score k) (let q : suc (m + n) ≡ m + suc n = omega arith in q)
 
   pub from-0 : (score : Float) (n : ℕ) → entriesFrom squares x entries score 0 n ≡ folded squares x entries score n
   unfolding entriesFrom folded
   from-0 score zero = refl
-  from-0 score (suc n) = ap₂ (λ (s : Float) (i : ℕ). added squares x s i (getD entries i (pos 0))) (from-0 score n) (zero-add n)
+  from-0 score (suc n) = ap₂ (λ (s : Float) (i : ℕ). entryAdded squares x s i (getD entries i (pos 0))) (from-0 score n) (zero-add n)
 
   -- a group more
   pub group-more : (score : Float) (g : ℕ) → entriesFrom squares x entries (entriesFrom squares x entries score 0 (16 * g)) (16 * g) 16 ≡ entriesFrom squares x entries score 0 (16 * suc g)

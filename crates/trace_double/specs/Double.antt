@@ -23,16 +23,16 @@ abbrev pub between : Float → Float → Float → Float
 between opening ending x = (opening ⊗ (d2 ⊖ x) ⊕ ending ⊗ (x ⊖ d32)) ⊘ (d2 ⊖ d32)
 
 -- one entry, at k, where it is above 0: White's is added, Black's subtracted
-unfoldable pub added : List Float → Float → Float → ℕ → ℤ → Float
-added squares x score k entry =
+unfoldable pub entryAdded : List Float → Float → Float → ℕ → ℤ → Float
+entryAdded squares x score k entry =
     let v : Float = dbl entry ⊗ between (weightAt squares 0 k) (weightAt squares 1 k) x in
     cond (ltZ (pos 0) entry) (cond (eqb (colourAt k) 0) (score ⊕ v) (score ⊖ v)) score
 
 -- the first n entries, in the order of their places: by kind, by square, White before Black
 unfoldable pub folded : List Float → Float → List ℤ → Float → ℕ → Float
-unfolding added
+unfolding entryAdded
 folded squares x entries score zero = score
-folded squares x entries score (suc n) = added squares x (folded squares x entries score n) n (getD entries n (pos 0))
+folded squares x entries score (suc n) = entryAdded squares x (folded squares x entries score n) n (getD entries n (pos 0))
 
 unfoldable pub double : Trace → List ℤ → Weights → List Float → Float
 unfolding folded

@@ -8,7 +8,7 @@ use lib.ListN.{getD}
 use lib.Ieee.{Float}
 use mir.Syntax.{w32}
 use mir.Val.{ofZ}
-use Rattle.trace_double.specs.Double.{added}
+use Rattle.trace_double.specs.Double.{entryAdded}
 
 -- an entry as the machine holds it
 abbrev pub bitsAt : List ℤ → ℕ → ℕ
@@ -43,6 +43,6 @@ groupsOf entries n = marks (λ g. markOf (groupOf entries g)) n
 
 -- n entries from k on, in the order of their places, from a score on
 unfoldable pub entriesFrom : List Float → Float → List ℤ → Float → ℕ → ℕ → Float
-unfolding added
+unfolding entryAdded
 entriesFrom squares x entries score k zero = score
-entriesFrom squares x entries score k (suc n) = added squares x (entriesFrom squares x entries score k n) (k + n) (getD entries (k + n) (pos 0))
+entriesFrom squares x entries score k (suc n) = entryAdded squares x (entriesFrom squares x entries score k n) (k + n) (getD entries (k + n) (pos 0))

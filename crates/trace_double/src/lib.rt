@@ -7,7 +7,7 @@ ghost use Prim.Native.Nat.{_+_, _*_, _<_};
 ghost use mir.Syntax.{w32};
 ghost use mir.Val.{ofZ};
 ghost use Rattle.trace_counts.specs.Ranges.{areEntries};
-ghost use Rattle.trace_double.specs.Double.{between, added, folded};
+ghost use Rattle.trace_double.specs.Double.{between, entryAdded, folded};
 ghost use Rattle.trace_double.specs.Marks.{bitsAt, Held, marks, groupOf, markOf, groupsOf, entriesFrom};
 ghost use Rattle.trace_double.specs.Promises.{Doubles};
 use bits::Lowest;
@@ -33,7 +33,7 @@ fn interpolated(opening: f64, ending: f64, x: f64) -> f64
 // The entry at k, weighed: nothing where it is 0.
 fn entry_added(squares: &[f64], x: f64, score: f64, k: usize, entry: i32) -> f64
     requires { ⌜ (length (now squares) ≡ 768) × (k < 768) ⌝ }
-    ensures { λ r. ⌜ r ≡ added (now (squares .entry)) x score k entry ⌝ }
+    ensures { λ r. ⌜ r ≡ entryAdded (now (squares .entry)) x score k entry ⌝ }
 {
     if entry > 0 {
         let opening = k / SquareWeight::PER_KIND * SquareWeight::PER_KIND

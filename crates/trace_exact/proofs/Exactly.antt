@@ -8,7 +8,7 @@ use lib.IntN.{ℤ, pos, _+ℤ_, _-ℤ_, _*ℤ_}
 use lib.ListN.{getD}
 use Rattle.laws.specs.Sums.{sumN, sumZ}
 use Rattle.laws.proofs.Sums.{whole-same}
-use Rattle.laws.proofs.Diff.{Diff, up, dn, diff-of, diff-add, diff-minus, diff-scale}
+use Rattle.laws.proofs.Diff.{Diff, aboveZero, belowZero, diff-of, diff-add, diff-minus, diff-scale}
 use Rattle.laws.proofs.Terms.{diff-of-two, diff-weighed}
 use Rattle.places.specs.Places.{entryPlace, weightPlace}
 use Rattle.attack.specs.Attacks.{attacks}
@@ -20,7 +20,7 @@ use Rattle.score_tally.specs.Mobility.{factorOf, attackedBy, attacked, mobility
 use Rattle.trace_named.specs.Named as D
 use Rattle.trace_counts.specs.declared.Trace.{Trace}
 use Rattle.trace.specs.Trace.{signOf, traceOf, entryAt, entriesOf}
-use Rattle.trace_exact.specs.Exact.{WholeWeights, shippedWhole, difference, countsOf, term, squareSum, exactBy, exactSum}
+use Rattle.trace_exact.specs.Exact.{WholeWeights, shippedWhole, difference, kindCounts, term, squareSum, exactBy, exactSum}
 use Rattle.trace.proofs.Planes.{entries-at}
 use Rattle.trace_exact.proofs.Entries.{thirtieths, square-sum}
 
@@ -38,31 +38,31 @@ same-squares w e f x h =
 pub exact-at : (w : WholeWeights) (t : Trace) (bbs : List ℕ) → exactSum w t (entriesOf bbs) ≡ exactBy w t (λ i. pos (entryAt bbs i))
 unfolding exactSum exactBy
 exact-at w t bbs =
-    ap (λ (z : ℤ). (sumZ 5 (λ kind. difference (countsOf t kind) *ℤ w .value kind) +ℤ difference (t .«bishop_pair») *ℤ w .pair +ℤ t .side *ℤ w .tempo) *ℤ pos 30
-    +ℤ sumZ 6 (λ kind. (D.attacked t kind 0 -ℤ D.attacked t kind 1) *ℤ w .mobility kind) *ℤ pos 3 +ℤ z)
+    ap (λ (z : ℤ). (sumZ 5 (λ kind. difference (kindCounts t kind) *ℤ w .value kind) +ℤ difference (t .«bishop_pair») *ℤ w .pair +ℤ t .side *ℤ w .tempo) *ℤ pos 30
+    +ℤ sumZ 6 (λ kind. (D.attackedIn t kind 0 -ℤ D.attackedIn t kind 1) *ℤ w .mobility kind) *ℤ pos 3 +ℤ z)
     (same-squares w (λ i. getD (entriesOf bbs) i (pos 0)) (λ i. pos (entryAt bbs i)) (t .«piece_count») (λ i h. entries-at bbs i h))
 
 -- ---- material without kings
-unfoldable pub fewKings : List ℕ → ℕ → ℕ
-fewKings bbs colour = sumN 5 (λ kind. count bbs kind colour * valueOf kind)
+unfoldable pub kinglessWorth : List ℕ → ℕ → ℕ
+kinglessWorth bbs colour = sumN 5 (λ kind. count bbs kind colour * valueOf kind)
 
 -- the counts and the mobility as sums over functions of the kind
 counts-is : (bbs : List ℕ) (side : ℕ)
-    → sumZ 5 (λ kind. difference (countsOf (traceOf bbs side) kind) *ℤ pos (valueOf kind))
+    → sumZ 5 (λ kind. difference (kindCounts (traceOf bbs side) kind) *ℤ pos (valueOf kind))
     ≡ sumZ 5 (λ kind. (pos (count bbs kind 0) -ℤ pos (count bbs kind 1)) *ℤ pos (valueOf kind))
 unfolding sumZ traceOf
 counts-is bbs side = refl
 
 moves-is : (bbs : List ℕ) (side : ℕ)
-    → sumZ 6 (λ kind. (D.attacked (traceOf bbs side) kind 0 -ℤ D.attacked (traceOf bbs side) kind 1) *ℤ pos (factorOf kind))
+    → sumZ 6 (λ kind. (D.attackedIn (traceOf bbs side) kind 0 -ℤ D.attackedIn (traceOf bbs side) kind 1) *ℤ pos (factorOf kind))
     ≡ sumZ 6 (λ kind. (pos (attackedBy attacks bbs kind 0) -ℤ pos (attackedBy attacks bbs kind 1)) *ℤ pos (factorOf kind))
 unfolding sumZ traceOf attacked
 moves-is bbs side = refl
 
 -- the exact sum, part by part
 parts : (bbs : List ℕ) (side : ℕ) (counts moves : ℤ)
-    → sumZ 5 (λ kind. difference (countsOf (traceOf bbs side) kind) *ℤ pos (valueOf kind)) ≡ counts
-    → sumZ 6 (λ kind. (D.attacked (traceOf bbs side) kind 0 -ℤ D.attacked (traceOf bbs side) kind 1) *ℤ pos (factorOf kind)) ≡ moves
+    → sumZ 5 (λ kind. difference (kindCounts (traceOf bbs side) kind) *ℤ pos (valueOf kind)) ≡ counts
+    → sumZ 6 (λ kind. (D.attackedIn (traceOf bbs side) kind 0 -ℤ D.attackedIn (traceOf bbs side) kind 1) *ℤ pos (factorOf kind)) ≡ moves
     → exactBy shippedWhole (traceOf bbs side) (λ i. pos (entryAt bbs i))
     ≡ (counts +ℤ (pos (pair bbs 0) -ℤ pos (pair bbs 1)) *ℤ pos pairValue +ℤ signOf side *ℤ pos tempoValue) *ℤ pos 30 +ℤ moves *ℤ pos 3 +ℤ (thirtieths bbs 0 -ℤ thirtieths bbs 1)
 unfolding exactBy traceOf
@@ -76,13 +76,13 @@ same-diff z y m n e d = subst (λ (x : ℤ). Diff x m n) (sym e) d
 -- the exact sum as a difference; a and b are 11·side as one
 pub diff-exact : (bbs : List ℕ) (side a b : ℕ) → Diff (signOf side *ℤ pos tempoValue) a b
     → Diff (exactSum shippedWhole (traceOf bbs side) (entriesOf bbs))
-    ((fewKings bbs 0 + pair bbs 0 * pairValue + a) * 30 + mobilityBy attacks bbs 0 * 3 + (up (thirtieths bbs 0) + dn (thirtieths bbs 1)))
-    ((fewKings bbs 1 + pair bbs 1 * pairValue + b) * 30 + mobilityBy attacks bbs 1 * 3 + (dn (thirtieths bbs 0) + up (thirtieths bbs 1)))
-unfolding fewKings mobilityBy
+    ((kinglessWorth bbs 0 + pair bbs 0 * pairValue + a) * 30 + mobilityBy attacks bbs 0 * 3 + (aboveZero (thirtieths bbs 0) + belowZero (thirtieths bbs 1)))
+    ((kinglessWorth bbs 1 + pair bbs 1 * pairValue + b) * 30 + mobilityBy attacks bbs 1 * 3 + (belowZero (thirtieths bbs 0) + aboveZero (thirtieths bbs 1)))
+unfolding kinglessWorth mobilityBy
 diff-exact bbs side a b h =
     same-diff (exactSum shippedWhole (traceOf bbs side) (entriesOf bbs)) _
-    ((fewKings bbs 0 + pair bbs 0 * pairValue + a) * 30 + mobilityBy attacks bbs 0 * 3 + (up (thirtieths bbs 0) + dn (thirtieths bbs 1)))
-    ((fewKings bbs 1 + pair bbs 1 * pairValue + b) * 30 + mobilityBy attacks bbs 1 * 3 + (dn (thirtieths bbs 0) + up (thirtieths bbs 1)))
+    ((kinglessWorth bbs 0 + pair bbs 0 * pairValue + a) * 30 + mobilityBy attacks bbs 0 * 3 + (aboveZero (thirtieths bbs 0) + belowZero (thirtieths bbs 1)))
+    ((kinglessWorth bbs 1 + pair bbs 1 * pairValue + b) * 30 + mobilityBy attacks bbs 1 * 3 + (belowZero (thirtieths bbs 0) + aboveZero (thirtieths bbs 1)))
     (exact-at shippedWhole (traceOf bbs side) bbs ∙ by-parts)
     (diff-add ((counts +ℤ pairs *ℤ pos pairValue +ℤ signOf side *ℤ pos tempoValue) *ℤ pos 30 +ℤ moves *ℤ pos 3) (thirtieths bbs 0 -ℤ thirtieths bbs 1) _ _ _ _
     (diff-add ((counts +ℤ pairs *ℤ pos pairValue +ℤ signOf side *ℤ pos tempoValue) *ℤ pos 30) (moves *ℤ pos 3) _ _ _ _

@@ -7,7 +7,7 @@ use Prim.Native.Nat.{ℕ, zero, suc, _+_, _*_, _/_, _%_, _<_, _≤_}
 use native.Mathlib.Omega.{arith}
 use borrow.Author.Tests.{eqb-true, eqb-false}
 use lib.Bits.{bitXor}
-use lib.Dec.{T, eqb, leb, leb→le}
+use lib.Dec.{T, eqb, leb→le}
 use lib.IntN.{ℤ, pos, _+ℤ_, +ℤ-idl}
 use lib.ListN.{getD}
 use Rattle.laws.specs.Tests.{allBelow}

@@ -12,7 +12,7 @@ use Rattle.chess.specs.Values.{valueOf}
 use Rattle.score_taper.specs.Parts.{tempoValue}
 use Rattle.score_material.specs.Material.{pairValue}
 use Rattle.score_tally.specs.Mobility.{factorOf}
-use Rattle.trace_named.specs.Named.{attacked}
+use Rattle.trace_named.specs.Named.{attackedIn}
 use Rattle.trace_counts.specs.declared.Trace.{Trace}
 use Rattle.trace_shipped.specs.Weights.{squareWeight}
 
@@ -39,8 +39,8 @@ abbrev pub difference : List ℤ → ℤ
 difference l = getD l 0 (pos 0) -ℤ getD l 1 (pos 0)
 
 -- a trace's counts of pawn, knight, bishop, rook, queen
-abbrev pub countsOf : Trace → ℕ → List ℤ
-countsOf t kind = getD (t .pawns ∷ t .knights ∷ t .bishops ∷ t .rooks ∷ t .queens ∷ []) kind []
+abbrev pub kindCounts : Trace → ℕ → List ℤ
+kindCounts t kind = getD (t .pawns ∷ t .knights ∷ t .bishops ∷ t .rooks ∷ t .queens ∷ []) kind []
 
 -- "opening·(x−2) + ending·(32−x)", of the entry of a kind, a square and a colour
 abbrev pub term : WholeWeights → (ℕ → ℤ) → ℤ → ℕ → ℕ → ℕ → ℤ
@@ -57,8 +57,8 @@ squareSum w entries x = sumZ 6 (λ kind. sumZ 64 (λ square. term w entries x ki
 unfoldable pub exactBy : WholeWeights → Trace → (ℕ → ℤ) → ℤ
 unfolding sumZ squareSum
 exactBy w t entries =
-    (sumZ 5 (λ kind. difference (countsOf t kind) *ℤ w .value kind) +ℤ difference (t .«bishop_pair») *ℤ w .pair +ℤ t .side *ℤ w .tempo) *ℤ pos 30
-    +ℤ sumZ 6 (λ kind. (attacked t kind 0 -ℤ attacked t kind 1) *ℤ w .mobility kind) *ℤ pos 3
+    (sumZ 5 (λ kind. difference (kindCounts t kind) *ℤ w .value kind) +ℤ difference (t .«bishop_pair») *ℤ w .pair +ℤ t .side *ℤ w .tempo) *ℤ pos 30
+    +ℤ sumZ 6 (λ kind. (attackedIn t kind 0 -ℤ attackedIn t kind 1) *ℤ w .mobility kind) *ℤ pos 3
     +ℤ squareSum w entries (t .«piece_count»)
 
 -- the entries as they are lent
@@ -67,5 +67,5 @@ unfolding exactBy
 exactSum w t entries = exactBy w t (λ i. getD entries i (pos 0))
 
 -- demand 3: its sign turned if Black is to move
-abbrev pub turned : ℕ → ℤ → ℤ
-turned side z = cond (eqb side 0) z (negℤ z)
+abbrev pub turnedForBlack : ℕ → ℤ → ℤ
+turnedForBlack side z = cond (eqb side 0) z (negℤ z)

@@ -11,37 +11,37 @@ use Rattle.trace_counts.specs.declared.Weights.{Weights}
 use Rattle.trace_counts.specs.declared.Trace.{Trace}
 
 -- score += (white - black) * weight
-abbrev pub counted : Float → List ℤ → Float → Float
-counted score counts weight = score ⊕ dbl (getD counts 0 (pos 0) -ℤ getD counts 1 (pos 0)) ⊗ weight
+abbrev pub countAdded : Float → List ℤ → Float → Float
+countAdded score counts weight = score ⊕ dbl (getD counts 0 (pos 0) -ℤ getD counts 1 (pos 0)) ⊗ weight
 
 -- score += white * weight / 10, then score -= black * weight / 10
 abbrev pub moved : Float → ℤ → ℤ → Float → Float
 moved score white black weight = score ⊕ dbl white ⊗ weight ⊘ d10 ⊖ dbl black ⊗ weight ⊘ d10
 
-abbrev pub material : Trace → Weights → Float
-material t w =
-    let p : Float = counted d0 (t .pawns) (w .pawn) in
-    let n : Float = counted p (t .knights) (w .knight) in
-    let b : Float = counted n (t .bishops) (w .bishop) in
-    let r : Float = counted b (t .rooks) (w .rook) in
-    let q : Float = counted r (t .queens) (w .queen) in
-    counted q (t .«bishop_pair») (w .«bishop_pair»)
+abbrev pub materialDouble : Trace → Weights → Float
+materialDouble t w =
+    let p : Float = countAdded d0 (t .pawns) (w .pawn) in
+    let n : Float = countAdded p (t .knights) (w .knight) in
+    let b : Float = countAdded n (t .bishops) (w .bishop) in
+    let r : Float = countAdded b (t .rooks) (w .rook) in
+    let q : Float = countAdded r (t .queens) (w .queen) in
+    countAdded q (t .«bishop_pair») (w .«bishop_pair»)
 
 -- "attacked squares for each kind and colour"
-abbrev pub attacked : Trace → ℕ → ℕ → ℤ
-attacked t kind colour = getD (t .mobility) (2 * kind + colour) (pos 0)
+abbrev pub attackedIn : Trace → ℕ → ℕ → ℤ
+attackedIn t kind colour = getD (t .mobility) (2 * kind + colour) (pos 0)
 
 -- knight, bishop, rook, queen
 abbrev pub mobility : Trace → Weights → Float → Float
 mobility t w score =
-    let n : Float = moved score (attacked t 1 0) (attacked t 1 1) (w .«knight_mobility») in
-    let b : Float = moved n (attacked t 2 0) (attacked t 2 1) (w .«bishop_mobility») in
-    let r : Float = moved b (attacked t 3 0) (attacked t 3 1) (w .«rook_mobility») in
-    moved r (attacked t 4 0) (attacked t 4 1) (w .«queen_mobility»)
+    let n : Float = moved score (attackedIn t 1 0) (attackedIn t 1 1) (w .«knight_mobility») in
+    let b : Float = moved n (attackedIn t 2 0) (attackedIn t 2 1) (w .«bishop_mobility») in
+    let r : Float = moved b (attackedIn t 3 0) (attackedIn t 3 1) (w .«rook_mobility») in
+    moved r (attackedIn t 4 0) (attackedIn t 4 1) (w .«queen_mobility»)
 
 -- score += tempo * side
 abbrev pub named : Trace → Weights → Float
-named t w = mobility t w (material t w) ⊕ w .tempo ⊗ dbl (t .side)
+named t w = mobility t w (materialDouble t w) ⊕ w .tempo ⊗ dbl (t .side)
 
 abbrev pub Sums : Trace → Weights → Float → Type 0
 Sums t w r = r ≡ named t w

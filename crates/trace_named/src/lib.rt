@@ -4,7 +4,7 @@ ghost use lib.IntN.{pos};
 ghost use lib.ListN.{getD};
 ghost use Prim.Native.Nat.{_+_, _*_, _<_};
 ghost use Rattle.trace_named.specs.Named as D;
-ghost use Rattle.trace_named.specs.Named.{counted, moved, Sums};
+ghost use Rattle.trace_named.specs.Named.{countAdded, moved, Sums};
 use chess::color::BLACKS;
 use chess::color::Color;
 use chess::color::WHITES;
@@ -23,7 +23,7 @@ const QUEEN: usize = chess::kind::QUEEN as usize;
 
 // The difference of two counts, weighed. It is taken in 64 bits, where no two counts overflow.
 fn count_added(score: f64, counts: [i32; 2], weight: f64) -> f64
-    ensures { λ r. ⌜ r ≡ counted score counts weight ⌝ }
+    ensures { λ r. ⌜ r ≡ countAdded score counts weight ⌝ }
 {
     score + (counts[WHITES] as i64 - counts[BLACKS] as i64) as f64 * weight
 }
@@ -40,7 +40,7 @@ fn mobility_added(score: f64, mobility: [i32; Piece::COUNT], kind: usize, weight
 }
 
 fn material(trace: Trace, weights: Weights) -> f64
-    ensures { λ r. ⌜ r ≡ D.material trace weights ⌝ }
+    ensures { λ r. ⌜ r ≡ D.materialDouble trace weights ⌝ }
 {
     let pawns = trace.pawns;
     let knights = trace.knights;

@@ -16,8 +16,8 @@ abbrev pub Ships : Weights → Type 0
 Ships r = r ≡ shipped
 
 -- SHAPE: "not .. 768 weights"
-abbrev pub writtenOf : List Float → Answer Unit
-writtenOf squares = orRefuse (eqb (length squares) 768) R.Shape (given tt)
+abbrev pub writtenAnswer : List Float → Answer Unit
+writtenAnswer squares = orRefuse (eqb (length squares) 768) R.Shape (given tt)
 
 abbrev pub written : Written → Answer Unit
 written Done = given tt
@@ -27,4 +27,4 @@ abbrev pub squaresAfter : List Float → List Float
 squaresAfter squares = cond (eqb (length squares) 768) shippedSquares squares
 
 abbrev pub ShipsSquares : List Float → Written → List Float → Type 0
-ShipsSquares before r after = (written r ≡ writtenOf before) × (after ≡ squaresAfter before)
+ShipsSquares before r after = (written r ≡ writtenAnswer before) × (after ≡ squaresAfter before)

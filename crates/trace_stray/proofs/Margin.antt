@@ -9,7 +9,7 @@ use lib.Dec.{lit<}
 use lib.Pow.{pow-pos}
 use lib.IntN.{ℤ, pos, negsuc, negℤ, natAbs, _-ℤ_, _*ℤ_}
 use lib.Ieee.{Float, nan, inf, fin}
-use Rattle.laws.proofs.Diff.{Diff, up, dn, diff-of, diff-pos, diff-neg, diff-minus, diff-scale, diff-swap}
+use Rattle.laws.proofs.Diff.{Diff, aboveZero, belowZero, diff-of, diff-pos, diff-neg, diff-minus, diff-scale, diff-swap}
 use Rattle.trace_rounding.proofs.Near.{Off}
 use Rattle.trace_rounding.proofs.Doubles.{Nearly, unit, rounding}
 use Rattle.trace_stray.specs.Stray.{signed, million, CloserThan, millionth}
@@ -38,23 +38,23 @@ spread a v U D p e =
     ∙ sym (add-mul (v * 30) (p * D) U)
 
 -- a whole number v with a sign, less z times D
-taken : (s : Bool) (v D : ℕ) (z : ℤ) → Diff (signed s v *ℤ pos 30 -ℤ z *ℤ pos D) (cond s 0 (v * 30) + dn z * D) (cond s (v * 30) 0 + up z * D)
+taken : (s : Bool) (v D : ℕ) (z : ℤ) → Diff (signed s v *ℤ pos 30 -ℤ z *ℤ pos D) (cond s 0 (v * 30) + belowZero z * D) (cond s (v * 30) 0 + aboveZero z * D)
 taken false v D z =
-    diff-minus (pos v *ℤ pos 30) (z *ℤ pos D) (v * 30) 0 (up z * D) (dn z * D) (diff-pos (v * 30)) (diff-scale z D (up z) (dn z) (diff-of z))
+    diff-minus (pos v *ℤ pos 30) (z *ℤ pos D) (v * 30) 0 (aboveZero z * D) (belowZero z * D) (diff-pos (v * 30)) (diff-scale z D (aboveZero z) (belowZero z) (diff-of z))
 taken true v D z =
-    diff-minus (negℤ (pos v) *ℤ pos 30) (z *ℤ pos D) 0 (v * 30) (up z * D) (dn z * D)
-    (diff-scale (negℤ (pos v)) 30 0 v (diff-neg (pos v) v 0 (diff-pos v))) (diff-scale z D (up z) (dn z) (diff-of z))
+    diff-minus (negℤ (pos v) *ℤ pos 30) (z *ℤ pos D) 0 (v * 30) (aboveZero z * D) (belowZero z * D)
+    (diff-scale (negℤ (pos v)) 30 0 v (diff-neg (pos v) v 0 (diff-pos v))) (diff-scale z D (aboveZero z) (belowZero z) (diff-of z))
 
-apart : (s : Bool) (a v U D E : ℕ) (z w : ℤ) → v * U ≡ a * D → 0 < D → E * million < millionth * U → Off s (30 * a) (up z * U) (dn z * U) E
-    → Diff w (cond s 0 (v * 30) + dn z * D) (cond s (v * 30) 0 + up z * D) → natAbs w * million < millionth * D
-apart false a v U D E z w e P l o d = distance w (v * 30 + dn z * D) (0 + up z * D) U D E d P (under (up z) (dn z) (o .0)) (over (up z) (dn z) (o .1)) l
+apart : (s : Bool) (a v U D E : ℕ) (z w : ℤ) → v * U ≡ a * D → 0 < D → E * million < millionth * U → Off s (30 * a) (aboveZero z * U) (belowZero z * U) E
+    → Diff w (cond s 0 (v * 30) + belowZero z * D) (cond s (v * 30) 0 + aboveZero z * D) → natAbs w * million < millionth * D
+apart false a v U D E z w e P l o d = distance w (v * 30 + belowZero z * D) (0 + aboveZero z * D) U D E d P (under (aboveZero z) (belowZero z) (o .0)) (over (aboveZero z) (belowZero z) (o .1)) l
   where
     under : (p n : ℕ) → 30 * a + n * U ≤ p * U + E → (v * 30 + n * D) * U ≤ (0 + p * D) * U + E * D
     under p n h = omega (arith, mul-le-mul-right D h, spread a v U D n e, add-mul (p * U) E D, add-mul 0 (p * D) U, mul-right-comm p U D)
 
     over : (p n : ℕ) → p * U ≤ 30 * a + n * U + E → (0 + p * D) * U ≤ (v * 30 + n * D) * U + E * D
     over p n h = omega (arith, mul-le-mul-right D h, spread a v U D n e, add-mul (30 * a + n * U) E D, add-mul 0 (p * D) U, mul-right-comm p U D)
-apart true a v U D E z w e P l o d = distance w (0 + dn z * D) (v * 30 + up z * D) U D E d P (under (up z) (dn z) (o .0)) (over (up z) (dn z) (o .1)) l
+apart true a v U D E z w e P l o d = distance w (0 + belowZero z * D) (v * 30 + aboveZero z * D) U D E d P (under (aboveZero z) (belowZero z) (o .0)) (over (aboveZero z) (belowZero z) (o .1)) l
   where
     under : (p n : ℕ) → n * U ≤ p * U + 30 * a + E → (0 + n * D) * U ≤ (v * 30 + p * D) * U + E * D
     under p n h = omega (arith, mul-le-mul-right D h, spread a v U D p e, add-mul (p * U + 30 * a) E D, add-mul (p * U) (30 * a) D, add-mul (30 * a) (p * U) D, add-mul 0 (n * D) U, mul-right-comm n U D)
@@ -65,14 +65,14 @@ apart true a v U D E z w e P l o d = distance w (0 + dn z * D) (v * 30 + up z * 
 few : (k K h U : ℕ) → k ≤ K → K * h * million < millionth * U → k * h * million < millionth * U
 few k K h U l m = lt-of-le-of-lt (mul-le-mul-right million (mul-le-mul-right h l)) m
 
-once : (z : ℤ) → Diff z (up z * 1) (dn z * 1)
-once z = diff-swap z (up z) (dn z) (up z * 1) (dn z * 1) (diff-of z) (omega (arith, mul-one (up z), mul-one (dn z)))
+once : (z : ℤ) → Diff z (aboveZero z * 1) (belowZero z * 1)
+once z = diff-swap z (aboveZero z) (belowZero z) (aboveZero z * 1) (belowZero z * 1) (diff-of z) (omega (arith, mul-one (aboveZero z), mul-one (belowZero z)))
 
 -- the same for a power of two that is a whole number
-taken-up : (s : Bool) (m u : ℕ) (z : ℤ) → Diff (signed s m *ℤ pos u *ℤ pos 30 -ℤ z) (cond s 0 (m * u * 30) + dn z * 1) (cond s (m * u * 30) 0 + up z * 1)
-taken-up false m u z = diff-minus (pos m *ℤ pos u *ℤ pos 30) z (m * u * 30) 0 (up z * 1) (dn z * 1) (diff-pos (m * u * 30)) (once z)
+taken-up : (s : Bool) (m u : ℕ) (z : ℤ) → Diff (signed s m *ℤ pos u *ℤ pos 30 -ℤ z) (cond s 0 (m * u * 30) + belowZero z * 1) (cond s (m * u * 30) 0 + aboveZero z * 1)
+taken-up false m u z = diff-minus (pos m *ℤ pos u *ℤ pos 30) z (m * u * 30) 0 (aboveZero z * 1) (belowZero z * 1) (diff-pos (m * u * 30)) (once z)
 taken-up true m u z =
-    diff-minus (negℤ (pos m) *ℤ pos u *ℤ pos 30) z 0 (m * u * 30) (up z * 1) (dn z * 1)
+    diff-minus (negℤ (pos m) *ℤ pos u *ℤ pos 30) z 0 (m * u * 30) (aboveZero z * 1) (belowZero z * 1)
     (subst (λ (i : ℕ). Diff (negℤ (pos m) *ℤ pos u *ℤ pos 30) i (m * u * 30)) (ap (λ (i : ℕ). i * 30) (zero-mul u))
     (diff-scale (negℤ (pos m) *ℤ pos u) 30 (0 * u) (m * u) (diff-scale (negℤ (pos m)) u 0 m (diff-neg (pos m) m 0 (diff-pos m)))))
     (once z)

@@ -12,14 +12,14 @@ use lib.ListN.{getD}
 use lib.Ieee.{Float, ofBits}
 use lib.Ieee.Exact.{HasValue}
 use Rattle.laws.specs.Sums.{sumZ}
-use Rattle.laws.proofs.Diff.{Diff, up, dn, diff-of, diff-pos, diff-add, diff-minus, diff-scale, diff-eq, abs-minus}
+use Rattle.laws.proofs.Diff.{Diff, aboveZero, belowZero, diff-of, diff-pos, diff-add, diff-minus, diff-scale, diff-eq, abs-minus}
 use Rattle.chess.specs.Values.{valueOf}
 use Rattle.score_tally.specs.Mobility.{factorOf}
 use Rattle.trace_counts.specs.declared.Trace.{Trace}
 use Rattle.doubles.specs.Doubles.{dbl, d0, d10}
-use Rattle.trace_named.specs.Named.{counted, moved, attacked, named}
+use Rattle.trace_named.specs.Named.{countAdded, moved, attackedIn, named}
 use Rattle.trace_shipped.specs.Weights.{shipped}
-use Rattle.trace_exact.specs.Exact.{difference, countsOf}
+use Rattle.trace_exact.specs.Exact.{difference, kindCounts}
 use Rattle.trace_rounding.proofs.Doubles.{Exactly, exactly-int, exactly-add, exactly-mul, Nearly, nearly-whole, nearly-add, nearly-sub, nearly-tenth}
 use Rattle.trace_stray.proofs.Ranged.{Ranged}
 
@@ -33,7 +33,7 @@ ten = (refl, refl)
 
 -- a count that is at most m, weighed by v
 pub counts : {s : Float} {z : ℤ} {b : ℕ} (l : List ℤ) (m v : ℕ) → Exactly s z b → ((i : ℕ) → natAbs (getD l i (pos 0)) ≤ m) → m + m ≤ 2 ^ 10 → v ≤ 2 ^ 10 → b ≤ 2 ^ 30
-    → Exactly (counted s l (dbl (pos v))) (z +ℤ difference l *ℤ pos v) (b + (m + m) * v)
+    → Exactly (countAdded s l (dbl (pos v))) (z +ℤ difference l *ℤ pos v) (b + (m + m) * v)
 counts {s} {z} {b} l m v p h i j k =
     let w : (m + m) * v ≤ 2 ^ 10 * 2 ^ 10 = mul-le-mul i j in
     exactly-add p
@@ -60,24 +60,24 @@ with z white black v = z +ℤ white *ℤ pos v *ℤ pos 3 -ℤ black *ℤ pos v 
 
 abbrev inOrder : Trace → ℤ
 inOrder t =
-    with (with (with (with (materialSum t *ℤ pos 30) (attacked t 1 0) (attacked t 1 1) 24) (attacked t 2 0) (attacked t 2 1) 47) (attacked t 3 0) (attacked t 3 1) 39)
-    (attacked t 4 0) (attacked t 4 1) 21
+    with (with (with (with (materialSum t *ℤ pos 30) (attackedIn t 1 0) (attackedIn t 1 1) 24) (attackedIn t 2 0) (attackedIn t 2 1) 47) (attackedIn t 3 0) (attackedIn t 3 1) 39)
+    (attackedIn t 4 0) (attackedIn t 4 1) 21
     +ℤ pos 11 *ℤ t .side *ℤ pos 30
 
 unfoldable pub namedSum : Trace → ℤ
 unfolding sumZ
 namedSum t =
-    (sumZ 5 (λ kind. difference (countsOf t kind) *ℤ pos (valueOf kind)) +ℤ difference (t .«bishop_pair») *ℤ pos 33 +ℤ t .side *ℤ pos 11) *ℤ pos 30
-    +ℤ sumZ 6 (λ kind. (attacked t kind 0 -ℤ attacked t kind 1) *ℤ pos (factorOf kind)) *ℤ pos 3
+    (sumZ 5 (λ kind. difference (kindCounts t kind) *ℤ pos (valueOf kind)) +ℤ difference (t .«bishop_pair») *ℤ pos 33 +ℤ t .side *ℤ pos 11) *ℤ pos 30
+    +ℤ sumZ 6 (λ kind. (attackedIn t kind 0 -ℤ attackedIn t kind 1) *ℤ pos (factorOf kind)) *ℤ pos 3
 
 -- z is p − n; a tenth of mobility more
-diff-with : (z white black : ℤ) (v p n : ℕ) → Diff z p n → Diff (with z white black v) (p + up white * v * 3 + dn black * v * 3) (n + dn white * v * 3 + up black * v * 3)
+diff-with : (z white black : ℤ) (v p n : ℕ) → Diff z p n → Diff (with z white black v) (p + aboveZero white * v * 3 + belowZero black * v * 3) (n + belowZero white * v * 3 + aboveZero black * v * 3)
 diff-with z white black v p n d =
     diff-minus (z +ℤ white *ℤ pos v *ℤ pos 3) (black *ℤ pos v *ℤ pos 3) _ _ _ _
     (diff-add z (white *ℤ pos v *ℤ pos 3) p n _ _ d (diff-scale (white *ℤ pos v) 3 _ _ (diff-scale white v _ _ (diff-of white))))
     (diff-scale (black *ℤ pos v) 3 _ _ (diff-scale black v _ _ (diff-of black)))
 
-diff-weighed : (white black : ℤ) (v : ℕ) → Diff ((white -ℤ black) *ℤ pos v) ((up white + dn black) * v) ((dn white + up black) * v)
+diff-weighed : (white black : ℤ) (v : ℕ) → Diff ((white -ℤ black) *ℤ pos v) ((aboveZero white + belowZero black) * v) ((belowZero white + aboveZero black) * v)
 diff-weighed white black v = diff-scale (white -ℤ black) v _ _ (diff-minus white black _ _ _ _ (diff-of white) (diff-of black))
 
 regrouped : (m s a b c d e f g h i j k l : ℤ)
@@ -94,7 +94,7 @@ regrouped m s a b c d e f g h i j k l =
     (diff-with (with (with (m *ℤ pos 30) c d 24) e f 47) g h 39 _ _
     (diff-with (with (m *ℤ pos 30) c d 24) e f 47 _ _
     (diff-with (m *ℤ pos 30) c d 24 _ _ (diff-scale m 30 _ _ (diff-of m))))))
-    (diff-scale (pos 11 *ℤ s) 30 (up s * 11) (dn s * 11) (subst (λ (z : ℤ). Diff z (up s * 11) (dn s * 11)) (*ℤ-comm s (pos 11)) (diff-scale s 11 _ _ (diff-of s)))))
+    (diff-scale (pos 11 *ℤ s) 30 (aboveZero s * 11) (belowZero s * 11) (subst (λ (z : ℤ). Diff z (aboveZero s * 11) (belowZero s * 11)) (*ℤ-comm s (pos 11)) (diff-scale s 11 _ _ (diff-of s)))))
     (diff-add ((m +ℤ s *ℤ pos 11) *ℤ pos 30)
     ((pos 0 +ℤ (a -ℤ b) *ℤ pos 0 +ℤ (c -ℤ d) *ℤ pos 24 +ℤ (e -ℤ f) *ℤ pos 47 +ℤ (g -ℤ h) *ℤ pos 39 +ℤ (i -ℤ j) *ℤ pos 21 +ℤ (k -ℤ l) *ℤ pos 0) *ℤ pos 3) _ _ _ _
     (diff-scale (m +ℤ s *ℤ pos 11) 30 _ _ (diff-add m (s *ℤ pos 11) _ _ _ _ (diff-of m) (diff-scale s 11 _ _ (diff-of s))))
@@ -115,8 +115,8 @@ regrouped m s a b c d e f g h i j k l =
 in-order : (t : Trace) → inOrder t ≡ namedSum t
 unfolding namedSum sumZ
 in-order t =
-    regrouped (materialSum t) (t .side) (attacked t 0 0) (attacked t 0 1) (attacked t 1 0) (attacked t 1 1) (attacked t 2 0) (attacked t 2 1) (attacked t 3 0) (attacked t 3 1)
-    (attacked t 4 0) (attacked t 4 1) (attacked t 5 0) (attacked t 5 1)
+    regrouped (materialSum t) (t .side) (attackedIn t 0 0) (attackedIn t 0 1) (attackedIn t 1 0) (attackedIn t 1 1) (attackedIn t 2 0) (attackedIn t 2 1) (attackedIn t 3 0) (attackedIn t 3 1)
+    (attackedIn t 4 0) (attackedIn t 4 1) (attackedIn t 5 0) (attackedIn t 5 1)
 
 -- 30·281154 + 6·1728·(24 + 47 + 39 + 21) + 330 thirtieths at most
 pub named-nearly : (t : Trace) → Ranged t → Nearly (named t shipped) (namedSum t) 17 9793158
@@ -124,10 +124,10 @@ unfolding shipped
 named-nearly t r =
     subst (λ (z : ℤ). Nearly (named t shipped) z 17 9793158) (in-order t)
     (nearly-add
-    (moves (attacked t 4 0) (attacked t 4 1) 21
-    (moves (attacked t 3 0) (attacked t 3 1) 39
-    (moves (attacked t 2 0) (attacked t 2 1) 47
-    (moves (attacked t 1 0) (attacked t 1 1) 24
+    (moves (attackedIn t 4 0) (attackedIn t 4 1) 21
+    (moves (attackedIn t 3 0) (attackedIn t 3 1) 39
+    (moves (attackedIn t 2 0) (attackedIn t 2 1) 47
+    (moves (attackedIn t 1 0) (attackedIn t 1 1) 24
     (nearly-whole
     (counts (t .«bishop_pair») 1 33
     (counts (t .queens) 64 1013

@@ -17,7 +17,7 @@ use Rattle.score_pst.proofs.Table.{small}
 use Rattle.places.specs.Places.{weightPlace, kindAt, squareAt, colourAt}
 use Rattle.doubles.specs.Doubles.{_⊕_, _⊖_, _⊗_, dbl, d2, d32}
 use Rattle.trace_shipped.specs.Weights.{squareWeight, shippedSquares}
-use Rattle.trace_double.specs.Double.{weightAt, between, added}
+use Rattle.trace_double.specs.Double.{weightAt, between, entryAdded}
 use Rattle.trace_rounding.proofs.Doubles.{Exactly, exactly-int, exactly-add, exactly-sub, exactly-mul, Nearly, nearly-add, nearly-sub, nearly-minus-thirtieth, nearly-once}
 
 -- ---- the literals
@@ -86,8 +86,8 @@ term-nearly x z k h r =
 
 -- ONE ENTRY MORE; an entry of 0 leaves the sum
 pub step : {s : Float} {w : ℤ} (x : Float) (z : ℤ) (g k n : ℕ) → Exactly x z 64 → k < 768 → n ≤ 1 → g + n ≤ 768 → Sum s w g
-    → Sum (added shippedSquares x s k (pos n)) (w +ℤ placed z k (pos n)) (g + n)
-unfolding added placed
+    → Sum (entryAdded shippedSquares x s k (pos n)) (w +ℤ placed z k (pos n)) (g + n)
+unfolding entryAdded placed
 step {s} {w} x z g k zero r h l m p = record {
   nearly = same (sym (ap (λ (i : ℤ). w +ℤ i) (nothing (eqb (colourAt k) 0) (weightOf z k)) ∙ +ℤ-idr w)) (omega arith) (omega arith) (p .nearly);
 }

@@ -28,7 +28,7 @@ use Rattle.trace_double.specs.Promises.{doubleOf}
 use Rattle.trace_exact.specs.Exact.{shippedWhole, exactSum}
 use Rattle.trace_exact.proofs.Ranges.{in-ranges, are-entries}
 use Rattle.trace_rounding.proofs.Doubles.{exactly-int}
-use Rattle.trace_stray.specs.Stray.{CloserThan, millionth, fitted, exact, EveryTrace, Stray}
+use Rattle.trace_stray.specs.Stray.{CloserThan, millionth, shippedDouble, exact, EveryTrace, Stray}
 use Rattle.trace_stray.proofs.Margin.{margin}
 use Rattle.trace_stray.proofs.Ranged.{Ranged, ranged, Entered, entered}
 use Rattle.trace_stray.proofs.Named.{named-nearly}
@@ -72,16 +72,16 @@ unfolding shippedSquares
 squares-length = tabulate-length 768 (λ i. dbl (squareWeight i))
 
 -- what `Trace::eval` answers
-is-given : (bbs : List ℕ) (side : ℕ) → doubleOf (traceOf bbs side) (entriesOf bbs) shipped shippedSquares ≡ given (fitted bbs side)
+is-given : (bbs : List ℕ) (side : ℕ) → doubleOf (traceOf bbs side) (entriesOf bbs) shipped shippedSquares ≡ given (shippedDouble bbs side)
 is-given bbs side =
-    answered (eqb (length (entriesOf bbs)) 768) (eqb (length shippedSquares) 768) (inRanges (traceOf bbs side)) (areEntries (entriesOf bbs)) R.Shape R.Trace (fitted bbs side)
+    answered (eqb (length (entriesOf bbs)) 768) (eqb (length shippedSquares) 768) (inRanges (traceOf bbs side)) (areEntries (entriesOf bbs)) R.Shape R.Trace (shippedDouble bbs side)
     (ap (λ (n : ℕ). eqb n 768) (entries-length bbs)) (ap (λ (n : ℕ). eqb n 768) squares-length) (in-ranges bbs side) (are-entries bbs)
   where
     answered : (a b c d : Bool) (m n : Refusal) (x : Float) → a ≡ true → b ≡ true → c ≡ true → d ≡ true → orRefuse (a && b) m (orRefuse (c && d) n (given x)) ≡ given x
     answered a b c d m n x p q r s = rw (p, q, r, s)
 
-pub is-near : (bbs : List ℕ) (side : ℕ) → CloserThan millionth (fitted bbs side) (exact bbs side)
-is-near bbs side = every-trace (traceOf bbs side) (entriesOf bbs) (fitted bbs side) (is-given bbs side)
+pub is-near : (bbs : List ℕ) (side : ℕ) → CloserThan millionth (shippedDouble bbs side) (exact bbs side)
+is-near bbs side = every-trace (traceOf bbs side) (entriesOf bbs) (shippedDouble bbs side) (is-given bbs side)
 
 pub stray : Stray
 stray bbs bytes side e = (is-given bbs side, is-near bbs side)

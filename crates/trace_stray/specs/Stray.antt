@@ -16,7 +16,7 @@ use Rattle.trace.specs.Trace.{traceOf, entriesOf}
 use Rattle.trace_shipped.specs.Weights.{shipped, shippedSquares}
 use Rattle.trace_double.specs.Double.{double}
 use Rattle.trace_double.specs.Promises.{doubleOf}
-use Rattle.trace_exact.specs.Exact.{shippedWhole, exactSum, turned}
+use Rattle.trace_exact.specs.Exact.{shippedWhole, exactSum, turnedForBlack}
 
 -- "taking the double as a whole number times a power of two": `fin negative m e` is m·2^e or −m·2^e
 abbrev pub signed : Bool → ℕ → ℤ
@@ -42,8 +42,8 @@ abbrev pub agreed : ℕ
 agreed = 85 * million + millionth
 
 -- the double and the exact sum of a position's trace, with the shipped weights
-abbrev pub fitted : List ℕ → ℕ → Float
-fitted bbs side = double (traceOf bbs side) (entriesOf bbs) shipped shippedSquares
+abbrev pub shippedDouble : List ℕ → ℕ → Float
+shippedDouble bbs side = double (traceOf bbs side) (entriesOf bbs) shipped shippedSquares
 
 abbrev pub exact : List ℕ → ℕ → ℤ
 exact bbs side = exactSum shippedWhole (traceOf bbs side) (entriesOf bbs)
@@ -53,7 +53,7 @@ exact bbs side = exactSum shippedWhole (traceOf bbs side) (entriesOf bbs)
 abbrev pub Stray : Type 0
 Stray =
     (bbs bytes : List ℕ) (side : ℕ) → consistent bbs bytes ≡ true
-    → (doubleOf (traceOf bbs side) (entriesOf bbs) shipped shippedSquares ≡ given (fitted bbs side)) × CloserThan millionth (fitted bbs side) (exact bbs side)
+    → (doubleOf (traceOf bbs side) (entriesOf bbs) shipped shippedSquares ≡ given (shippedDouble bbs side)) × CloserThan millionth (shippedDouble bbs side) (exact bbs side)
 
 -- the same for every trace that `Trace::eval` does not refuse, a position's or not
 abbrev pub EveryTrace : Type 0
@@ -64,7 +64,7 @@ EveryTrace =
 abbrev pub ShownCloserThan : ℕ → Type 0
 ShownCloserThan most =
     (bbs bytes : List ℕ) (state : State) (s : ℤ) → count bbs 5 0 ≡ count bbs 5 1 → evalOf bbs bytes state ≡ given (score s)
-    → CloserThan most (fitted bbs (state .side)) (turned (state .side) s *ℤ pos 30)
+    → CloserThan most (shippedDouble bbs (state .side)) (turnedForBlack (state .side) s *ℤ pos 30)
 
 -- "the bound that this and demand 3 give on the shown score": less than 85/30 and a millionth
 abbrev pub Shown : Type 0

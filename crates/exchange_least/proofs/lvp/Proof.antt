@@ -1,12 +1,12 @@
 -- `exchange_least::lvp` meets its contract. Assumes nothing.
-use mathlib.Core.Path.{_≡_, sym, ap, _∙_}
+use mathlib.Core.Path.{sym, ap, _∙_}
 use native.Mathlib.Omega.{arith}
 use Rattle.refusal.specs.Answer.{given}
 use Rattle.position.specs.Checked.{checked}
 use Rattle.position.proofs.Doors.{pass-on, fit-rest}
 use Rattle.attack.proofs.Doors.{no-colour, a-colour}
 use Rattle.exchange_least.specs.Least.{leastOf, order}
-use Rattle.exchange_least.specs.Answers.{squareOf, told}
+use Rattle.exchange_least.specs.Answers.{squareOf, paperAttacker}
 use borrow.Author.Needs.{needs}
 use Rattle.exchange_least.proofs.lvp.Statement.{statement}
 use Rattle.exchange_least.proofs.lvp.Tie as tie
@@ -52,7 +52,7 @@ returns-3 c =
     let k = e .before .before in
     let a = k .before .before .before .before .args in
     let rest = given (squareOf (leastOf order (a .bitboards .now) (a .color) (a .attacks) (a .occupied))) in
-    ap (λ x. given (squareOf x)) (sym (ap told (c .enum-told2 .given .1)) ∙ p .pick .ensures)
+    ap (λ x. given (squareOf x)) (sym (ap paperAttacker (c .enum-told2 .given .1)) ∙ p .pick .ensures)
     ∙ fit-rest (a .bitboards .now) (a .board .now) (a .state) (k .check .result) (k .check .ensures) rest (e .enum-told .given .1)
     ∙ a-colour (a .color) (checked (a .bitboards .now) (a .board .now) (a .state) rest) (omega arith)
 
@@ -63,7 +63,7 @@ returns-4 c =
     let k = e .before .before in
     let a = k .before .before .before .before .args in
     let rest = given (squareOf (leastOf order (a .bitboards .now) (a .color) (a .attacks) (a .occupied))) in
-    ap (λ x. given (squareOf x)) (sym (ap told (c .before .square .given .1)) ∙ p .pick .ensures)
+    ap (λ x. given (squareOf x)) (sym (ap paperAttacker (c .before .square .given .1)) ∙ p .pick .ensures)
     ∙ fit-rest (a .bitboards .now) (a .board .now) (a .state) (k .check .result) (k .check .ensures) rest (e .enum-told .given .1)
     ∙ a-colour (a .color) (checked (a .bitboards .now) (a .board .now) (a .state) rest) (omega arith)
 

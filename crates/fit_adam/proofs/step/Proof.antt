@@ -1,7 +1,7 @@
 -- `fit_adam::step` meets its contract. Assumes nothing.
-use mathlib.Core.Path.{_≡_, refl, sym, _∙_}
+use mathlib.Core.Path.{sym, _∙_}
 use borrow.Author.Tests.{not-true, not-false}
-use Rattle.fit_adam.specs.Promises.{fit}
+use Rattle.fit_adam.specs.Promises.{fitFrom}
 use Rattle.fit_adam.proofs.Doors.{refused-shape, refused-iteration, by-powers, within, outside}
 use borrow.Author.Needs.{needs}
 use Rattle.fit_adam.proofs.step.Statement.{statement}
@@ -22,7 +22,7 @@ same-length-3 c = search needs
 returns : tie.Need-returns
 returns c =
     let s = c .before .before .before .before .before .before .before .before .before .args in
-    refused-shape (s .gradient .now) (fit (s .m .now) (s .v .now) (s .weights .now)) (s .rate) (s .iteration) (sym (c .before .is-shaped .ensures) ∙ not-true _ (c .if1 .taken))
+    refused-shape (s .gradient .now) (fitFrom (s .m .now) (s .v .now) (s .weights .now)) (s .rate) (s .iteration) (sym (c .before .is-shaped .ensures) ∙ not-true _ (c .if1 .taken))
 
 same-length-4 : tie.Need-same-length-4
 same-length-4 c = search needs
@@ -36,7 +36,7 @@ same-length-6 c = search needs
 returns-2 : tie.Need-returns-2
 returns-2 c =
     let s = c .before .before .before .before .before .before .before .before .before .before .args in
-    refused-iteration (s .gradient .now) (fit (s .m .now) (s .v .now) (s .weights .now)) (s .rate) (s .iteration)
+    refused-iteration (s .gradient .now) (fitFrom (s .m .now) (s .v .now) (s .weights .now)) (s .rate) (s .iteration)
     (sym (c .before .before .is-shaped .ensures) ∙ not-false _ (c .before .if1 .left)) (outside (s .iteration) (c .if2 .taken))
 
 powers-of-requires : tie.Need-powers-of-requires
@@ -60,7 +60,7 @@ returns-3 c =
     let p = m .before in
     let e = p .before .before .before .before in
     let s = e .before .before .before .before .before .before .before .before .before .before .args in
-    by-powers (s .gradient .now) (fit (s .m .now) (s .v .now) (s .weights .now)) (s .rate) (s .iteration) (p .powers-of .result) _ _
+    by-powers (s .gradient .now) (fitFrom (s .m .now) (s .v .now) (s .weights .now)) (s .rate) (s .iteration) (p .powers-of .result) _ _
     (within (s .iteration) (e .if2 .left)) (p .powers-of .ensures) (m .moved .ensures)
 
 pub step-spec : {M : Type 1} → statement M

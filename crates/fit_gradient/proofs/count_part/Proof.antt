@@ -1,9 +1,9 @@
 -- `fit_gradient::count_part` meets its contract. Assumes nothing.
-use mathlib.Core.Path.{_≡_, ap}
+use mathlib.Core.Path.{ap}
 use borrow.Author.Needs.{needs}
 use lib.IntN.{ℤ, pos}
 use lib.ListN.{getD}
-use lib.Ieee.{Float, binary64, mul, ofInt}
+use lib.Ieee.{binary64, mul, ofInt}
 use Rattle.trace_named.proofs.Differences.{wide, less-fits, less-exact, less}
 use Rattle.fit_gradient.proofs.count_part.Statement.{statement}
 use Rattle.fit_gradient.proofs.count_part.Tie as tie

@@ -1,5 +1,4 @@
 -- `fit_gradient::mark` meets its contract. Assumes nothing.
-use mathlib.Core.Path.{_≡_}
 use Rattle.fit_gradient.proofs.Marks.{passed, white, black}
 use borrow.Author.Needs.{needs}
 use Rattle.fit_gradient.proofs.mark.Statement.{statement}

@@ -1,6 +1,6 @@
 -- `fit_gradient::mobility_part` meets its contract. Assumes nothing.
-use mathlib.Core.Path.{_≡_, ap}
-use Prim.Native.Nat.{ℕ, _+_, _*_}
+use mathlib.Core.Path.{ap}
+use Prim.Native.Nat.{_+_, _*_}
 use lib.IntN.{ℤ, pos}
 use lib.ListN.{getD}
 use Rattle.doubles.specs.Doubles.{_⊗_, _⊘_, dbl, d10}

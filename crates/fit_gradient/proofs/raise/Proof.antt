@@ -1,6 +1,4 @@
 -- `fit_gradient::raise` meets its contract. Assumes nothing.
-use mathlib.Core.Path.{_≡_}
-use Prim.Native.Nat.{ℕ, _+_, _*_, _/_, _%_}
 use native.Mathlib.Omega.{arith}
 use lib.ListN.{length-set}
 use Rattle.fit_gradient.proofs.Marks.{at-places, as-long}

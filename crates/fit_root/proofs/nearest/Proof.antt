@@ -1,5 +1,5 @@
 -- `fit_root::nearest` meets its contract: what is settled is the nearest, whatever was guessed; else the root is worked out. Assumes nothing.
-use mathlib.Core.Path.{_≡_, ap, _∙_}
+use mathlib.Core.Path.{ap}
 use Prim.Native.Nat.{ℕ, _+_, _-_, _*_, _/_, _^_, _<_}
 use borrow.Author.Needs.{needs}
 use native.Mathlib.Omega.{arith}

@@ -1,9 +1,7 @@
 -- `fit_root::scale` meets its contract: the number doubled, its exponent less by one. Assumes nothing.
-use borrow.Author.Needs.{needs}
-use mathlib.Core.Path.{_≡_, refl, sym, ap, _∙_, subst}
-use mathlib.Core.Logic.{inl, inr}
-use Prim.Native.Nat.{ℕ, zero, suc, _+_, _-_, _*_, _/_, _%_, _^_, _≤_, _<_}
-use native.Mathlib.Nat.{le-trans, lt-of-lt-of-le, lt-of-not-le, mul-le-mul-left, pow-suc, mul-assoc, mul-comm, mul-left-comm}
+use mathlib.Core.Path.{_≡_, refl, _∙_}
+use Prim.Native.Nat.{ℕ, zero, suc, _-_, _*_, _^_, _≤_, _<_}
+use native.Mathlib.Nat.{lt-of-not-le, mul-le-mul-left, pow-suc, mul-assoc, mul-comm}
 use native.Mathlib.Omega.{arith}
 use lib.Pow.{pow-mono}
 use Rattle.fit_root.proofs.scale.Statement.{statement}

@@ -1,6 +1,6 @@
 -- `fit_root::settled` meets its contract: what is left of m·2^52 tells whether n, or a neighbour, is the nearest. Assumes nothing.
 use mathlib.Core.Path.{_≡_}
-use Prim.Native.Nat.{ℕ, _+_, _-_, _*_, _/_, _%_, _^_, _≤_, _<_}
+use Prim.Native.Nat.{_+_, _-_, _*_, _/_, _%_, _^_}
 use borrow.Author.Needs.{needs}
 use native.Mathlib.Omega.{arith}
 use Rattle.fit_root.proofs.Whole.{products, taken-off, near, near-above, near-below}

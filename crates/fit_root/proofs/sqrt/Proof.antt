@@ -1,8 +1,8 @@
 -- `fit_root::sqrt` meets its contract, case by case. Assumes nothing.
-use mathlib.Core.Path.{_≡_, refl, sym, ap, _∙_, subst}
-use Prim.Native.Nat.{ℕ, suc, _+_, _*_, _/_, _%_, _-_, _^_, _<_, _≤_}
+use mathlib.Core.Path.{_≡_, refl, sym, subst}
+use Prim.Native.Nat.{ℕ, suc, _/_, _-_, _^_}
 use native.Mathlib.Omega.{arith}
-use lib.Ieee.{toBits, binary64, fits}
+use lib.Ieee.{binary64, fits}
 use lib.Dec.{T}
 use Rattle.fit_root.proofs.Fields.{Above, above, at-nan, at-zero, at-negative, no-nan-here, endless-root, field-below, root-small, root-large, digits-above}
 use borrow.Author.Needs.{needs}

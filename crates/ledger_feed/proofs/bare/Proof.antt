@@ -1,5 +1,4 @@
 -- `ledger_feed::bare` meets its contract. Assumes nothing.
-use native.Mathlib.Omega.{arith}
 use borrow.Author.Needs.{needs}
 use Rattle.ledger_feed.proofs.bare.Statement.{statement}
 use Rattle.ledger_feed.proofs.bare.Tie as tie

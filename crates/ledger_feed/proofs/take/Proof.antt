@@ -1,5 +1,5 @@
 -- `ledger_feed::take` meets its contract: the loop's invariant is `Turn`. Assumes nothing.
-use mathlib.Core.Path.{_≡_, sym, _∙_}
+use mathlib.Core.Path.{sym, _∙_}
 use mathlib.Core.List.{[]}
 use Prim.Native.Nat.{_+_, _-_}
 use native.Mathlib.Omega.{arith}

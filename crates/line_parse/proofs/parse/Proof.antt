@@ -1,5 +1,5 @@
 -- `line_parse::parse` meets its contract. Assumes nothing.
-use mathlib.Core.Path.{_≡_, sym, subst₂, _∙_}
+use mathlib.Core.Path.{sym, subst₂, _∙_}
 use mathlib.Core.List.{List}
 use Prim.Native.Nat.{ℕ, _≤_, _<_}
 use native.Mathlib.Omega.{arith}

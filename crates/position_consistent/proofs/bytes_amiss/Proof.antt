@@ -8,7 +8,7 @@ use native.Mathlib.Omega.{arith}
 use lib.Dec.{eqb}
 use borrow.Author.Needs.{needs}
 use Rattle.laws.specs.Tests.{allBelow}
-use Rattle.position_consistent.specs.Tested.{fileCodes, fileRight}
+use Rattle.position_consistent.specs.PrivateTested.{fileCodes, fileRight}
 use Rattle.position_consistent.proofs.Planes.{more-amiss}
 use Rattle.position_consistent.proofs.bytes_amiss.Statement.{statement}
 use Rattle.position_consistent.proofs.bytes_amiss.Tie as tie

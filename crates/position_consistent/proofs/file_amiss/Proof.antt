@@ -7,7 +7,7 @@ use lib.Dec.{eqb}
 use lib.ListN.{getD}
 use borrow.Author.Needs.{needs}
 use Rattle.laws.specs.Tests.{allBelow}
-use Rattle.position_consistent.specs.Tested.{rankRight}
+use Rattle.position_consistent.specs.PrivateTested.{rankRight}
 use Rattle.position_consistent.proofs.Planes.{byte-amiss}
 use Rattle.position_consistent.proofs.file_amiss.Statement.{statement}
 use Rattle.position_consistent.proofs.file_amiss.Tie as tie

@@ -1,7 +1,7 @@
 -- `position_consistent::file_codes` meets its contract. Assumes nothing.
 use mathlib.Core.Path.{refl}
 use borrow.Author.Needs.{needs}
-use Rattle.position_consistent.specs.Tested.{fileCodes}
+use Rattle.position_consistent.specs.PrivateTested.{fileCodes}
 use Rattle.position_consistent.proofs.file_codes.Statement.{statement}
 use Rattle.position_consistent.proofs.file_codes.Tie as tie
 

@@ -9,7 +9,7 @@ use borrow.Author.Tests.{not-true, not-false}
 use lib.ListN.{length}
 use Rattle.position_boards.specs.Sound.{sound}
 use Rattle.position_boards.proofs.Tested.{sound-14}
-use Rattle.position_consistent.specs.Tested.{planeOf, filesRight}
+use Rattle.position_consistent.specs.PrivateTested.{planeOf, filesRight}
 use Rattle.position_consistent.proofs.Tested.{no-bytes, unsound, bytes-decide}
 use Rattle.position_consistent.proofs.fits.Statement.{statement}
 use Rattle.position_consistent.proofs.fits.Tie as tie

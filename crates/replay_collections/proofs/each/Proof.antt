@@ -1,11 +1,8 @@
 -- `replay_collections::each` is safe and ends: the index grows. Assumes nothing.
-use mathlib.Core.Path.{_≡_, sym}
+use mathlib.Core.Path.{_≡_}
 use Prim.Native.Nat.{_≤_, _-_}
-use native.Mathlib.Omega.{arith}
 use lib.ListN.{length}
-use lib.Seq.{length-take-le}
 use borrow.Author.Needs.{needs}
-use borrow.Author.Tests.{ltb-true}
 use Rattle.replay_collections.proofs.each.Statement.{statement}
 use Rattle.replay_collections.proofs.each.Tie as tie
 

@@ -1,11 +1,8 @@
 -- `replay_collections::put` is safe and ends. Assumes nothing.
-use mathlib.Core.Path.{_≡_, sym}
-use Prim.Native.Nat.{_≤_, _-_}
+use mathlib.Core.Path.{sym}
 use native.Mathlib.Omega.{arith}
-use lib.ListN.{length}
 use lib.Seq.{length-take-le}
 use borrow.Author.Needs.{needs}
-use borrow.Author.Tests.{ltb-true}
 use Rattle.replay_collections.proofs.put.Statement.{statement}
 use Rattle.replay_collections.proofs.put.Tie as tie
 

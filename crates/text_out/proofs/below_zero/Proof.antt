@@ -1,9 +1,9 @@
 -- `text_out::below_zero` meets its contract: the digits stand after a minus sign. Assumes nothing.
-use mathlib.Core.Path.{_≡_, _∙_, ap, sym, subst}
-use mathlib.Core.List.{List, _∷_, _++_}
+use mathlib.Core.Path.{_∙_, ap, sym, subst}
+use mathlib.Core.List.{List, _∷_}
 use Prim.Native.Nat.{ℕ, _+_}
 use native.Mathlib.Omega.{arith}
-use lib.ListN.{length, length-take, take}
+use lib.ListN.{length-take}
 use borrow.Author.Needs.{needs}
 use denote.Ref.{now}
 use Rattle.text_out.specs.Text.{Puts}
@@ -11,8 +11,6 @@ use Rattle.text_out.proofs.Spelled.{decimal-is, fewest-20}
 use Rattle.text_out.proofs.Wrote.{wrote-length}
 use Rattle.text_out.proofs.below_zero.Statement.{statement}
 use Rattle.text_out.proofs.below_zero.Tie as tie
-use Rattle.text_out.proofs.below_zero.Reads as reads
-use Rattle.text_out.proofs.below_zero.Lts as lts
 
 add-decimal : tie.Need-add-decimal
 add-decimal c = search needs

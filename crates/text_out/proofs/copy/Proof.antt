@@ -1,10 +1,10 @@
 -- `text_out::copy` meets its contract: the loop's invariant is that the first i bytes are written. Assumes nothing.
-use Prim.Native.Nat.{_≤_, _<_, _+_, _-_}
-use mathlib.Core.Path.{_≡_, refl, sym, _∙_, ap}
+use Prim.Native.Nat.{_≤_, _+_, _-_}
+use mathlib.Core.Path.{_≡_, refl}
 use native.Mathlib.Omega.{arith}
 use borrow.Author.Needs.{needs}
 use denote.Ref.{now}
-use lib.ListN.{length, take, drop, getD, length-set}
+use lib.ListN.{length, take, length-set}
 use lib.Seq.{take-all}
 use native.Mathlib.Nat.{add-zero}
 use Rattle.text_out.specs.Text.{Wrote}

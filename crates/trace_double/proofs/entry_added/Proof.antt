@@ -15,7 +15,7 @@ use mir.ValLaws.{toZ-ofZ}
 use Rattle.laws.proofs.Words.{held}
 use native.Mathlib.Omega.{arith}
 use Rattle.places.specs.Places.{weightPlace, kindAt, squareAt}
-use Rattle.trace_double.specs.Double.{weightAt, between, added}
+use Rattle.trace_double.specs.Double.{weightAt, between, entryAdded}
 use Rattle.trace_double.proofs.entry_added.Statement.{statement}
 use Rattle.trace_double.proofs.entry_added.Tie as tie
 
@@ -59,7 +59,7 @@ test : {z : ℤ} {t : Bool} → SFits w32 z → ltZ (pos 0) (held w32 z) ≡ t �
 test {z} f e = rw (toZ-ofZ w32 z f) at e
 
 returns : tie.Need-returns
-unfolding added
+unfolding entryAdded
 returns c =
     let b = c .before .before .before .before .before in
     let s = b .before .before in
@@ -67,7 +67,7 @@ returns c =
     simp (test (s .fits .entry) (b .if1 .taken), eq-eqb _ _ (c .if2 .taken), v, toZ-ofZ w32 (s .args .entry) (s .fits .entry))
 
 returns-2 : tie.Need-returns-2
-unfolding added
+unfolding entryAdded
 returns-2 c =
     let b = c .before .before .before .before .before in
     let s = b .before .before in
@@ -75,7 +75,7 @@ returns-2 c =
     simp (test (s .fits .entry) (b .if1 .taken), ne-eqb _ _ (c .if2 .left), v, toZ-ofZ w32 (s .args .entry) (s .fits .entry))
 
 returns-3 : tie.Need-returns-3
-unfolding added
+unfolding entryAdded
 returns-3 c = simp (test (c .before .before .fits .entry) (c .if1 .left))
 
 pub entry-added-spec : {M : Type 1} → statement M

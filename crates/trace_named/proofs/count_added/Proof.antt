@@ -1,9 +1,9 @@
 -- `trace_named::count_added` meets its contract. Assumes nothing.
-use mathlib.Core.Path.{_≡_, ap}
+use mathlib.Core.Path.{ap}
 use borrow.Author.Needs.{needs}
 use lib.IntN.{ℤ, pos}
 use lib.ListN.{getD}
-use lib.Ieee.{Float, binary64, add, mul, ofInt}
+use lib.Ieee.{binary64, add, mul, ofInt}
 use Rattle.trace_named.proofs.Differences.{wide, less-fits, less-exact, less}
 use Rattle.trace_named.proofs.count_added.Statement.{statement}
 use Rattle.trace_named.proofs.count_added.Tie as tie

@@ -3,7 +3,7 @@ use mathlib.Core.Path.{_≡_, refl, _∙_}
 use denote.Ref.{now}
 use mir.Syntax.{w32}
 use mir.ValLaws.{toZ-ofZ}
-use Rattle.abi_records.specs.Records.{traceOf}
+use Rattle.abi_records.specs.Records.{traceOfNumbers}
 use Rattle.abi_records.proofs.Read.{trace-same}
 use Rattle.abi.proofs.Fitted.{line-passed}
 use borrow.Author.Needs.{needs}
@@ -13,7 +13,7 @@ use Rattle.abi.proofs.fits.chess_gradient_add.Tie as tie
 -- the trace that the call was handed is that of the lent numbers
 handed : (k : tie.After-add)
     → k .before .before .trace-of .result
-    ≡ traceOf (now (k .before .before .before .before .args .counts)) (now (k .before .before .before .before .args .mobility)) (k .before .before .before .before .args .sign) (k .before .before .before .before .args .pieces)
+    ≡ traceOfNumbers (now (k .before .before .before .before .args .counts)) (now (k .before .before .before .before .args .mobility)) (k .before .before .before .before .args .sign) (k .before .before .before .before .args .pieces)
 handed k =
     let s = k .before .before .before .before in
     k .before .before .trace-of .ensures

@@ -1,5 +1,5 @@
 -- `attack::inner::occupied` meets its contract. Assumes nothing.
-use mathlib.Core.Path.{_≡_, ap₂, _∙_}
+use mathlib.Core.Path.{ap₂, _∙_}
 use mathlib.Core.Bool.{_||_}
 use Prim.Native.Nat.{ℕ}
 use Rattle.bits.specs.Bitboard.{has, those}

@@ -1,7 +1,7 @@
 -- `attack_rays::inner::mirror` meets its contract. Assumes nothing.
 use lib.Dec.{lit<}
 use Rattle.laws.specs.Tests.{allBelow}
-use Rattle.attack_rays.specs.Mirror.{paired}
+use Rattle.attack_rays.specs.PrivateMirror.{paired}
 use Rattle.attack_rays.proofs.Pairs.{six}
 use Rattle.attack_rays.proofs.inner.mirror.Statement.{statement}
 use Rattle.attack_rays.proofs.inner.mirror.Tie as tie

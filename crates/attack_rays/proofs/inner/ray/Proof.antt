@@ -4,7 +4,7 @@ use Prim.Native.Nat.{ℕ, _+_, _-_}
 use native.Mathlib.Omega.{arith}
 use borrow.Author.Needs.{needs}
 use Rattle.attack_rays.specs.Rays.{rayOf, dirOf}
-use Rattle.attack_rays.specs.Mirror.{mirrored}
+use Rattle.attack_rays.specs.PrivateMirror.{mirrored}
 use Rattle.attack_rays.proofs.Paths.{no-square, no-direction}
 use Rattle.attack_rays.proofs.Turn.{ray-turned}
 use Rattle.attack_rays.proofs.inner.ray.Statement.{statement}

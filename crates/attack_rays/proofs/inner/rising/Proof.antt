@@ -1,5 +1,5 @@
 -- `attack_rays::inner::rising` meets its contract. Assumes nothing.
-use mathlib.Core.Path.{_≡_, ap, _∙_}
+use mathlib.Core.Path.{ap, _∙_}
 use mathlib.Core.Bool.{Bool, _&&_}
 use Prim.Native.Nat.{ℕ, _^_, _<_}
 use native.Mathlib.Omega.{arith}
@@ -8,7 +8,7 @@ use borrow.Author.Needs.{needs}
 use Rattle.bits.specs.Bitboard.{has, board}
 use Rattle.bits.proofs.Digits.{has-and}
 use Rattle.bits.proofs.Lists.{has-board, board-lt}
-use Rattle.attack_rays.specs.Mirror.{ahead}
+use Rattle.attack_rays.specs.PrivateMirror.{ahead}
 use Rattle.attack_rays.proofs.Line.{sees}
 use Rattle.attack_rays.proofs.Turn.{ahead-rises, ray-ahead}
 use Rattle.attack_rays.proofs.inner.rising.Statement.{statement}

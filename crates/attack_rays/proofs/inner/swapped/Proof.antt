@@ -1,6 +1,6 @@
 -- `attack_rays::inner::swapped` meets its contract. Assumes nothing.
-use mathlib.Core.Path.{_≡_, refl, sym, ap, ap₂, _∙_}
-use mathlib.Core.Bool.{Bool, true, false, true≢false, false≢true, not, cond, _||_, _&&_, Bool·beq}
+use mathlib.Core.Path.{_≡_, refl, ap, ap₂, _∙_}
+use mathlib.Core.Bool.{Bool, true, false, true≢false, false≢true, not, cond, _||_, _&&_}
 use Prim.Native.Nat.{ℕ, _+_, _*_, _-_, _/_, _%_, _^_, _<_}
 use native.Mathlib.Nat.{mod-lt, lt-of-le-of-lt}
 use lib.Bits.{bitAnd, bitOr, and-le-r, or-lt}
@@ -10,7 +10,7 @@ use borrow.Author.Needs.{needs}
 use Rattle.bits.specs.Bitboard.{has}
 use Rattle.bits.proofs.Digits.{has-or, has-and, has-shr, has-shl}
 use Rattle.bits.proofs.Those.{is-those}
-use Rattle.attack_rays.specs.Mirror.{paired, partner}
+use Rattle.attack_rays.specs.PrivateMirror.{paired, partner}
 use Rattle.attack_rays.proofs.Pairs.{paired-at}
 use Rattle.attack_rays.proofs.inner.swapped.Statement.{statement}
 use Rattle.attack_rays.proofs.inner.swapped.Tie as tie

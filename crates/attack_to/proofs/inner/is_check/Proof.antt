@@ -1,6 +1,4 @@
 -- `attack_to::inner::is_check` meets its contract. Assumes nothing.
-use mathlib.Core.Path.{sym, subst}
-use Prim.Native.Nat.{ℕ, _<_}
 use native.Mathlib.Omega.{arith}
 use Rattle.attack_to.proofs.Checks.{lowest-lt, no-king, a-king}
 use borrow.Author.Needs.{needs}

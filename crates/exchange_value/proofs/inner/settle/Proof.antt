@@ -1,6 +1,6 @@
 -- `exchange_value::inner::settle` meets its contract. The loop's invariant: `next` is what the captures from k on are worth, if the first need not be made.
 -- Assumes nothing.
-use mathlib.Core.Path.{_≡_, refl, sym, ap, subst, _∙_}
+use mathlib.Core.Path.{_≡_, sym, ap, subst, _∙_}
 use Prim.Native.Nat.{ℕ, _-_, _≤_}
 use native.Mathlib.Omega.{arith}
 use lib.ListN.{length, getD}

@@ -1,5 +1,5 @@
 -- `fit_adam::inner::moved_weight` meets its contract. Assumes nothing.
-use Rattle.fit_adam.specs.Adam.{moved}
+use Rattle.fit_adam.specs.Adam.{weightMoved}
 use borrow.Author.Needs.{needs}
 use Rattle.fit_adam.proofs.inner.moved_weight.Statement.{statement}
 use Rattle.fit_adam.proofs.inner.moved_weight.Tie as tie
@@ -8,7 +8,7 @@ sqrt-requires : tie.Need-sqrt-requires
 sqrt-requires c κs = search needs
 
 returns : tie.Need-returns
-unfolding moved
+unfolding weightMoved
 returns c = simp (c .sqrt .ensures)
 
 pub moved-weight-spec : {M : Type 1} → statement M

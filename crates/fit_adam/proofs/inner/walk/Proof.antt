@@ -1,11 +1,11 @@
 -- `fit_adam::inner::walk` meets its contract. The loop's invariant: all three lists are turned up to i. Assumes nothing.
-use mathlib.Core.Path.{_≡_, sym, _∙_}
+use mathlib.Core.Path.{_≡_}
 use borrow.Author.Needs.{needs}
-use Prim.Native.Nat.{ℕ, _≤_, _<_, _-_}
+use Prim.Native.Nat.{_≤_, _<_, _-_}
 use native.Mathlib.Omega.{arith}
 use lib.ListN.{length}
-use Rattle.fit_adam.specs.Adam.{Fit, firstAt, secondAt, weightAt}
-use Rattle.fit_adam.specs.Promises.{fit}
+use Rattle.fit_adam.specs.Adam.{firstAt, secondAt, weightStepped}
+use Rattle.fit_adam.specs.Promises.{fitFrom}
 use Rattle.fit_adam.proofs.Places.{Turned, none, one-more, here, all}
 use Rattle.fit_adam.proofs.inner.walk.Statement.{statement}
 use Rattle.fit_adam.proofs.inner.walk.Tie as tie
@@ -13,9 +13,9 @@ use Rattle.fit_adam.proofs.inner.walk.Tie as tie
 abbrev Inv-loop : tie.InvT-loop
 Inv-loop gradient m₀ v₀ weights₀ powers rate i₀ m v weights i =
     (0 < i) × (i ≤ 779) × (length gradient ≡ 779)
-    × Turned (firstAt gradient (fit m₀ v₀ weights₀)) i m₀ m
-    × Turned (secondAt gradient (fit m₀ v₀ weights₀)) i v₀ v
-    × Turned (weightAt (powers .first) (powers .second) rate gradient (fit m₀ v₀ weights₀)) i weights₀ weights
+    × Turned (firstAt gradient (fitFrom m₀ v₀ weights₀)) i m₀ m
+    × Turned (secondAt gradient (fitFrom m₀ v₀ weights₀)) i v₀ v
+    × Turned (weightStepped (powers .first) (powers .second) rate gradient (fitFrom m₀ v₀ weights₀)) i weights₀ weights
 
 abbrev μ-loop : tie.MeasureT-loop
 μ-loop gradient m₀ v₀ weights₀ powers rate i₀ m v weights i = 779 - i

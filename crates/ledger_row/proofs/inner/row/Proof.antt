@@ -1,6 +1,6 @@
 -- `ledger_row::inner::row` meets its contract. Assumes nothing.
 use denote.Ref.{now}
-use Rattle.attack.specs.Lent.{attacksWith}
+use Rattle.attack.specs.PrivateLent.{attacksWith}
 use Rattle.score_pst.specs.Pst.{weightIn}
 use Rattle.score.specs.Answers.{scored}
 use Rattle.ledger_row.specs.Promises.{scoreWith}

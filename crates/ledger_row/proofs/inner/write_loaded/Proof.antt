@@ -1,9 +1,7 @@
 -- `ledger_row::inner::write_loaded` meets its contract. Assumes nothing.
 use Rattle.score.specs.Answers.{scored}
 use native.Mathlib.Omega.{arith}
-use lib.ListN.{length, length-append}
-use Rattle.text_out.specs.Text.{decimalOf}
-use Rattle.ledger_row.specs.Row.{loadedRow, spaced}
+use Rattle.ledger_row.specs.Row.{loadedRow}
 use Rattle.text_out.proofs.Added.{adds-to, adds-4}
 use Rattle.ledger_row.proofs.Fits.{length-spaced, length-shown}
 use borrow.Author.Needs.{needs}

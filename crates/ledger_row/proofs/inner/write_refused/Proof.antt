@@ -1,8 +1,6 @@
 -- `ledger_row::inner::write_refused` meets its contract. Assumes nothing.
 use native.Mathlib.Omega.{arith}
-use lib.ListN.{length, length-append}
-use Rattle.text_out.specs.Text.{decimalOf}
-use Rattle.ledger_row.specs.Row.{refusedRow, spaced}
+use Rattle.ledger_row.specs.Row.{refusedRow}
 use Rattle.text_out.proofs.Added.{adds-4, length-20}
 use Rattle.ledger_row.proofs.Fits.{length-spaced}
 use borrow.Author.Needs.{needs}

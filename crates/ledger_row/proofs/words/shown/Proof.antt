@@ -1,5 +1,5 @@
 -- `ledger_row::words::shown` meets its contract: each arm puts its word. Assumes nothing.
-use mathlib.Core.Path.{refl, subst, sym, ap}
+use mathlib.Core.Path.{refl, subst, sym}
 use lib.IntN.{ℤ}
 use mir.Syntax.{w16}
 use denote.Ref.{now}

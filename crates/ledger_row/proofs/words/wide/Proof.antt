@@ -1,5 +1,4 @@
 -- `ledger_row::words::wide` meets its contract: what 16 bits hold, 64 bits hold. Assumes nothing.
-use mathlib.Core.Path.{_∙_}
 use mir.Facts.{toZ-ofZ}
 use mir.Syntax.{w16, w64}
 use Rattle.laws.proofs.Words.{widens}

@@ -1,7 +1,5 @@
 -- `replay_fits::lists::all` is safe and ends. Assumes nothing.
-use Prim.Native.Nat.{_≤_, _<_, _+_, _-_}
-use native.Mathlib.Omega.{arith}
-use mathlib.Core.Path.{_≡_}
+use Prim.Native.Nat.{_≤_, _-_}
 use lib.ListN.{length}
 use borrow.Author.Needs.{needs}
 use Rattle.replay_fits.proofs.lists.all.Statement.{statement}

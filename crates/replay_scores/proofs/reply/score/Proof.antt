@@ -1,7 +1,7 @@
 -- `replay_scores::reply::score` is safe and ends. Assumes nothing.
 use native.Mathlib.Omega.{arith}
 use mir.Syntax.{w16}
-use Rattle.laws.proofs.Words.{Up, Down, up, down}
+use Rattle.laws.proofs.Words.{Down, up, down}
 use borrow.Author.Needs.{needs}
 use Rattle.replay_scores.proofs.reply.score.Statement.{statement}
 use Rattle.replay_scores.proofs.reply.score.Tie as tie

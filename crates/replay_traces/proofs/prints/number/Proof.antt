@@ -1,7 +1,7 @@
 -- `replay_traces::prints::number` is safe and ends. Assumes nothing.
 use native.Mathlib.Omega.{arith}
 use mir.Syntax.{w32}
-use Rattle.laws.proofs.Words.{Up, Down, up, down}
+use Rattle.laws.proofs.Words.{Down, up, down}
 use borrow.Author.Needs.{needs}
 use Rattle.replay_traces.proofs.prints.number.Statement.{statement}
 use Rattle.replay_traces.proofs.prints.number.Tie as tie

@@ -1,8 +1,5 @@
 -- `replay_traces::seeds::after_named` is safe and ends. Assumes nothing.
-use Prim.Native.Nat.{_≤_, _<_, _+_, _-_}
-use native.Mathlib.Omega.{arith}
-use mathlib.Core.Path.{_≡_}
-use lib.ListN.{length}
+use Prim.Native.Nat.{_≤_, _-_}
 use borrow.Author.Needs.{needs}
 use Rattle.replay_traces.proofs.seeds.after_named.Statement.{statement}
 use Rattle.replay_traces.proofs.seeds.after_named.Tie as tie

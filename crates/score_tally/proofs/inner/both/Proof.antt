@@ -7,7 +7,7 @@ use lib.IntN.{ℤ}
 use mir.Facts.{toZ-ofZ}
 use mir.Syntax.{w32}
 use Rattle.score_taper.specs.declared.Side.{Side}
-use Rattle.score_tally.specs.Walked.{sideWith}
+use Rattle.score_tally.specs.PrivateWalked.{sideWith}
 use Rattle.score_tally.specs.declared.Sides.{Sides}
 use Rattle.score_tally.proofs.inner.both.Statement.{statement}
 use Rattle.score_tally.proofs.inner.both.Tie as tie

@@ -14,8 +14,8 @@ use Rattle.attack.specs.Attacks.{standing}
 use Rattle.score_pst.specs.Pst.{weightIn}
 use Rattle.score_tally.specs.Mobility.{attackedFrom}
 use Rattle.score_tally.specs.Weights.{weighedFrom}
-use Rattle.score_tally.specs.Lent.{reachWith}
-use Rattle.score_tally.specs.Walked.{sumAt, plusOf}
+use Rattle.score_tally.specs.PrivateLent.{reachWith}
+use Rattle.score_tally.specs.PrivateWalked.{sumAt, plusOf}
 use Rattle.score_tally.specs.declared.inner.Walked.{Walked}
 use Rattle.score_tally.proofs.Tally as laws
 use Rattle.score_tally.proofs.Tally.{Tallied}

@@ -17,7 +17,7 @@ use Rattle.bits.specs.Answers.{lowest}
 use Rattle.bits.proofs.Counts.{many-le}
 use Rattle.bits.proofs.Each.{next-at, next-done}
 use Rattle.score_pst.specs.Pst.{weightIn}
-use Rattle.score_tally.specs.Lent.{reachWith}
+use Rattle.score_tally.specs.PrivateLent.{reachWith}
 use Rattle.score_tally.specs.declared.inner.Walked.{Walked}
 use Rattle.score_tally.proofs.Walks as walks
 use Rattle.score_tally.proofs.inner.walk.Statement.{statement}

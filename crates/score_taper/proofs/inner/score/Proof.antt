@@ -1,8 +1,8 @@
 -- `score_taper::inner::score` meets its contract: what each side answered says what it fits, and the last step is `joined`. Assumes nothing.
-use mathlib.Core.Path.{_≡_, ap, ap₂, _∙_, sym, subst}
-use Prim.Native.Nat.{ℕ, _/_, _≤_}
+use mathlib.Core.Path.{_≡_, ap, ap₂, _∙_}
+use Prim.Native.Nat.{_≤_}
 use borrow.Author.Needs.{needs, sfits-of}
-use lib.IntN.{ℤ, pos, natAbs, _-ℤ_}
+use lib.IntN.{ℤ, natAbs, _-ℤ_}
 use mir.Syntax.{w64}
 use Rattle.laws.proofs.Words.{held, held-is}
 use Rattle.score_taper.specs.Parts.{sidePart, sideFits, sumFits, total}

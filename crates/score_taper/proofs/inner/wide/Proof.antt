@@ -1,5 +1,5 @@
 -- `score_taper::inner::wide` meets its contract: what 32 bits hold, 64 bits hold. Assumes nothing.
-use mathlib.Core.Path.{_≡_, _∙_, sym, subst}
+use mathlib.Core.Path.{_≡_, sym, subst}
 use Prim.Native.Nat.{_≤_}
 use lib.IntN.{ℤ, natAbs}
 use mir.Facts.{toZ-ofZ}

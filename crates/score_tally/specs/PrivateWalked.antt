@@ -9,7 +9,7 @@ use Rattle.score_taper.specs.declared.Side.{Side}
 use Rattle.score_material.specs.Material.{material}
 use Rattle.score_tally.specs.Mobility.{attackedFrom}
 use Rattle.score_tally.specs.Weights.{weighedFrom}
-use Rattle.score_tally.specs.Lent.{reachWith}
+use Rattle.score_tally.specs.PrivateLent.{reachWith}
 use Rattle.score_tally.specs.declared.Sides.{Sides}
 use Rattle.score_tally.specs.declared.inner.Walked.{Walked}
 

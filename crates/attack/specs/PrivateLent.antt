@@ -14,8 +14,8 @@ abbrev pub pawnRow : ℕ → ℕ
 pawnRow = asColour
 
 -- the row of a kind that steps; past the four for one that doesn't, and for a number that is no kind
-abbrev pub rowOf : ℕ → ℕ → ℕ
-rowOf kind colour = getD (pawnRow colour ∷ 2 ∷ 4 ∷ 4 ∷ 4 ∷ 3 ∷ []) kind 4
+abbrev pub stepRow : ℕ → ℕ → ℕ
+stepRow kind colour = getD (pawnRow colour ∷ 2 ∷ 4 ∷ 4 ∷ 4 ∷ 3 ∷ []) kind 4
 
 unfoldable pub attacksWith : List (List ℕ) → ℕ → ℕ → ℕ → ℕ → ℕ
 unfolding board seen

@@ -13,17 +13,17 @@ abbrev pub sharedBy : List ℕ → ℕ → ℕ
 sharedBy bbs many = those 64 (λ k. leb many (boardsWith bbs k))
 
 -- the squares of a colour's piece boards
-abbrev pub standing : List ℕ → ℕ → ℕ
-standing bbs colour = those 64 (ofColour bbs colour)
+abbrev pub colourSquares : List ℕ → ℕ → ℕ
+colourSquares bbs colour = those 64 (ofColour bbs colour)
 
 -- where a table of 15 has a byte: any byte past the codes is at 14
-abbrev pub placeOf : ℕ → ℕ
-placeOf byte = cond (ltb byte 14) byte 14
+abbrev pub tablePlace : ℕ → ℕ
+tablePlace byte = cond (ltb byte 14) byte 14
 
 -- the squares of each place of a byte
 unfoldable pub sortedBy : List ℕ → List ℕ
-sortedBy bytes = tabulate 15 (λ place. those 64 (λ k. eqb (placeOf (getD bytes k 0)) place))
+sortedBy bytes = tabulate 15 (λ place. those 64 (λ k. eqb (tablePlace (getD bytes k 0)) place))
 
 -- the boards of the sorted bytes
 unfoldable pub boardsBy : List ℕ → List ℕ
-boardsBy squares = tabulate 14 (λ board. cond (ltb board 2) (standing squares board) (getD squares board 0))
+boardsBy squares = tabulate 14 (λ board. cond (ltb board 2) (colourSquares squares board) (getD squares board 0))

@@ -5,17 +5,17 @@ use Prim.Native.Nat.{ℕ}
 use lib.Dec.{eqb}
 use lib.ListN.{getD}
 use Rattle.ledger_feed.specs.Promises.{Came, turned, many, full, came}
-use Rattle.ledger_feed.specs.declared.State.{State}
+use Rattle.ledger_feed.specs.declared.SoFar.{SoFar}
 use Rattle.abi.specs.Doors.{code}
 use Rattle.abi.specs.declared.Code.{Code}
 
 abbrev pub flagOf : Bool → ℕ
 flagOf b = cond b 1 0
 
-abbrev pub stateFrom : List ℕ → State
+abbrev pub stateFrom : List ℕ → SoFar
 stateFrom l = record { held = getD l 0 0; cr = not (eqb (getD l 1 0) 0); loaded = getD l 2 0; refused = getD l 3 0 }
 
-abbrev pub stateNumbers : State → List ℕ
+abbrev pub stateNumbers : SoFar → List ℕ
 stateNumbers s = s .held ∷ flagOf (s .cr) ∷ s .loaded ∷ s .refused ∷ []
 
 -- the refusal's number and square, 254 for too little room, 255 for too many lines, and 0 of an answer

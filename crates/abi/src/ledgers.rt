@@ -7,7 +7,7 @@ use crate::GIVEN;
 use crate::NO_SQUARE;
 use crate::refused;
 use ledger_feed::Fed;
-use ledger_feed::State;
+use ledger_feed::SoFar;
 use ledger_finish::Finished;
 
 // Bytes held of the line that has not ended, whether the last was a CR, loaded rows, refused rows.
@@ -28,10 +28,10 @@ const MANY: Code = Code {
     square: NO_SQUARE,
 };
 
-fn state_of(numbers: &[u64; NUMBERS]) -> State
+fn state_of(numbers: &[u64; NUMBERS]) -> SoFar
     ensures { λ r. ⌜ r ≡ stateFrom (now (numbers .entry)) ⌝ }
 {
-    State {
+    SoFar {
         held: numbers[0] as usize,
         cr: numbers[1] != 0,
         loaded: numbers[2],
@@ -45,7 +45,7 @@ fn flag(holds: bool) -> u64
     if holds { 1 } else { 0 }
 }
 
-fn numbers_of(state: State) -> [u64; NUMBERS]
+fn numbers_of(state: SoFar) -> [u64; NUMBERS]
     ensures { λ r. ⌜ r ≡ stateNumbers state ⌝ }
 {
     [

@@ -4,7 +4,7 @@
 // What a read, a write and an error number mean stands in crate stream. Where one fails, or a loop comes to its bound, the rows so far
 // stay, no last row follows them, and the reason goes to standard error; that all is written is said on descriptor 3, last of all.
 use ledger_feed::Fed;
-use ledger_feed::State;
+use ledger_feed::SoFar;
 use ledger_files::Ending;
 use ledger_finish::Finished;
 use stream_io::Opened;
@@ -12,7 +12,7 @@ use stream_io::Taken;
 
 // What follows a read: another one, the end of the input, or nothing more.
 enum Turn {
-    More(State),
+    More(SoFar),
     End,
     Stopped,
 }
@@ -27,7 +27,7 @@ fn main() {
 
 // All reads, and then the last rows: whether all of them are written.
 fn write_ledger(chunk: &mut [u8], out: &mut [u8]) -> bool {
-    let mut line = [0u8; ledger_feed::LINE];
+    let mut line = [0u8; line_cut::LINE];
     let read = read_all(&mut line, chunk, out);
     let Turn::More(state) = read else {
         return false;
@@ -54,7 +54,7 @@ fn read_all(line: &mut [u8], chunk: &mut [u8], out: &mut [u8]) -> Turn {
 
 fn read_files(
     count: usize,
-    state: State,
+    state: SoFar,
     line: &mut [u8],
     chunk: &mut [u8],
     out: &mut [u8],
@@ -78,7 +78,7 @@ fn read_files(
     Turn::More(state)
 }
 
-fn read_file(i: usize, state: State, line: &mut [u8], chunk: &mut [u8], out: &mut [u8]) -> Turn {
+fn read_file(i: usize, state: SoFar, line: &mut [u8], chunk: &mut [u8], out: &mut [u8]) -> Turn {
     let mut name = io::buffer();
     match stream_io::open_argument(i, &mut name) {
         Opened::File(fd, n) => {
@@ -106,7 +106,7 @@ fn end_file(read: Turn, line: &mut [u8], out: &mut [u8]) -> Turn {
 fn read_to_end(
     fd: i32,
     what: &[u8],
-    state: State,
+    state: SoFar,
     line: &mut [u8],
     chunk: &mut [u8],
     out: &mut [u8],
@@ -135,7 +135,7 @@ fn read_to_end(
 fn read_some(
     fd: i32,
     what: &[u8],
-    state: State,
+    state: SoFar,
     line: &mut [u8],
     chunk: &mut [u8],
     out: &mut [u8],
@@ -147,7 +147,7 @@ fn read_some(
     }
 }
 
-fn feed(state: State, line: &mut [u8], chunk: &[u8], out: &mut [u8]) -> Turn {
+fn feed(state: SoFar, line: &mut [u8], chunk: &[u8], out: &mut [u8]) -> Turn {
     match ledger_feed::feed(state, line, chunk, out) {
         Fed::Rows(next, wrote) => {
             if write(&out[..wrote]) {
@@ -167,7 +167,7 @@ fn feed(state: State, line: &mut [u8], chunk: &[u8], out: &mut [u8]) -> Turn {
     Turn::Stopped
 }
 
-fn finish(state: State, line: &[u8], out: &mut [u8]) -> bool {
+fn finish(state: SoFar, line: &[u8], out: &mut [u8]) -> bool {
     match ledger_finish::finish(state, line, out) {
         Finished::Rows(wrote) => write(&out[..wrote]),
         Finished::Full => stop(b": too little room for the last rows\n"),

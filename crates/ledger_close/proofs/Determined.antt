@@ -7,7 +7,8 @@ use Rattle.ledger_row.specs.Row.{rowBy}
 use Rattle.ledger_row.specs.Promises.{scoreWith}
 use Rattle.ledger_row.specs.declared.Row.{Row}
 use Rattle.ledger_row.proofs.Determined.{puts-row}
-use Rattle.ledger_close.specs.Ended.{saidOf, Closes}
+use Rattle.line_held.specs.Held.{saidOf}
+use Rattle.ledger_close.specs.Ended.{Closes}
 
 pub close : (tables : List (List ℕ)) (pst : List ℤ) (old new new′ : List ℕ) (at number : ℕ) (line : List ℕ) (size : ℕ) (r s : Row)
     → Closes tables pst old new at number line size r → Closes tables pst old new′ at number line size s → (r ≡ s) × (new ≡ new′)

@@ -1,9 +1,8 @@
-// The row of a line that ends, by a buffer that holds the line's first bytes.
+// The row of a line that ends, by a buffer that holds the line's first bytes: the line is read, and what it says is handed on.
 ghost use Rattle.ledger_close.specs.Ended.{Closes};
 use attack_steps::inner::ROWS;
 use chess::square::Square;
 use ledger_row::Row;
-use refusal::Refusal;
 
 // A line of so many bytes is LONG where the buffer does not hold it whole. The tables of the score are lent.
 pub fn close(
@@ -17,11 +16,8 @@ pub fn close(
 ) -> Row
     ensures { λ r. ⌜ Closes (now (tables .entry)) (now (pst .entry)) (now (out .entry)) (now (out .exit)) at number (now (line .entry)) size r ⌝ }
 {
-    if line.len() < size {
-        return Row {
-            placed: ledger_row::inner::refused(number, Refusal::Long, out, at),
-            loaded: false,
-        };
-    }
-    ledger_row::inner::row(number, &line[..size], out, at, pst, tables)
+    let read = line_held::read(line, size);
+    let answer = read.answer;
+    let bitboards = read.bitboards;
+    ledger_row::inner::row(number, answer, &bitboards, out, at, pst, tables)
 }

@@ -6,12 +6,12 @@ use mathlib.Core.List.{List}
 use Prim.Native.Nat.{ℕ}
 use Rattle.refusal.proofs.Paper.{one, retract, ofNumber, number-back}
 use Rattle.ledger_feed.specs.Promises.{Came, turned, many, full, came, Starts, Countable, fed, Feeds}
-use Rattle.ledger_feed.specs.declared.State.{State}
+use Rattle.ledger_feed.specs.declared.SoFar.{SoFar}
 use Rattle.ledger_feed.specs.declared.Fed.{Fed}
 use Rattle.ledger_feed.specs.declared.Fed.the-variants as F
 
 -- ---- answers that read the same are one
-abbrev fedFrom : Came (State × ℕ) → Fed
+abbrev fedFrom : Came (SoFar × ℕ) → Fed
 fedFrom (came p) = F.Rows (p .0) (p .1)
 fedFrom full = F.Full
 fedFrom many = F.Many
@@ -24,13 +24,13 @@ fed-back F.Many = refl
 fed-back (F.Refused q) = ap F.Refused (number-back q)
 
 -- ---- the functions
-pub start : (r s : State) → Starts r → Starts s → r ≡ s
+pub start : (r s : SoFar) → Starts r → Starts s → r ≡ s
 start r s p q = one p q
 
 pub countable : (loaded others more : ℕ) (r s : Bool) → Countable loaded others more r → Countable loaded others more s → r ≡ s
 countable loaded others more r s p q = one p q
 
-pub feed : (state : State) (line chunk out : List ℕ) (r s : Fed) (line₁ out₁ line₂ out₂ : List ℕ)
+pub feed : (state : SoFar) (line chunk out : List ℕ) (r s : Fed) (line₁ out₁ line₂ out₂ : List ℕ)
     → Feeds state line chunk out r line₁ out₁ → Feeds state line chunk out s line₂ out₂ → (r ≡ s) × (line₁ ≡ line₂) × (out₁ ≡ out₂)
 feed state line chunk out r s line₁ out₁ line₂ out₂ p q =
     (retract fed fedFrom fed-back r s (one (p .answer) (q .answer)), one (p .kept) (q .kept), one (p .rows) (q .rows))

@@ -9,9 +9,10 @@ use lib.ListN.{length}
 use borrow.Author.Tests.{eq-eqb, ne-eqb, le-leb, lt-leb, ltb-true}
 use Rattle.refusal.specs.declared.Refusal.the-variants as R
 use Rattle.text_out.specs.Text.{writtenOf}
-use Rattle.ledger_feed.specs.Machine.{Machine, at, run, ends}
+use Rattle.line_cut.specs.Lines.{ends}
+use Rattle.ledger_feed.specs.Machine.{Machine, at, run}
 use Rattle.ledger_feed.specs.Promises.{Came, turnedBy, many, full, came, fit, feedOf, fed, cameByValue, lineAfter, textAfter, wrote, Feeds, Ready, Takes}
-use Rattle.ledger_feed.specs.declared.State.{State}
+use Rattle.ledger_feed.specs.declared.SoFar.{SoFar}
 use Rattle.ledger_feed.specs.declared.Fed.{Fed}
 use Rattle.ledger_feed.specs.declared.Fed.the-variants as F
 
@@ -34,7 +35,7 @@ module _ {A : Type 0} (line : List ℕ) (lines : ℕ) (room : Bool) (a : A) wher
   fit-came e n r = rw (eq-eqb (length line) 256 e, n, r)
 
 -- ---- feed
-module _ (state : State) (line chunk out : List ℕ) where
+module _ (state : SoFar) (line chunk out : List ℕ) where
   lines : ℕ
   lines = state .loaded + state .refused + ends chunk
 

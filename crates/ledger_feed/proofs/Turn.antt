@@ -1,109 +1,112 @@
--- One turn of the loop over a chunk's bytes: the machine's run from here on the rest is its run on the whole. Assumes nothing.
+-- One turn of the loop over a chunk's lines: that of every consumer of lines (line_cut's `Turn`), with room for the rows. Assumes nothing.
 use mathlib.Core.Path.{_≡_, refl, sym, ap, ap₂, subst, _∙_}
 use mathlib.Core.Bool.{Bool, true, false, cond, not}
 use mathlib.Core.List.{List, [], _++_}
 use Prim.Native.Nat.{ℕ, _+_, _*_, _^_, _≤_, _<_}
-use native.Mathlib.Numerals.{add-one}
 use native.Mathlib.Omega.{arith}
-use lib.Dec.{eqb, ltb}
-use lib.ListN.{length, take, drop, getD, set, length-set, drop-of-length-le, take-append-drop}
-use lib.Seq.{drop-cons, drop-drop, length-take-le}
-use borrow.Author.Tests.{ne-eqb}
-use Rattle.ledger_row.specs.Row.{rowOf, isLoaded}
+use lib.ListN.{length, take, drop, take-append-drop}
+use lib.Seq.{drop-drop, length-take-le}
 use Rattle.text_out.proofs.Added.{adds-to, adds-length, adds-front, adds-back}
 use Rattle.text_out.specs.Text.{writtenOf, Adds}
 use Rattle.text_out.proofs.Wrote.{written-is}
-use Rattle.ledger_close.specs.Ended.{saidOf}
+use Rattle.line_cut.specs.Lines.{ends}
+use Rattle.line_cut.specs.Cut.{CutSoFar, runBy}
+use Rattle.line_cut.specs.Promises.{opened, CutsNext}
+use Rattle.line_cut.specs.declared.Begun.{Begun}
+use Rattle.line_cut.specs.declared.Cut.{Cut}
+use Rattle.line_cut.proofs.Loop as Lines
+use Rattle.line_held.specs.Held.{saidOf}
+use Rattle.ledger_row.specs.Row.{rowOf, isLoaded}
 use Rattle.ledger_close.proofs.Closed.{said-32}
-use Rattle.ledger_feed.specs.Machine.{Machine, run, step, close, at, keptByte, oneMore, bareOf, tally, ends}
+use Rattle.ledger_feed.specs.Machine.{Machine, Kept, openOf, keptOf, machineOf, closeRow, run, at, tally}
 use Rattle.ledger_feed.specs.Promises.{stateOf, MakesState, Ready, Takes}
-use Rattle.ledger_feed.specs.declared.State.{State}
+use Rattle.ledger_feed.specs.declared.SoFar.{SoFar}
 use Rattle.ledger_feed.specs.declared.Fed.the-variants as F
-use Rattle.ledger_feed.proofs.Counted.{ends-line, ends-byte, tally-both}
+use Rattle.ledger_feed.proofs.Counted.{tally-both}
 
-abbrev pub machine : List ℕ → ℕ → Bool → ℕ → ℕ → List ℕ → Machine
-machine line held ends loaded refused text = record { line = line; held = held; cr = ends; loaded = loaded; refused = refused; text = text }
+abbrev pub begunIn : SoFar → Begun
+begunIn state = record { held = state .held; cr = state .cr }
 
-pub record Turn (m : Machine) (chunk out₀ line out : List ℕ) (held : ℕ) (cr : Bool) (loaded refused w i : ℕ) : Type 0 where
-  pub most : i ≤ length chunk
-  pub size : length line ≡ 256
+abbrev pub rows : ℕ → ℕ → List ℕ → Kept
+rows loaded refused text = record { loaded = loaded; refused = refused; text = text }
+
+pub record Turn (whole : CutSoFar Kept) (chunk out₀ line out : List ℕ) (begun : Begun) (loaded refused w i : ℕ) : Type 0 where
+  pub lines : Lines.Turn closeRow whole 256 chunk line begun (rows loaded refused (take w out)) i
   pub kept : length out ≡ length out₀
   pub room : w + 32 * ends (drop i chunk) ≤ length out₀
   pub counts : loaded + refused + ends (drop i chunk) < 2 ^ 64
-  pub runs : run m chunk ≡ run (machine line held cr loaded refused (take w out)) (drop i chunk)
   pub rest : drop w out ≡ drop w out₀
 
-pub kept-size : (t : Bool) (line : List ℕ) (held byte : ℕ) → length (cond t (set line held byte) line) ≡ length line
-kept-size true line held byte = length-set line held byte
-kept-size false line held byte = refl
+same : {loaded loaded′ refused refused′ : ℕ} {text text′ : List ℕ} → loaded ≡ loaded′ → refused ≡ refused′ → text ≡ text′ → rows loaded refused text ≡ rows loaded′ refused′ text′
+same p q r = cc
 
-run-at : (m : Machine) (s : List ℕ) (i b : ℕ) → i < length s → getD s i 0 ≡ b → run m (drop i s) ≡ run (step m b) (drop (i + 1) s)
-unfolding run
-run-at m s i b h e = rw (drop-cons s i 0, e, add-one i)
+module _ (whole : CutSoFar Kept) (chunk out₀ line out : List ℕ) (begun : Begun) (loaded refused w i : ℕ) (h : i < length chunk)
+    (t : Turn whole chunk out₀ line out begun loaded refused w i) (r : Cut) (line′ : List ℕ) (p : CutsNext begun line chunk i r line′) where
+  -- it goes on by a byte at least
+  pub turn-less : i < r .at
+  turn-less = Lines.turn-less closeRow whole 256 chunk line begun (rows loaded refused (take w out)) i (t .lines) h r line′ p
 
-same : (line : List ℕ) {loaded loaded′ refused refused′ : ℕ} {text text′ : List ℕ} → loaded ≡ loaded′ → refused ≡ refused′ → text ≡ text′
-    → machine line 0 false loaded refused text ≡ machine line 0 false loaded′ refused′ text′
-same line p q r = cc
-
-module _ (m : Machine) (chunk out₀ line out : List ℕ) (held : ℕ) (cr : Bool) (loaded refused w i : ℕ) (h : i < length chunk)
-    (t : Turn m chunk out₀ line out held cr loaded refused w i) where
-  -- a byte of a line
-  pub turn-push : (getD chunk i 0 ≡ 10 → ⊥) → (line′ : List ℕ) (held′ : ℕ) → line′ ≡ keptByte line held (getD chunk i 0) → held′ ≡ oneMore held
-      → Turn m chunk out₀ line′ out held′ (eqb (getD chunk i 0) 13) loaded refused w (i + 1)
-  turn-push e line′ held′ p q =
-      let b = ends-byte chunk i h e in
+  -- the piece ended before the line did
+  pub turn-on : r .ended ≡ false → Turn whole chunk out₀ line′ out (r .begun) loaded refused w (r .at)
+  turn-on e =
+      let b = Lines.next-none begun line chunk i r line′ p e in
+      let s : Kept = rows loaded refused (take w out) in
       record {
-        most = omega arith;
-        size = ap length p ∙ kept-size (ltb held 256) line held (getD chunk i 0) ∙ t .size;
+        lines = Lines.turn-next closeRow whole 256 chunk line begun s i (t .lines) h r line′ p s (sym (ap (λ (x : Bool). cond x (closeRow s line′ (r .size)) s) e));
         kept = t .kept;
         room = omega (arith, t .room);
         counts = omega (arith, t .counts);
-        runs = t .runs ∙ run-at (machine line held cr loaded refused (take w out)) chunk i (getD chunk i 0) h refl ∙ rw (ne-eqb _ _ e, p, q);
         rest = t .rest;
       }
 
-  -- the line ends
-  pub turn-close : getD chunk i 0 ≡ 10 → (size : ℕ) → size ≡ bareOf held cr → (out′ : List ℕ) (w′ : ℕ)
-      → Adds out w (rowOf (loaded + refused + 1) (saidOf line size)) out′ w′ → (is : Bool) → is ≡ isLoaded (saidOf line size)
-      → (loaded′ refused′ : ℕ) → loaded′ ≡ tally loaded is → refused′ ≡ tally refused (not is)
-      → Turn m chunk out₀ line out′ 0 false loaded′ refused′ w′ (i + 1)
-  turn-close e size s out′ w′ a is il loaded′ refused′ p q =
-      let b = ends-line chunk i h e in
-      let row : List ℕ = rowOf (loaded + refused + 1) (saidOf line size) in
-      let short : length row ≤ 32 = said-32 (loaded + refused + 1) line size in
+  -- the line ended
+  pub turn-close : r .ended ≡ true → (out′ : List ℕ) (w′ : ℕ) → Adds out w (rowOf (loaded + refused + 1) (saidOf line′ (r .size))) out′ w′
+      → (is : Bool) → is ≡ isLoaded (saidOf line′ (r .size)) → (loaded′ refused′ : ℕ) → loaded′ ≡ tally loaded is → refused′ ≡ tally refused (not is)
+      → Turn whole chunk out₀ line′ out′ (r .begun) loaded′ refused′ w′ (r .at)
+  turn-close e out′ w′ a is il loaded′ refused′ l q =
+      let b = Lines.next-line begun line chunk i r line′ p e in
+      let row : List ℕ = rowOf (loaded + refused + 1) (saidOf line′ (r .size)) in
+      let short : length row ≤ 32 = said-32 (loaded + refused + 1) line′ (r .size) in
       let fits : w + length row ≤ length out = omega (arith, t .room, t .kept) in
       let to : w′ ≡ w + length row = adds-to a fits in
       let both = tally-both is loaded refused in
+      let s : Kept = rows loaded refused (take w out) in
+      let s′ : Kept = rows loaded′ refused′ (take w′ out′) in
+      let now : s′ ≡ closeRow s line′ (r .size) = same (l ∙ ap (tally loaded) il) (q ∙ ap (λ (x : Bool). tally refused (not x)) il) (adds-front a fits) in
       record {
-        most = omega arith;
-        size = t .size;
+        lines = Lines.turn-next closeRow whole 256 chunk line begun s i (t .lines) h r line′ p s′ (now ∙ sym (ap (λ (x : Bool). cond x (closeRow s line′ (r .size)) s) e));
         kept = adds-length a fits ∙ t .kept;
         room = omega (arith, t .room);
         counts = omega (arith, t .counts);
-        runs =
-            t .runs ∙ run-at (machine line held cr loaded refused (take w out)) chunk i 10 h e
-            ∙ ap (λ (k : ℕ). run (close (machine line held cr loaded refused (take w out)) k) (drop (i + 1) chunk)) (sym s)
-            ∙ ap (λ (x : Machine). run x (drop (i + 1) chunk))
-            (sym (same line (p ∙ ap (tally loaded) il) (q ∙ ap (λ (x : Bool). tally refused (not x)) il) (adds-front a fits)));
         rest = adds-back a fits ∙ later (length row) to;
       }
     where
       later : (k : ℕ) → w′ ≡ w + k → drop w′ out ≡ drop w′ out₀
       later k e = rw e (sym (drop-drop k w out) ∙ ap (drop k) (t .rest) ∙ drop-drop k w out₀)
 
+-- what the machine comes to over the chunk
+abbrev pub ranOf : SoFar → List ℕ → List ℕ → CutSoFar Kept
+ranOf state line chunk = runBy closeRow (openOf (at state line [])) (keptOf (at state line [])) chunk
+
 -- before the first byte
-pub turn-none : (state : State) (line chunk out : List ℕ) → Ready state line chunk out
-    → Turn (at state line []) chunk out line out (state .held) (state .cr) (state .loaded) (state .refused) 0 0
-turn-none state line chunk out r =
-    record { most = omega arith; size = r .size; kept = refl; room = omega (arith, r .room); counts = omega (arith, r .counts); runs = refl; rest = refl }
+pub turn-none : (state : SoFar) (line chunk out : List ℕ) → Ready state line chunk out
+    → Turn (ranOf state line chunk) chunk out line out (begunIn state) (state .loaded) (state .refused) 0 0
+turn-none state line chunk out r = record {
+  lines = subst (λ (n : ℕ). Lines.Turn closeRow (ranOf state line chunk) n chunk line (begunIn state) (rows (state .loaded) (state .refused) []) 0) (r .size)
+      (Lines.turn-none closeRow chunk line (begunIn state) (rows (state .loaded) (state .refused) []));
+  kept = refl;
+  room = omega (arith, r .room);
+  counts = omega (arith, r .counts);
+  rest = refl;
+}
 
 -- after the last
-pub turn-end : (state : State) (line₀ chunk out₀ line out : List ℕ) (held : ℕ) (cr : Bool) (loaded refused w i : ℕ) → length chunk ≤ i
-    → Turn (at state line₀ []) chunk out₀ line out held cr loaded refused w i
-    → (next : State) → MakesState held cr loaded refused next → Takes state line₀ chunk out₀ (F.Rows next w) line out
-unfolding run
-turn-end state line₀ chunk out₀ line out held cr loaded refused w i h t next made =
-    let m : run (at state line₀ []) chunk ≡ machine line held cr loaded refused (take w out) = t .runs ∙ rw (drop-of-length-le chunk h) in
+pub turn-end : (state : SoFar) (line₀ chunk out₀ line out : List ℕ) (begun : Begun) (loaded refused w i : ℕ) → length chunk ≤ i
+    → Turn (ranOf state line₀ chunk) chunk out₀ line out begun loaded refused w i
+    → (next : SoFar) → MakesState (begun .held) (begun .cr) loaded refused next → Takes state line₀ chunk out₀ (F.Rows next w) line out
+turn-end state line₀ chunk out₀ line out begun loaded refused w i h t next made =
+    let ran = Lines.turn-end closeRow (ranOf state line₀ chunk) 256 chunk line begun (rows loaded refused (take w out)) i (t .lines) h in
+    let m : run (at state line₀ []) chunk ≡ machineOf (record { left = opened begun line; kept = rows loaded refused (take w out) }) = ap machineOf ran in
     let within : w ≤ length out₀ = omega (arith, t .room) in
     let size : length (take w out) ≡ w = length-take-le w out (omega (arith, t .kept)) in
     let fits : 0 + length (take w out) ≤ length out₀ = omega arith in

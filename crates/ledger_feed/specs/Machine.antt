@@ -1,19 +1,14 @@
--- The ledger as a machine over bytes: what it keeps of an unfinished line, and what it writes. Definitions only.
-use mathlib.Core.Bool.{Bool, false, cond, not}
-use mathlib.Core.List.{List, [], _∷_, _++_}
-use Prim.Native.Nat.{ℕ, _+_, _-_}
-use Prim.Native.Char.{code}
-use lib.Dec.{eqb, ltb}
-use lib.ListN.{set}
+-- The ledger as a consumer of the line machine (line_cut/specs/Cut): what it keeps beside the lines, and what a line that ends does to it.
+-- Definitions only.
+use mathlib.Core.Bool.{Bool, cond, not}
+use mathlib.Core.List.{List, _++_}
+use Prim.Native.Nat.{ℕ, _+_}
 use Rattle.refusal.specs.Answer.{Answer}
-use Rattle.text_in.specs.Text.{cr}
 use Rattle.line_parse.specs.Line.{Line}
+use Rattle.line_cut.specs.Cut.{Open, lineEmptied, CutSoFar, runBy}
+use Rattle.line_held.specs.Held.{saidOf}
 use Rattle.ledger_row.specs.Row.{rowOf, isLoaded}
-use Rattle.ledger_feed.specs.declared.State.{State}
-use Rattle.ledger_close.specs.Ended.{saidOf}
-
-abbrev pub lf : ℕ
-lf = code "\n"
+use Rattle.ledger_feed.specs.declared.SoFar.{SoFar}
 
 pub record Machine : Type 0 where
   -- the line buffer, whole
@@ -27,57 +22,50 @@ pub record Machine : Type 0 where
   -- what was written
   pub text : List ℕ
 
-abbrev pub at : State → List ℕ → List ℕ → Machine
+abbrev pub at : SoFar → List ℕ → List ℕ → Machine
 at state line text = record { line = line; held = state .held; cr = state .cr; loaded = state .loaded; refused = state .refused; text = text }
 
--- ---- a byte of a line: the first 256 are kept
-abbrev pub keptByte : List ℕ → ℕ → ℕ → List ℕ
-keptByte line held byte = cond (ltb held 256) (set line held byte) line
+-- ---- its two parts: the unfinished line, and what is kept beside the lines
+pub record Kept : Type 0 where
+  pub loaded : ℕ
+  pub refused : ℕ
+  pub text : List ℕ
 
--- 258 is the fewest that tell a line of 257 bytes, a CR among them, from a longer one
-abbrev pub oneMore : ℕ → ℕ
-oneMore held = cond (ltb held 258) (held + 1) held
+abbrev pub openOf : Machine → Open
+openOf m = record { line = m .line; held = m .held; cr = m .cr }
 
-abbrev pub push : Machine → ℕ → Machine
-push m byte = record {
-  line = keptByte (m .line) (m .held) byte;
-  held = oneMore (m .held);
-  cr = eqb byte cr;
-  loaded = m .loaded;
-  refused = m .refused;
-  text = m .text;
+abbrev pub keptOf : Machine → Kept
+keptOf m = record { loaded = m .loaded; refused = m .refused; text = m .text }
+
+abbrev pub machineOf : CutSoFar Kept → Machine
+machineOf r = record {
+  line = r .left .line;
+  held = r .left .held;
+  cr = r .left .cr;
+  loaded = r .kept .loaded;
+  refused = r .kept .refused;
+  text = r .kept .text;
 }
 
 -- ---- the end of a line
--- the line's length where one CR is dropped
-abbrev pub bareOf : ℕ → Bool → ℕ
-bareOf held ends = cond ends (held - 1) held
-
 -- one more where the test holds
 abbrev pub tally : ℕ → Bool → ℕ
 tally n holds = cond holds (n + 1) n
 
 -- a row for the line, and one more loaded or refused
+abbrev pub rowMore : Kept → Answer Line → Kept
+rowMore rows said = record {
+  loaded = tally (rows .loaded) (isLoaded said);
+  refused = tally (rows .refused) (not (isLoaded said));
+  text = rows .text ++ rowOf (rows .loaded + rows .refused + 1) said;
+}
+
+abbrev pub closeRow : Kept → List ℕ → ℕ → Kept
+closeRow rows line size = rowMore rows (saidOf line size)
+
 abbrev pub close : Machine → ℕ → Machine
-close m size =
-    let said : Answer Line = saidOf (m .line) size in
-    record {
-      line = m .line;
-      held = 0;
-      cr = false;
-      loaded = tally (m .loaded) (isLoaded said);
-      refused = tally (m .refused) (not (isLoaded said));
-      text = m .text ++ rowOf (m .loaded + m .refused + 1) said;
-    }
+close m size = machineOf (record { left = lineEmptied (openOf m); kept = closeRow (keptOf m) (m .line) size })
 
-abbrev pub step : Machine → ℕ → Machine
-step m byte = cond (eqb byte lf) (close m (bareOf (m .held) (m .cr))) (push m byte)
-
-unfoldable pub run : Machine → List ℕ → Machine
-run m [] = m
-run m (b ∷ s) = run (step m b) s
-
--- how many lines end in a text
-unfoldable pub ends : List ℕ → ℕ
-ends [] = 0
-ends (b ∷ s) = let rest : ℕ = ends s in cond (eqb b lf) (rest + 1) rest
+-- the line machine, with the ledger as its consumer
+abbrev pub run : Machine → List ℕ → Machine
+run m s = machineOf (runBy closeRow (openOf m) (keptOf m) s)

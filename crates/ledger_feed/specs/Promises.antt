@@ -9,13 +9,14 @@ use Rattle.refusal.specs.Refusals.{numberOf, besideOf}
 use Rattle.refusal.specs.declared.Refusal.{Refusal}
 use Rattle.refusal.specs.declared.Refusal.the-variants as R
 use Rattle.text_out.specs.Text.{writtenOf}
-use Rattle.ledger_feed.specs.Machine.{Machine, at, run, ends}
-use Rattle.ledger_feed.specs.declared.State.{State}
+use Rattle.line_cut.specs.Lines.{ends}
+use Rattle.ledger_feed.specs.Machine.{Machine, at, run}
+use Rattle.ledger_feed.specs.declared.SoFar.{SoFar}
 use Rattle.ledger_feed.specs.declared.Fed.{Fed}
 use Rattle.ledger_feed.specs.declared.Fed.the-variants as F
 
 -- before anything was read
-abbrev pub Starts : State → Type 0
+abbrev pub Starts : SoFar → Type 0
 Starts r = r ≡ record { held = 0; cr = false; loaded = 0; refused = 0 }
 
 -- whether so many lines and more are counted in 64 bits
@@ -37,21 +38,21 @@ fit line lines room a =
     cond (eqb (length line) 256) (cond (ltb lines (2 ^ 64)) (cond room (came a) full) many) (turnedBy R.Shape)
 
 -- ---- feed: 32 bytes of room for each line that ends in the chunk
-abbrev pub feedOf : State → List ℕ → List ℕ → List ℕ → Came Machine
+abbrev pub feedOf : SoFar → List ℕ → List ℕ → List ℕ → Came Machine
 feedOf state line chunk out =
     fit line (state .loaded + state .refused + ends chunk) (leb (32 * ends chunk) (length out)) (run (at state line []) chunk)
 
 -- the code's answer on the paper: the state, and how many bytes were written
-abbrev pub fed : Fed → Came (State × ℕ)
+abbrev pub fed : Fed → Came (SoFar × ℕ)
 fed (F.Rows state wrote) = came (state, wrote)
 fed F.Full = full
 fed F.Many = many
 fed (F.Refused r) = turnedBy r
 
-abbrev pub stateOf : Machine → State
+abbrev pub stateOf : Machine → SoFar
 stateOf m = record { held = m .held; cr = m .cr; loaded = m .loaded; refused = m .refused }
 
-abbrev pub cameByValue : Came Machine → Came (State × ℕ)
+abbrev pub cameByValue : Came Machine → Came (SoFar × ℕ)
 cameByValue (came m) = came (stateOf m, length (m .text))
 cameByValue (turned n l) = turned n l
 cameByValue many = many
@@ -71,13 +72,13 @@ textAfter many = []
 textAfter full = []
 
 -- how many bytes of a buffer an answer speaks of
-abbrev pub wrote : Came (State × ℕ) → ℕ
+abbrev pub wrote : Came (SoFar × ℕ) → ℕ
 wrote (came p) = p .1
 wrote (turned n l) = 0
 wrote many = 0
 wrote full = 0
 
-pub record Feeds (state : State) (line chunk out : List ℕ) (r : Fed) (line′ out′ : List ℕ) : Type 0 where
+pub record Feeds (state : SoFar) (line chunk out : List ℕ) (r : Fed) (line′ out′ : List ℕ) : Type 0 where
   pub answer : fed r ≡ cameByValue (feedOf state line chunk out)
   pub kept : line′ ≡ lineAfter (feedOf state line chunk out) line
   pub rows : out′ ≡ writtenOf out 0 (textAfter (feedOf state line chunk out))
@@ -85,16 +86,16 @@ pub record Feeds (state : State) (line chunk out : List ℕ) (r : Fed) (line′ 
   pub within : wrote (fed r) ≤ length out
 
 -- ---- private functions: a chunk whose rows have room, and what was taken
-pub record Ready (state : State) (line chunk out : List ℕ) : Type 0 where
+pub record Ready (state : SoFar) (line chunk out : List ℕ) : Type 0 where
   pub size : length line ≡ 256
   pub counts : state .loaded + state .refused + ends chunk < 2 ^ 64
   pub room : 32 * ends chunk ≤ length out
 
-pub record Takes (state : State) (line chunk out : List ℕ) (r : Fed) (line′ out′ : List ℕ) : Type 0 where
+pub record Takes (state : SoFar) (line chunk out : List ℕ) (r : Fed) (line′ out′ : List ℕ) : Type 0 where
   pub answer : r ≡ F.Rows (stateOf (run (at state line []) chunk)) (length (run (at state line []) chunk .text))
   pub kept : line′ ≡ run (at state line []) chunk .line
   pub rows : out′ ≡ writtenOf out 0 (run (at state line []) chunk .text)
   pub within : length (run (at state line []) chunk .text) ≤ length out
 
-abbrev pub MakesState : ℕ → Bool → ℕ → ℕ → State → Type 0
+abbrev pub MakesState : ℕ → Bool → ℕ → ℕ → SoFar → Type 0
 MakesState held ends loaded others r = r ≡ record { held = held; cr = ends; loaded = loaded; refused = others }

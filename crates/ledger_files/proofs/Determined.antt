@@ -2,7 +2,7 @@
 use mathlib.Core.Path.{_≡_, refl, sym, ap, _∙_}
 use mathlib.Core.List.{List, [], _∷_}
 use Prim.Native.Nat.{ℕ}
-use Rattle.ledger_feed.specs.declared.State.{State}
+use Rattle.ledger_feed.specs.declared.SoFar.{SoFar}
 use Rattle.ledger_files.specs.Files.{fedAfter, EndsFile}
 use Rattle.ledger_files.specs.declared.Ending.{Ending}
 use Rattle.ledger_files.specs.declared.Ending.the-variants as C
@@ -18,5 +18,5 @@ back C.Nothing = refl
 back C.Lf = refl
 back C.CrLf = refl
 
-pub closing : (state : State) (r s : Ending) → EndsFile state r → EndsFile state s → r ≡ s
+pub closing : (state : SoFar) (r s : Ending) → EndsFile state r → EndsFile state s → r ≡ s
 closing state r s p q = sym (back r) ∙ ap read-back (p ∙ sym q) ∙ back s

@@ -3,7 +3,7 @@ use mathlib.Core.Path.{_≡_, refl}
 use mathlib.Core.List.{List, [], _∷_}
 use Prim.Native.Nat.{ℕ}
 use Rattle.text_in.specs.Text.{text}
-use Rattle.ledger_whole.specs.Ledger.{endsInCR, linesFrom}
+use Rattle.line_cut.specs.Lines.{endsInCR, linesFrom}
 use Rattle.ledger_files.specs.Files.{unfinishedFrom, fedOf, linesOfAll}
 
 four : List (List ℕ)

@@ -9,10 +9,12 @@ use lib.ListN.{length, take, length-append}
 use lib.Seq.{take-append-seam}
 use borrow.Author.Tests.{lt-ltb, le-ltb}
 use Rattle.text_in.specs.Text.{cr}
-use Rattle.ledger_feed.specs.Machine.{lf, Machine, at, run, close, push, bareOf}
-use Rattle.ledger_whole.specs.Ledger.{endsInCR, withoutCR, atEnd, linesFrom, linesOf, rowsFrom, totalsOf, ledgerOf}
+use Rattle.line_cut.specs.Lines.{lf, endsInCR, withoutCR, atEnd, linesFrom, linesOf}
+use Rattle.line_cut.specs.Cut.{Open, lineEmptied, pushed, bareOf, CutSoFar, runBy}
+use Rattle.line_cut.proofs.Views.{View, view-none, view-push}
+use Rattle.ledger_feed.specs.Machine.{at, openOf, keptOf, closeRow}
+use Rattle.ledger_whole.specs.Ledger.{rowsFrom, totalsOf, ledgerOf}
 use Rattle.ledger_whole.specs.Calls.{Call, Last, fresh}
-use Rattle.ledger_whole.proofs.Views.{View, view-none, view-push}
 use Rattle.ledger_whole.proofs.Cut.{ledger}
 use Rattle.ledger_files.specs.Files.{closingBytes, unfinishedFrom, closed, fedOf, linesOfAll, Files, Closed}
 use Rattle.ledger_files.specs.declared.Ending.{Ending}
@@ -78,21 +80,27 @@ files line all calls last = record {
 }
 
 -- ---- what the state tells of the file
-view-run : (m : Machine) (l s : List ℕ) → View m l → View (run m s) (unfinishedFrom l s)
-unfolding run unfinishedFrom
-view-run m l [] v = v
-view-run m l (b ∷ s) v =
-    go (eqb b lf) (view-run (close m (bareOf (m .held) (m .cr))) [] s (view-none (close m (bareOf (m .held) (m .cr))) refl refl (v .size)))
-    (view-run (push m b) (l ++ (b ∷ [])) s (view-push m l b v))
+view-run : {S : Type 0} (close : S → List ℕ → ℕ → S) (o : Open) (s : S) (l t : List ℕ) → View o l → View (runBy close o s t .left) (unfinishedFrom l t)
+unfolding runBy unfinishedFrom
+view-run close o s l [] v = v
+view-run {S} close o s l (b ∷ t) v =
+    go (eqb b lf) (view-run close (lineEmptied o) (close s (o .line) (bareOf (o .held) (o .cr))) [] t (view-none (lineEmptied o) refl refl (v .size)))
+    (view-run close (pushed o b) s (l ++ (b ∷ [])) t (view-push o l b v))
   where
-    go : (t : Bool) → View (run (close m (bareOf (m .held) (m .cr))) s) (unfinishedFrom [] s) → View (run (push m b) s) (unfinishedFrom (l ++ (b ∷ [])) s)
-        → View (run (cond t (close m (bareOf (m .held) (m .cr))) (push m b)) s) (cond t (unfinishedFrom [] s) (unfinishedFrom (l ++ (b ∷ [])) s))
+    e : CutSoFar S
+    e = runBy close (lineEmptied o) (close s (o .line) (bareOf (o .held) (o .cr))) t
+
+    f : CutSoFar S
+    f = runBy close (pushed o b) s t
+
+    go : (u : Bool) → View (e .left) (unfinishedFrom [] t) → View (f .left) (unfinishedFrom (l ++ (b ∷ [])) t)
+        → View (cond u e f .left) (cond u (unfinishedFrom [] t) (unfinishedFrom (l ++ (b ∷ [])) t))
     go true p q = p
     go false p q = q
 
-held-some : (m : Machine) (l : List ℕ) → View m l → ltb 0 (m .held) ≡ ltb 0 (length l)
-held-some m [] v = le-ltb 0 (m .held) (omega (arith, v .count)) ∙ sym (le-ltb 0 0 (omega arith))
-held-some m (b ∷ l) v = lt-ltb 0 (m .held) (omega (arith, v .count)) ∙ sym (some-bytes b l)
+held-some : (o : Open) (l : List ℕ) → View o l → ltb 0 (o .held) ≡ ltb 0 (length l)
+held-some o [] v = le-ltb 0 (o .held) (omega (arith, v .count)) ∙ sym (le-ltb 0 0 (omega arith))
+held-some o (b ∷ l) v = lt-ltb 0 (o .held) (omega (arith, v .count)) ∙ sym (some-bytes b l)
 
 -- ---- what was fed before leaves nothing unfinished
 unfinished-append : (l s t : List ℕ) → unfinishedFrom l (s ++ t) ≡ unfinishedFrom (unfinishedFrom l s) t
@@ -127,11 +135,11 @@ fed-none (file ∷ all) =
 pub file-closed : (line : List ℕ) (before : List (List ℕ)) (file : List ℕ) (r : Ending) → Closed line before file r
 file-closed line before file r = record {
   closing = λ size e.
-      let m = run (at fresh line []) (fedOf before ++ file) in
+      let o : Open = runBy closeRow (openOf (at fresh line [])) (keptOf (at fresh line [])) (fedOf before ++ file) .left in
       let l : List ℕ = unfinishedFrom [] (fedOf before ++ file) in
-      let v = view-run (at fresh line []) [] (fedOf before ++ file) (view-none (at fresh line []) refl refl size) in
+      let v = view-run closeRow (openOf (at fresh line [])) (keptOf (at fresh line [])) [] (fedOf before ++ file) (view-none (openOf (at fresh line [])) refl refl size) in
       let is : l ≡ unfinishedFrom [] file = unfinished-append [] (fedOf before) file ∙ ap (λ (x : List ℕ). unfinishedFrom x file) (fed-none before) in
-      ap (λ (x : List ℕ). file ++ x) (e ∙ ap₂ closingBytes (held-some m l v) (v .ends) ∙ ap (λ (x : List ℕ). ending x) is);
+      ap (λ (x : List ℕ). file ++ x) (e ∙ ap₂ closingBytes (held-some o l v) (v .ends) ∙ ap (λ (x : List ℕ). ending x) is);
 }
 
 -- ---- by the tests that the code makes

@@ -6,10 +6,11 @@ use Prim.Native.Nat.{ℕ, _^_, _<_}
 use lib.Dec.{eqb, ltb}
 use lib.ListN.{length}
 use Rattle.text_in.specs.Text.{cr}
-use Rattle.ledger_feed.specs.Machine.{lf, at, run}
+use Rattle.line_cut.specs.Lines.{lf, endsInCR, linesOf}
+use Rattle.ledger_feed.specs.Machine.{at, run}
 use Rattle.ledger_feed.specs.Promises.{stateOf}
-use Rattle.ledger_feed.specs.declared.State.{State}
-use Rattle.ledger_whole.specs.Ledger.{endsInCR, linesOf, rowsFrom, totalsOf}
+use Rattle.ledger_feed.specs.declared.SoFar.{SoFar}
+use Rattle.ledger_whole.specs.Ledger.{rowsFrom, totalsOf}
 use Rattle.ledger_whole.specs.Calls.{Call, Last, CallsMade, Roomy, allWritten, input, fresh}
 use Rattle.ledger_files.specs.declared.Ending.{Ending}
 use Rattle.ledger_files.specs.declared.Ending.the-variants as C
@@ -23,7 +24,7 @@ fedAfter C.Nothing = []
 fedAfter C.Lf = lf ∷ []
 fedAfter C.CrLf = cr ∷ (lf ∷ [])
 
-abbrev pub EndsFile : State → Ending → Type 0
+abbrev pub EndsFile : SoFar → Ending → Type 0
 EndsFile state r = fedAfter r ≡ closingBytes (ltb 0 (state .held)) (state .cr)
 
 -- what a file leaves unfinished: the bytes after its last LF, with a text that was read before

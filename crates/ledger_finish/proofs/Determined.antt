@@ -5,7 +5,7 @@ use mathlib.Core.List.{List}
 use Prim.Native.Nat.{ℕ}
 use Rattle.refusal.proofs.Paper.{one, retract, ofNumber, number-back}
 use Rattle.ledger_feed.specs.Promises.{Came, turned, many, full, came}
-use Rattle.ledger_feed.specs.declared.State.{State}
+use Rattle.ledger_feed.specs.declared.SoFar.{SoFar}
 use Rattle.ledger_finish.specs.Promises.{finishPaper, Finishes}
 use Rattle.ledger_finish.specs.declared.Finished.{Finished}
 use Rattle.ledger_finish.specs.declared.Finished.the-variants as E
@@ -23,6 +23,6 @@ finished-back E.Full = refl
 finished-back E.Many = refl
 finished-back (E.Refused q) = ap E.Refused (number-back q)
 
-pub finish : (state : State) (line out : List ℕ) (r s : Finished) (out₁ out₂ : List ℕ)
+pub finish : (state : SoFar) (line out : List ℕ) (r s : Finished) (out₁ out₂ : List ℕ)
     → Finishes state line out r out₁ → Finishes state line out s out₂ → (r ≡ s) × (out₁ ≡ out₂)
 finish state line out r s out₁ out₂ p q = (retract finishPaper finishedFrom finished-back r s (one (p .answer) (q .answer)), one (p .rows) (q .rows))

@@ -16,11 +16,11 @@ use Rattle.text_out.specs.declared.Placed.the-variants.{At, Full}
 use Rattle.text_out.proofs.Added.{adds-then}
 use Rattle.ledger_totals.specs.Totals.{lastRow}
 use Rattle.ledger_totals.proofs.Fits.{fits-last}
-use Rattle.ledger_close.specs.Ended.{saidOf}
+use Rattle.line_held.specs.Held.{saidOf}
 use Rattle.ledger_close.proofs.Closed.{said-32}
 use Rattle.ledger_feed.specs.Machine.{Machine, at, close, tally}
 use Rattle.ledger_feed.specs.Promises.{Came, turnedBy, many, full, came}
-use Rattle.ledger_feed.specs.declared.State.{State}
+use Rattle.ledger_feed.specs.declared.SoFar.{SoFar}
 use Rattle.ledger_feed.proofs.Counted.{tally-both}
 use Rattle.ledger_feed.proofs.Doors.{written-nothing, fit-shape, fit-many, fit-full, fit-came}
 use Rattle.ledger_finish.specs.Last.{totals, finished}
@@ -47,11 +47,11 @@ pub unwritten : (old : List ℕ) (at : ℕ) (text : List ℕ) → roomFor old at
 unwritten old at text e = rw e
 
 -- ---- the last rows
-pub finished-none : (state : State) (line : List ℕ) → state .held ≡ 0 → lastRow (state .loaded + state .refused) (state .loaded) (state .refused) ≡ finished (at state line [])
+pub finished-none : (state : SoFar) (line : List ℕ) → state .held ≡ 0 → lastRow (state .loaded + state .refused) (state .loaded) (state .refused) ≡ finished (at state line [])
 unfolding finished
 finished-none state line e = rw (le-ltb 0 (state .held) (omega arith))
 
-module _ (state : State) (line : List ℕ) (some : state .held ≡ 0 → ⊥) (t : Bool) (is : t ≡ isLoaded (saidOf line (state .held))) where
+module _ (state : SoFar) (line : List ℕ) (some : state .held ≡ 0 → ⊥) (t : Bool) (is : t ≡ isLoaded (saidOf line (state .held))) where
   finished-some : rowOf (state .loaded + state .refused + 1) (saidOf line (state .held)) ++ lastRow (state .loaded + state .refused + 1) (tally (state .loaded) t) (tally (state .refused) (not t))
       ≡ finished (at state line [])
   unfolding finished
@@ -66,10 +66,10 @@ module _ (state : State) (line : List ℕ) (some : state .held ≡ 0 → ⊥) (t
       (adds-then first second
       (omega (arith, said-32 (state .loaded + state .refused + 1) line (state .held), fits-last (state .loaded + state .refused + 1) (tally (state .loaded) t) (tally (state .refused) (not t)))))
 
-pub one-unfinished : (state : State) → (state .held ≡ 0 → ⊥) → lastLines state ≡ state .loaded + state .refused + 1
+pub one-unfinished : (state : SoFar) → (state .held ≡ 0 → ⊥) → lastLines state ≡ state .loaded + state .refused + 1
 one-unfinished state some = rw (lt-ltb 0 (state .held) (omega arith))
 
-pub finished-116 : (state : State) (line : List ℕ) → 0 + length (finished (at state line [])) ≤ 116
+pub finished-116 : (state : SoFar) (line : List ℕ) → 0 + length (finished (at state line [])) ≤ 116
 unfolding finished
 finished-116 state line = go (ltb 0 (state .held))
   where
@@ -84,7 +84,7 @@ finished-116 state line = go (ltb 0 (state .held))
     go false = omega (arith, fits-last (m .loaded + m .refused) (m .loaded) (m .refused))
 
 -- ---- finish
-module _ (state : State) (line out : List ℕ) where
+module _ (state : SoFar) (line out : List ℕ) where
   last : List ℕ
   last = finished (at state line [])
 

@@ -13,13 +13,14 @@ use Rattle.score.specs.Score.{scoreOf}
 use Rattle.text_out.specs.Text.{digitsUpTo}
 use Rattle.ledger_row.specs.Row.{loadedRow, refusedRow}
 use Rattle.ledger_totals.specs.Totals.{lastRow}
+use Rattle.line_cut.specs.Cut.{runBy}
 use Rattle.ledger_feed.specs.Machine.{run}
 use Rattle.ledger_feed.proofs.Examples.{long}
 use Rattle.ledger_finish.specs.Last.{finished}
 
 -- over a buffer that held other bytes: the CR of a last line with no LF is kept, and makes 257 bytes of 256
 written : List ℕ → List ℕ
-unfolding run finished lineOf fieldsSay every holds before after without withoutLast trim placeIn areRanks stacked scoreOf tabulate bitboardsOf loadedRow refusedRow lastRow digitsUpTo
+unfolding runBy finished lineOf fieldsSay every holds before after without withoutLast trim placeIn areRanks stacked scoreOf tabulate bitboardsOf loadedRow refusedRow lastRow digitsUpTo
 written input = finished (run (record { line = replicate 256 7; held = 0; cr = false; loaded = 0; refused = 0; text = [] }) input)
 
 boundaries :

@@ -8,7 +8,7 @@ use lib.ListN.{length}
 use Rattle.text_out.specs.Text.{writtenOf, roomFor}
 use Rattle.ledger_feed.specs.Machine.{at}
 use Rattle.ledger_feed.specs.Promises.{Came, turned, turnedBy, many, full, came, fit}
-use Rattle.ledger_feed.specs.declared.State.{State}
+use Rattle.ledger_feed.specs.declared.SoFar.{SoFar}
 use Rattle.ledger_finish.specs.Last.{finished}
 use Rattle.ledger_finish.specs.declared.Finished.{Finished}
 use Rattle.ledger_finish.specs.declared.Finished.the-variants as E
@@ -17,11 +17,11 @@ use Rattle.ledger_finish.specs.declared.Finished.the-variants as E
 abbrev pub unfinished : ℕ → ℕ
 unfinished held = cond (ltb 0 held) 1 0
 
-abbrev pub lastLines : State → ℕ
+abbrev pub lastLines : SoFar → ℕ
 lastLines state = state .loaded + state .refused + unfinished (state .held)
 
 -- room for what is written
-abbrev pub finishOf : State → List ℕ → List ℕ → Came (List ℕ)
+abbrev pub finishOf : SoFar → List ℕ → List ℕ → Came (List ℕ)
 finishOf state line out =
     let text : List ℕ = finished (at state line []) in
     fit line (lastLines state) (roomFor out 0 text) text
@@ -50,7 +50,7 @@ lastWrote (turned n l) = 0
 lastWrote many = 0
 lastWrote full = 0
 
-pub record Finishes (state : State) (line out : List ℕ) (r : Finished) (out′ : List ℕ) : Type 0 where
+pub record Finishes (state : SoFar) (line out : List ℕ) (r : Finished) (out′ : List ℕ) : Type 0 where
   pub answer : finishPaper r ≡ lengthOf (finishOf state line out)
   pub rows : out′ ≡ writtenOf out 0 (lastText (finishOf state line out))
   pub within : lastWrote (finishPaper r) ≤ length out

@@ -7,7 +7,7 @@ ghost use Rattle.text_out.specs.Text.{Adds};
 ghost use Rattle.ledger_feed.specs.Machine.{at};
 ghost use Rattle.ledger_finish.specs.Last.{finished};
 ghost use Rattle.ledger_finish.specs.Promises.{unfinished, lastLines, Finishes};
-use ledger_feed::State;
+use ledger_feed::SoFar;
 use refusal::Refusal;
 use text_out::Placed;
 
@@ -30,7 +30,7 @@ fn more(held: usize) -> usize
 }
 
 // The row of the last line, if it has no LF, and the totals.
-fn last_rows(state: State, line: &[u8], out: &mut [u8]) -> usize
+fn last_rows(state: SoFar, line: &[u8], out: &mut [u8]) -> usize
     requires { ⌜ (116 ≤ length (now out)) × (lastLines state < 2 ^ 64) ⌝ }
     ensures { λ r. ⌜ Adds (now (out .entry)) 0 (finished (at state (now (line .entry)) [])) (now (out .exit)) r ⌝ }
 {
@@ -57,10 +57,10 @@ fn last_rows(state: State, line: &[u8], out: &mut [u8]) -> usize
 }
 
 // The end of the input: the row of a last line with no LF, and the totals.
-pub fn finish(state: State, line: &[u8], out: &mut [u8]) -> Finished
+pub fn finish(state: SoFar, line: &[u8], out: &mut [u8]) -> Finished
     ensures { λ r. ⌜ Finishes state (now (line .entry)) (now (out .entry)) r (now (out .exit)) ⌝ }
 {
-    if line.len() != ledger_feed::LINE {
+    if line.len() != line_cut::LINE {
         return Finished::Refused(Refusal::Shape);
     }
     if !ledger_feed::countable(state.loaded, state.refused, more(state.held)) {

@@ -5,18 +5,18 @@ use mathlib.Core.List.{List}
 use Prim.Native.Nat.{ℕ}
 use native.Mathlib.Omega.{arith}
 use lib.IntN.{ℤ}
-use Rattle.refusal.specs.Answer.{Answer, given, refused, refusalOf}
+use Rattle.refusal.specs.Answer.{Answer, given, refused}
 use Rattle.refusal.specs.Refusals.{numberOf}
 use Rattle.refusal.specs.declared.Refusal.{Refusal}
 use Rattle.refusal.proofs.Answers.{given-not}
 use Rattle.position_boards.specs.Boards.{bitboardsOf}
 use Rattle.position.specs.declared.State.{State}
 use Rattle.line_ranks.specs.Promises.{emptyBoard}
-use Rattle.line_parse.specs.Line.{Line, lineOf}
+use Rattle.line_parse.specs.Line.{Line}
 use Rattle.line_parse.specs.Promises.{paper, byValue}
-use Rattle.line.specs.Promises.{bitboardsAfter, Loads}
+use Rattle.line.specs.Promises.{bitboardsAfter}
+use Rattle.line_parse.specs.declared.Read.{Read}
 use Rattle.line_parse.specs.declared.Read.the-variants.{Position, Refused}
-use Rattle.line.specs.declared.inner.Loaded.{Loaded}
 use Rattle.score_taper.specs.Parts.{in16, pointsOf}
 use Rattle.score_taper.specs.declared.Side.{Side}
 use Rattle.score_taper.proofs.Sides.{given-short}
@@ -29,8 +29,9 @@ use Rattle.score.specs.Answers.{scored}
 use Rattle.score.specs.declared.Scored.{Scored}
 use Rattle.text_out.specs.Text.{Puts}
 use Rattle.text_out.specs.declared.Placed.{Placed}
-use Rattle.ledger_row.specs.Row.{rowBy, loadedRow, refusedRow}
+use Rattle.ledger_row.specs.Row.{saidRow, rowBy, loadedRow, refusedRow, isLoaded}
 use Rattle.ledger_row.specs.Promises.{PutsRow, Short}
+use Rattle.ledger_row.specs.declared.Row.{Row}
 
 -- ---- a score is short
 
@@ -51,27 +52,28 @@ score-short attack weight bbs side z e =
 pub scored-short : (attack : ℕ → ℕ → ℕ → ℕ → ℕ) (weight : ℕ → ℕ → ℕ → ℤ) (bbs : List ℕ) (side : ℕ) (r : Scored) → scored r ≡ scoreBy attack weight bbs side → Short r
 scored-short attack weight bbs side r e z q = score-short attack weight bbs side z (sym (ap scored q) ∙ e)
 
--- ---- the row of a line that is refused, and of one that is loaded
-module _ (rule : List ℕ → State → Answer Outcome) (number : ℕ) (line old new : List ℕ) (at : ℕ) (read : Loaded) (reads : Loads line read) where
-  pub row-refused : (q : Refusal) → read .answer ≡ Refused q → (p : Placed) → Puts old new at (refusedRow number (numberOf q)) p
-      → PutsRow old new at (lineOf line) (rowBy rule number (lineOf line)) (record { placed = p; loaded = false })
-  row-refused q told p h = go (lineOf line) (sym (ap paper told) ∙ reads .answer)
-    where
-      go : (a : Answer Line) → refusalOf q ≡ byValue a → PutsRow old new at a (rowBy rule number a) (record { placed = p; loaded = false })
-      go (given l) e = given-not (sym e)
-      go (refused n v) e = record { puts = subst (λ (k : ℕ). Puts old new at (refusedRow number k) p) (cc e) h; loaded = refl }
+-- ---- the row of what was refused, and of what was loaded
+module _ (rule : List ℕ → State → Answer Outcome) (number : ℕ) (bitboards old new : List ℕ) (at : ℕ) (read : Read) where
+  abbrev PutsIt : Read → Row → Type 0
+  PutsIt said r = PutsRow old new at (paper said) (saidRow rule number bitboards (paper said)) r
 
-  pub row-loaded : (state : State) (half : ℕ) → read .answer ≡ Position state half → (a : Answer Outcome) → a ≡ rule (read .bitboards) state
-      → (p : Placed) → Puts old new at (loadedRow number half a) p
-      → PutsRow old new at (lineOf line) (rowBy rule number (lineOf line)) (record { placed = p; loaded = true })
-  row-loaded state half told a s p h = go (lineOf line) (sym (ap paper told) ∙ reads .answer) (reads .boards)
-    where
-      go : (b : Answer Line) → given (state, half) ≡ byValue b → read .bitboards ≡ bitboardsAfter b (bitboardsOf emptyBoard)
-          → PutsRow old new at b (rowBy rule number b) (record { placed = p; loaded = true })
-      go (refused n v) e f = given-not e
-      go (given l) e f =
-          let both : _≡_ {A = State × ℕ} (state, half) (l .state, l .half) = cc in
-          let d : state ≡ l .state = ap (λ (x : State × ℕ). x .0) both in
-          let k : half ≡ l .half = ap (λ (x : State × ℕ). x .1) both in
-          let g : a ≡ rule (bitboardsOf (l .board)) (l .state) = s ∙ ap₂ rule f d in
-          record { puts = subst (λ (t : List ℕ). Puts old new at t p) (ap₂ (loadedRow number) k g) h; loaded = refl }
+  pub row-refused : (q : Refusal) → read ≡ Refused q → (p : Placed) → Puts old new at (refusedRow number (numberOf q)) p
+      → PutsIt read (record { placed = p; loaded = false })
+  row-refused q told p h = subst (λ (x : Read). PutsIt x (record { placed = p; loaded = false })) (sym told) (record { puts = h; loaded = refl })
+
+  pub row-loaded : (state : State) (half : ℕ) → read ≡ Position state half → (a : Answer Outcome) → a ≡ rule bitboards state
+      → (p : Placed) → Puts old new at (loadedRow number half a) p → PutsIt read (record { placed = p; loaded = true })
+  row-loaded state half told a s p h =
+      subst (λ (x : Read). PutsIt x (record { placed = p; loaded = true })) (sym told)
+      (record { puts = subst (λ (b : Answer Outcome). Puts old new at (loadedRow number half b) p) s h; loaded = refl })
+
+-- ---- what was read of a line: its row is the line's
+pub row-read : (rule : List ℕ → State → Answer Outcome) (number : ℕ) (a : Answer Line) (old new : List ℕ) (at : ℕ) (read : Read) (bitboards : List ℕ) (r : Row)
+    → paper read ≡ byValue a → bitboards ≡ bitboardsAfter a (bitboardsOf emptyBoard)
+    → PutsRow old new at (paper read) (saidRow rule number bitboards (paper read)) r → PutsRow old new at a (rowBy rule number a) r
+row-read rule number (given l) old new at read bitboards r e f h =
+    let t : saidRow rule number bitboards (paper read) ≡ rowBy rule number (given l) = ap₂ (saidRow rule number) f e in
+    record { puts = subst (λ (u : List ℕ). Puts old new at u (r .placed)) t (h .puts); loaded = h .loaded ∙ ap isLoaded e }
+row-read rule number (refused n v) old new at read bitboards r e f h =
+    let t : saidRow rule number bitboards (paper read) ≡ rowBy rule number (refused n v) = ap (saidRow rule number bitboards) e in
+    record { puts = subst (λ (u : List ℕ). Puts old new at u (r .placed)) t (h .puts); loaded = h .loaded ∙ ap isLoaded e }

@@ -4,6 +4,7 @@ use mathlib.Core.List.{List, [], _++_}
 use Prim.Native.Nat.{ℕ}
 use Rattle.refusal.specs.Answer.{Answer, given, refused}
 use Rattle.position_boards.specs.Boards.{bitboardsOf}
+use Rattle.position.specs.declared.State.{State}
 use Rattle.text_in.specs.Text.{text}
 use Rattle.line_parse.specs.Line.{Line}
 use Rattle.score_verdict.specs.Verdict.{lost, won, drawn, none}
@@ -37,16 +38,21 @@ refusedRow number refusal = spaced number ++ (text "refused " ++ (decimalOf refu
 unfoldable pub loadedRow : ℕ → ℕ → Answer Outcome → List ℕ
 loadedRow number half scored = spaced number ++ (spaced half ++ (shownOf scored ++ text "\n"))
 
--- the row of a line, by what the line says and by any rule of the score
+-- the row of what a reader said: the state and the half points, with the position's bitboards beside them, or a refusal; by any rule of the score
+abbrev pub saidRow : (List ℕ → State → Answer Outcome) → ℕ → List ℕ → Answer (State × ℕ) → List ℕ
+saidRow rule number bitboards (given said) = loadedRow number (said .1) (rule bitboards (said .0))
+saidRow rule number bitboards (refused n beside) = refusedRow number n
+
+-- the row of a line, by what the line says
 abbrev pub rowBy : (List ℕ → State → Answer Outcome) → ℕ → Answer Line → List ℕ
-rowBy rule number (given l) = loadedRow number (l .half) (rule (bitboardsOf (l .board)) (l .state))
-rowBy rule number (refused n beside) = refusedRow number n
+rowBy rule number (given l) = saidRow rule number (bitboardsOf (l .board)) (given (l .state, l .half))
+rowBy rule number (refused n beside) = saidRow rule number [] (refused n beside)
 
 -- the row by 01's score
 abbrev pub rowOf : ℕ → Answer Line → List ℕ
 rowOf = rowBy scoreOf
 
--- a line that gets a row with half points, `over` too; the others are refused
-abbrev pub isLoaded : Answer Line → Bool
-isLoaded (given l) = true
+-- what gets a row with half points, `over` too; the others are refused
+abbrev pub isLoaded : {A : Type 0} → Answer A → Bool
+isLoaded (given a) = true
 isLoaded (refused n beside) = false

@@ -5,7 +5,7 @@ ghost use lib.ListN.{length};
 ghost use Rattle.score.specs.Answers.{scored as Answers·scored};
 ghost use Rattle.text_out.specs.Text.{Puts, Adds};
 ghost use Rattle.ledger_row.specs.Row.{refusedRow, loadedRow};
-ghost use Rattle.ledger_row.specs.Promises.{PutsLine, PutsRefused, Short};
+ghost use Rattle.ledger_row.specs.Promises.{PutsSaid, PutsRefused, Short};
 use crate::Row;
 use crate::words::number;
 use crate::words::put;
@@ -66,27 +66,25 @@ pub fn refused(line: u64, refusal: Refusal, out: &mut [u8], at: usize) -> Placed
     text_out::put(out, at, &row[..end])
 }
 
-// The row of a line, by its bytes; the tables of the score are lent.
+// The row of what a reader said, whether of a line or of a record; the tables of the score are lent.
 pub fn row(
     line: u64,
-    bytes: &[u8],
+    read: Read,
+    bitboards: &[u64],
     out: &mut [u8],
     at: usize,
     pst: &[i8],
     tables: &[[u64; Square::COUNT]; ROWS],
 ) -> Row
-    ensures { λ r. ⌜ PutsLine (now (tables .entry)) (now (pst .entry)) (now (out .entry)) (now (out .exit)) at line (now (bytes .entry)) r ⌝ }
+    ensures { λ r. ⌜ PutsSaid (now (tables .entry)) (now (pst .entry)) (now (out .entry)) (now (out .exit)) at line read (now (bitboards .entry)) r ⌝ }
 {
-    let read = line::inner::read(bytes);
-    let answer = read.answer;
-    match answer {
+    match read {
         Read::Refused(refusal) => Row {
             placed: refused(line, refusal, out, at),
             loaded: false,
         },
         Read::Position(state, half) => {
-            let bitboards = read.bitboards;
-            let scored = score::inner::eval(&bitboards, state.side, pst, tables);
+            let scored = score::inner::eval(bitboards, state.side, pst, tables);
             Row {
                 placed: loaded(line, half, scored, out, at),
                 loaded: true,

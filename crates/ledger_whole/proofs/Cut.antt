@@ -1,5 +1,5 @@
 -- THE LEDGER, however it is cut: the calls of `feed` and `finish` write what the machine writes over the whole input. Assumes nothing.
-use mathlib.Core.Path.{_≡_, refl, sym, ap, ap₂, subst, _∙_}
+use mathlib.Core.Path.{_≡_, sym, ap, ap₂, subst, _∙_}
 use mathlib.Core.Bool.{Bool, true, false, cond, not}
 use mathlib.Core.List.{List, [], _∷_, _++_, append-assoc, append-nil}
 use Prim.Native.Nat.{ℕ, _+_, _*_, _^_, _≤_, _<_}
@@ -13,14 +13,18 @@ use Rattle.line_parse.specs.Line.{Line}
 use Rattle.ledger_row.specs.Row.{rowOf, isLoaded}
 use Rattle.text_out.specs.Text.{writtenOf, roomFor}
 use Rattle.text_out.proofs.Wrote.{written-front}
-use Rattle.ledger_close.specs.Ended.{saidOf}
-use Rattle.ledger_feed.specs.Machine.{lf, Machine, at, run, step, close, push, bareOf, tally, ends}
+use Rattle.ledger_totals.specs.Totals.{lastRow}
+use Rattle.line_cut.specs.Lines.{lf, ends}
+use Rattle.line_cut.specs.Cut.{Open, lineEmptied, pushed, bareOf, CutSoFar, runBy}
+use Rattle.line_cut.proofs.Machine.{run-append, run-told, run-size}
+use Rattle.line_cut.proofs.Counted.{ends-append}
+use Rattle.line_held.specs.Held.{saidOf}
+use Rattle.ledger_feed.specs.Machine.{Machine, Kept, at, openOf, keptOf, machineOf, closeRow, run, close, tally}
 use Rattle.ledger_feed.specs.Promises.{Came, came, feedOf, fed, cameByValue, lineAfter, textAfter, wrote, stateOf, Feeds}
-use Rattle.ledger_feed.specs.declared.State.{State}
+use Rattle.ledger_feed.specs.declared.SoFar.{SoFar}
 use Rattle.ledger_feed.specs.declared.Fed.{Fed}
 use Rattle.ledger_feed.specs.declared.Fed.the-variants as F
 use Rattle.ledger_feed.proofs.Counted.{tally-both}
-use Rattle.ledger_feed.proofs.Turn.{kept-size}
 use Rattle.ledger_feed.proofs.Doors.{fit-came}
 use Rattle.ledger_finish.specs.Last.{totals, finished}
 use Rattle.ledger_finish.specs.Promises.{lastLines, finishOf, finishPaper, lengthOf, lastText, Finishes}
@@ -31,49 +35,35 @@ use Rattle.ledger_whole.specs.Calls.{Call, Last, next, rowsOf, lastRowsO
 use Rattle.ledger_whole.specs.Whole.{Whole}
 use Rattle.ledger_whole.proofs.Machines.{linesIn, machine-ledger, machine-lines}
 
--- ---- one piece after another
-run-append : (m : Machine) (s t : List ℕ) → run m (s ++ t) ≡ run (run m s) t
-unfolding run
-run-append m [] t = refl
-run-append m (b ∷ s) t = run-append (step m b) s t
+-- ---- each call begins with no text: the texts that the calls write are joined
+abbrev shift : List ℕ → Kept → Kept
+shift t r = record { loaded = r .loaded; refused = r .refused; text = t ++ r .text }
 
--- each call begins with no text: the texts that the calls write are joined
+close-shift : (t : List ℕ) (r : Kept) (line : List ℕ) (size : ℕ) → closeRow (shift t r) line size ≡ shift t (closeRow r line size)
+close-shift t r line size =
+    let a : Answer Line = saidOf line size in
+    ap (λ (u : List ℕ). record { loaded = tally (r .loaded) (isLoaded a); refused = tally (r .refused) (not (isLoaded a)); text = u })
+    (append-assoc t (r .text) (rowOf (r .loaded + r .refused + 1) a))
+
 abbrev after : List ℕ → Machine → Machine
 after t m = record { line = m .line; held = m .held; cr = m .cr; loaded = m .loaded; refused = m .refused; text = t ++ m .text }
 
-close-after : (t : List ℕ) (m : Machine) (size : ℕ) → close (after t m) size ≡ after t (close m size)
-close-after t m size =
-    let a : Answer Line = saidOf (m .line) size in
-    ap (λ (u : List ℕ). record {
-      line = m .line;
-      held = 0;
-      cr = false;
-      loaded = tally (m .loaded) (isLoaded a);
-      refused = tally (m .refused) (not (isLoaded a));
-      text = u;
-    })
-    (append-assoc t (m .text) (rowOf (m .loaded + m .refused + 1) a))
-
-step-after : (x : Bool) (t : List ℕ) (m : Machine) (b : ℕ)
-    → cond x (close (after t m) (bareOf (m .held) (m .cr))) (push (after t m) b) ≡ after t (cond x (close m (bareOf (m .held) (m .cr))) (push m b))
-step-after true t m b = close-after t m (bareOf (m .held) (m .cr))
-step-after false t m b = refl
-
 run-after : (t : List ℕ) (m : Machine) (s : List ℕ) → run (after t m) s ≡ after t (run m s)
-unfolding run
-run-after t m [] = refl
-run-after t m (b ∷ s) = ap (λ (x : Machine). run x s) (step-after (eqb b lf) t m b) ∙ run-after t (step m b) s
+run-after t m s = ap machineOf (run-told (shift t) closeRow closeRow (close-shift t) (openOf m) (keptOf m) s)
 
 finished-after : (t : List ℕ) (m : Machine) → finished (after t m) ≡ t ++ finished m
 unfolding finished
 finished-after t m = go (ltb 0 (m .held))
   where
+    r : Kept
+    r = closeRow (keptOf m) (m .line) (m .held)
+
     go : (x : Bool)
         → cond x (close (after t m) (m .held)) (after t m) .text ++ totals (cond x (close (after t m) (m .held)) (after t m))
         ≡ t ++ (cond x (close m (m .held)) m .text ++ totals (cond x (close m (m .held)) m))
     go true =
-        ap (λ (n : Machine). n .text ++ totals n) (close-after t m (m .held))
-        ∙ append-assoc t (close m (m .held) .text) (totals (close m (m .held)))
+        ap (λ (x : Kept). x .text ++ lastRow (x .loaded + x .refused) (x .loaded) (x .refused)) (close-shift t (keptOf m) (m .line) (m .held))
+        ∙ append-assoc t (r .text) (totals (close m (m .held)))
     go false = append-assoc t (m .text) (totals m)
 
 -- a machine is what it has written, and the machine that has written nothing
@@ -84,43 +74,29 @@ split : (m : Machine) → m ≡ after (m .text) (quiet m)
 split m = ap (λ (t : List ℕ). record { line = m .line; held = m .held; cr = m .cr; loaded = m .loaded; refused = m .refused; text = t }) (sym (append-nil (m .text)))
 
 pieces : (m : Machine) (s t : List ℕ) → run m (s ++ t) ≡ after (run m s .text) (run (quiet (run m s)) t)
-pieces m s t = run-append m s t ∙ ap (λ (x : Machine). run x t) (split (run m s)) ∙ run-after (run m s .text) (quiet (run m s)) t
+pieces m s t =
+    ap machineOf (run-append closeRow (openOf m) (keptOf m) s t) ∙ ap (λ (x : Machine). run x t) (split (run m s)) ∙ run-after (run m s .text) (quiet (run m s)) t
 
--- ---- lines and the line buffer
-ends-append : (s t : List ℕ) → ends (s ++ t) ≡ ends s + ends t
-unfolding ends
-ends-append [] t = sym (zero-add (ends t))
-ends-append (b ∷ s) t = go (eqb b lf) (ends-append s t)
-  where
-    go : (x : Bool) → ends (s ++ t) ≡ ends s + ends t → cond x (ends (s ++ t) + 1) (ends (s ++ t)) ≡ cond x (ends s + 1) (ends s) + ends t
-    go true e = omega arith
-    go false e = e
-
-run-counts : (m : Machine) (s : List ℕ) → run m s .loaded + run m s .refused ≡ m .loaded + m .refused + ends s
-unfolding run ends
-run-counts m [] = sym (add-zero (m .loaded + m .refused))
-run-counts m (b ∷ s) = go (eqb b lf) (run-counts (close m (bareOf (m .held) (m .cr))) s) (run-counts (push m b) s)
+-- ---- how many lines were counted
+run-counts : (o : Open) (r : Kept) (s : List ℕ) → runBy closeRow o r s .kept .loaded + runBy closeRow o r s .kept .refused ≡ r .loaded + r .refused + ends s
+unfolding runBy ends
+run-counts o r [] = sym (add-zero (r .loaded + r .refused))
+run-counts o r (b ∷ s) = go (eqb b lf) (run-counts (lineEmptied o) (closeRow r (o .line) (bareOf (o .held) (o .cr))) s) (run-counts (pushed o b) r s)
   where
     a : Answer Line
-    a = saidOf (m .line) (bareOf (m .held) (m .cr))
+    a = saidOf (o .line) (bareOf (o .held) (o .cr))
+
+    e : CutSoFar Kept
+    e = runBy closeRow (lineEmptied o) (closeRow r (o .line) (bareOf (o .held) (o .cr))) s
+
+    f : CutSoFar Kept
+    f = runBy closeRow (pushed o b) r s
 
     go : (x : Bool)
-        → run (close m (bareOf (m .held) (m .cr))) s .loaded + run (close m (bareOf (m .held) (m .cr))) s .refused
-        ≡ tally (m .loaded) (isLoaded a) + tally (m .refused) (not (isLoaded a)) + ends s
-        → run (push m b) s .loaded + run (push m b) s .refused ≡ m .loaded + m .refused + ends s
-        → run (cond x (close m (bareOf (m .held) (m .cr))) (push m b)) s .loaded + run (cond x (close m (bareOf (m .held) (m .cr))) (push m b)) s .refused
-        ≡ m .loaded + m .refused + cond x (ends s + 1) (ends s)
-    go true p q = p ∙ (let both = tally-both (isLoaded a) (m .loaded) (m .refused) in omega arith)
-    go false p q = q
-
-run-size : (m : Machine) (s : List ℕ) → length (run m s .line) ≡ length (m .line)
-unfolding run
-run-size m [] = refl
-run-size m (b ∷ s) = go (eqb b lf) (run-size (close m (bareOf (m .held) (m .cr))) s) (run-size (push m b) s ∙ kept-size (ltb (m .held) 256) (m .line) (m .held) b)
-  where
-    go : (x : Bool) → length (run (close m (bareOf (m .held) (m .cr))) s .line) ≡ length (m .line) → length (run (push m b) s .line) ≡ length (m .line)
-        → length (run (cond x (close m (bareOf (m .held) (m .cr))) (push m b)) s .line) ≡ length (m .line)
-    go true p q = p
+        → e .kept .loaded + e .kept .refused ≡ tally (r .loaded) (isLoaded a) + tally (r .refused) (not (isLoaded a)) + ends s
+        → f .kept .loaded + f .kept .refused ≡ r .loaded + r .refused + ends s
+        → cond x e f .kept .loaded + cond x e f .kept .refused ≡ r .loaded + r .refused + cond x (ends s + 1) (ends s)
+    go true p q = p ∙ (let both = tally-both (isLoaded a) (r .loaded) (r .refused) in omega arith)
     go false p q = q
 
 -- ---- a call with room
@@ -129,10 +105,10 @@ taken out out′ text e h =
     ap (take (length text)) e ∙ ap (λ (n : ℕ). take n (writtenOf out 0 text)) (sym (zero-add (length text)))
     ∙ written-front out 0 text (let z : 0 + length text ≤ length out = omega arith in z)
 
-rows-of : (r : Fed) (state : State) (n : ℕ) → fed r ≡ came (state, n) → r ≡ F.Rows state n
+rows-of : (r : Fed) (state : SoFar) (n : ℕ) → fed r ≡ came (state, n) → r ≡ F.Rows state n
 rows-of (F.Rows s k) state n e =
-    let both : _≡_ {A = State × ℕ} (s, k) (state, n) = cc in
-    ap₂ F.Rows (ap (λ (p : State × ℕ). p .0) both) (ap (λ (p : State × ℕ). p .1) both)
+    let both : _≡_ {A = SoFar × ℕ} (s, k) (state, n) = cc in
+    ap₂ F.Rows (ap (λ (p : SoFar × ℕ). p .0) both) (ap (λ (p : SoFar × ℕ). p .1) both)
 rows-of F.Full state n e = absurd (let z : _≡_ {A = ℕ} 0 1 = cc in omega arith)
 rows-of F.Many state n e = absurd (let z : _≡_ {A = ℕ} 0 1 = cc in omega arith)
 rows-of (F.Refused q) state n e = absurd (let z : _≡_ {A = ℕ} 0 1 = cc in omega arith)
@@ -149,7 +125,7 @@ record Given (m : Machine) (r : Fed) (line′ out′ : List ℕ) : Type 0 where
   kept : line′ ≡ m .line
   rows : rowsOf r out′ ≡ m .text
 
-feed-given : (state : State) (line chunk out : List ℕ) (r : Fed) (line′ out′ : List ℕ) → Feeds state line chunk out r line′ out′
+feed-given : (state : SoFar) (line chunk out : List ℕ) (r : Fed) (line′ out′ : List ℕ) → Feeds state line chunk out r line′ out′
     → length line ≡ 256 → state .loaded + state .refused + ends chunk < 2 ^ 64 → 32 * ends chunk ≤ length out → Given (run (at state line []) chunk) r line′ out′
 feed-given state line chunk out r line′ out′ f size counts room =
     let m : Machine = run (at state line []) chunk in
@@ -166,7 +142,7 @@ feed-given state line chunk out r line′ out′ f size counts room =
           ∙ taken out out′ (m .text) (f .rows ∙ ap (λ (x : Came Machine). writtenOf out 0 (textAfter x)) e) h;
     }
 
-finish-given : (state : State) (line out : List ℕ) (r : Finished) (out′ : List ℕ) → Finishes state line out r out′
+finish-given : (state : SoFar) (line out : List ℕ) (r : Finished) (out′ : List ℕ) → Finishes state line out r out′
     → length line ≡ 256 → lastLines state < 2 ^ 64 → 116 ≤ length out → lastRowsOf r out′ ≡ finished (at state line [])
 finish-given state line out r out′ f size counts room =
     let t : List ℕ = finished (at state line []) in
@@ -180,23 +156,23 @@ finish-given state line out r out′ f size counts room =
 less : (a b c d : ℕ) (n : ℕ) → a ≡ b + (c + d) → a + n < 2 ^ 64 → b + c < 2 ^ 64
 less a b c d n e h = omega arith
 
-all : (state : State) (line : List ℕ) (calls : List Call) (last : Last) → length line ≡ 256 → Roomy calls last
+all : (state : SoFar) (line : List ℕ) (calls : List Call) (last : Last) → length line ≡ 256 → Roomy calls last
     → linesIn (run (at state line []) (input calls)) < 2 ^ 64 → CallsMade state line calls last
     → allWritten calls last ≡ finished (run (at state line []) (input calls))
-unfolding run input Roomy CallsMade allWritten
+unfolding runBy input Roomy CallsMade allWritten
 all state line [] last size room counts made = finish-given state line (last .out) (last .finished) (last .out′) made size counts room
 all state line (c ∷ cs) last size room counts made =
     let m : Machine = run (at state line []) (c .chunk) in
     let s : List ℕ = input cs in
     let cut : run (at state line []) (c .chunk ++ s) ≡ after (m .text) (run (quiet m) s) = pieces (at state line []) (c .chunk) s in
-    let total = run-counts (at state line []) (c .chunk ++ s) ∙ ap (λ (n : ℕ). state .loaded + state .refused + n) (ends-append (c .chunk) s) in
+    let total = run-counts (openOf (at state line [])) (keptOf (at state line [])) (c .chunk ++ s) ∙ ap (λ (n : ℕ). state .loaded + state .refused + n) (ends-append (c .chunk) s) in
     let g = feed-given state line (c .chunk) (c .out) (c .fed) (c .line′) (c .out′) (made .0) size
     (less _ (state .loaded + state .refused) (ends (c .chunk)) (ends s) _ total counts) (room .0) in
     let rest : CallsMade (stateOf m) (m .line) cs last =
     subst (λ (l : List ℕ). CallsMade (stateOf m) l cs last) (g .kept)
     (subst (λ (r : Fed). CallsMade (next r state) (c .line′) cs last) (g .answer) (made .1)) in
     ap₂ _++_ (g .rows)
-    (all (stateOf m) (m .line) cs last (run-size (at state line []) (c .chunk) ∙ size) (room .1) (subst (λ (n : ℕ). n < 2 ^ 64) (ap linesIn cut) counts) rest)
+    (all (stateOf m) (m .line) cs last (run-size closeRow (openOf (at state line [])) (keptOf (at state line [])) (c .chunk) ∙ size) (room .1) (subst (λ (n : ℕ). n < 2 ^ 64) (ap linesIn cut) counts) rest)
     ∙ sym (finished-after (m .text) (run (quiet m) s)) ∙ sym (ap finished cut)
 
 -- the claim, for every line buffer and all calls

@@ -7,12 +7,13 @@ use Rattle.laws.specs.Tables.{tabulate}
 use Rattle.text_in.specs.Text.{text, every, holds, before, after, without, withoutLast, trim, placeIn}
 use Rattle.line_ranks.specs.Ranks.{areRanks, stacked}
 use Rattle.line_parse.specs.Line.{fieldsSay, lineOf}
+use Rattle.line_cut.specs.Lines.{endsInCR, linesFrom, linesOf}
 use Rattle.position_boards.specs.Boards.{bitboardsOf}
 use Rattle.score.specs.Score.{scoreOf}
 use Rattle.text_out.specs.Text.{digitsUpTo}
 use Rattle.ledger_row.specs.Row.{loadedRow, refusedRow}
 use Rattle.ledger_totals.specs.Totals.{lastRow}
-use Rattle.ledger_whole.specs.Ledger.{endsInCR, linesFrom, linesOf, rowsFrom, loadedIn, refusedIn, ledgerOf}
+use Rattle.ledger_whole.specs.Ledger.{rowsFrom, loadedIn, refusedIn, ledgerOf}
 
 -- ---- document 01's collection and its whole output
 ledger : List ℕ → List ℕ

@@ -1,24 +1,28 @@
--- The machine over a whole input writes the ledger of its lines, and counts them. Assumes nothing.
+-- The machine over a whole input writes the ledger of its lines, and counts them: the ledger is one consumer of lines (line_cut/proofs/Folded).
+-- Assumes nothing.
 use mathlib.Core.Path.{_≡_, refl, sym, ap, _∙_}
 use mathlib.Core.Bool.{Bool, true, false, cond, not}
 use mathlib.Core.List.{List, [], _∷_, _++_, append-assoc}
-use Prim.Native.Nat.{ℕ, suc, _+_, _<_, min}
+use Prim.Native.Nat.{ℕ, suc, _+_}
 use native.Mathlib.Nat.{add-zero, zero-add}
 use native.Mathlib.Omega.{arith}
-use lib.Dec.{eqb}
+use lib.Dec.{ltb}
 use lib.ListN.{length}
-use borrow.Author.Tests.{lt-ltb, le-ltb}
 use Rattle.refusal.specs.Answer.{Answer}
 use Rattle.line_parse.specs.Line.{Line, lineOf}
 use Rattle.ledger_row.specs.Row.{rowOf, isLoaded}
 use Rattle.ledger_totals.specs.Totals.{lastRow}
-use Rattle.ledger_close.specs.Ended.{saidOf}
-use Rattle.ledger_feed.specs.Machine.{lf, Machine, run, close, push, bareOf, tally}
-use Rattle.ledger_whole.specs.Ledger.{withoutCR, atEnd, linesFrom, linesOf, rowsFrom, loadedIn, refusedIn, ledgerOf}
-use Rattle.ledger_finish.specs.Last.{finished}
+use Rattle.line_cut.specs.Lines.{linesOf, foldLines}
+use Rattle.line_cut.specs.Cut.{CutSoFar, runBy, endBy}
+use Rattle.line_cut.specs.Promises.{freshLine}
+use Rattle.line_cut.proofs.Folded.{folded}
+use Rattle.line_held.specs.Held.{saidOf}
+use Rattle.line_held.proofs.Said.{follows}
+use Rattle.ledger_feed.specs.Machine.{Machine, Kept, machineOf, rowMore, closeRow, run, close, tally}
+use Rattle.ledger_whole.specs.Ledger.{rowsFrom, loadedIn, refusedIn, ledgerOf}
+use Rattle.ledger_finish.specs.Last.{totals, finished}
 use Rattle.ledger_finish.specs.Promises.{unfinished}
 use Rattle.ledger_feed.proofs.Counted.{tally-both}
-use Rattle.ledger_whole.proofs.Views.{View, view-none, view-push, view-line, view-end}
 
 -- the rows and the totals that lines make, after so many loaded and refused
 abbrev rest : List ℕ → ℕ → ℕ → List (List ℕ) → List ℕ
@@ -51,39 +55,34 @@ rest-nil : (text : List ℕ) (loaded refused : ℕ) → text ++ lastRow (loaded 
 unfolding rowsFrom loadedIn refusedIn
 rest-nil text loaded refused = rw (add-zero (loaded + refused), add-zero loaded, add-zero refused)
 
-some-held : (n : ℕ) (x : ℕ) (l : List ℕ) → n ≡ min 258 (length (x ∷ l)) → 0 < n
-some-held n x l e = omega arith
+-- before any line
+abbrev none : Kept
+none = record { loaded = 0; refused = 0; text = [] }
 
-at-end : (m : Machine) (l : List ℕ) → View m l → finished m ≡ rest (m .text) (m .loaded) (m .refused) (atEnd l)
+-- ---- what a line does to what is kept, by the line itself
+abbrev rowLine : Kept → List ℕ → Kept
+rowLine r l = rowMore r (lineOf l)
+
+-- the rows so far, and the totals of the same lines
+abbrev closing : Kept → List ℕ
+closing r = r .text ++ lastRow (r .loaded + r .refused) (r .loaded) (r .refused)
+
+fold-rest : (r : Kept) (ls : List (List ℕ)) → closing (foldLines rowLine r ls) ≡ rest (r .text) (r .loaded) (r .refused) ls
+unfolding foldLines
+fold-rest r [] = rest-nil (r .text) (r .loaded) (r .refused)
+fold-rest r (l ∷ ls) = fold-rest (rowLine r l) ls ∙ rest-cons (r .text) (r .loaded) (r .refused) (lineOf l) l ls refl
+
+-- an unfinished line gets its row at the end
+finished-end : (r : CutSoFar Kept) → finished (machineOf r) ≡ closing (endBy closeRow r)
 unfolding finished
-at-end m [] v = rw (le-ltb 0 (m .held) (omega (arith, v .count))) (rest-nil (m .text) (m .loaded) (m .refused))
-at-end m (x ∷ l) v =
-    let a : Answer Line = saidOf (m .line) (m .held) in
-    rw (lt-ltb 0 (m .held) (some-held (m .held) x l (v .count)))
-    (rest-nil (m .text ++ rowOf (m .loaded + m .refused + 1) a) (tally (m .loaded) (isLoaded a)) (tally (m .refused) (not (isLoaded a)))
-    ∙ rest-cons (m .text) (m .loaded) (m .refused) a (x ∷ l) [] (view-end m (x ∷ l) v))
-
-fresh-view : (m : Machine) (size : ℕ) → length (m .line) ≡ 256 → View (close m size) []
-fresh-view m size h = view-none (close m size) refl refl h
-
-pub whole : (m : Machine) (l s : List ℕ) → View m l → finished (run m s) ≡ rest (m .text) (m .loaded) (m .refused) (linesFrom l s)
-unfolding run linesFrom
-whole m l [] v = at-end m l v
-whole m l (b ∷ s) v =
-    go (eqb b lf) (whole (push m b) (l ++ (b ∷ [])) s (view-push m l b v))
-    (whole (close m (bareOf (m .held) (m .cr))) [] s (fresh-view m (bareOf (m .held) (m .cr)) (v .size)))
+finished-end r = go (ltb 0 (r .left .held))
   where
-    a : Answer Line
-    a = saidOf (m .line) (bareOf (m .held) (m .cr))
+    m : Machine
+    m = machineOf r
 
-    go : (t : Bool)
-        → finished (run (push m b) s) ≡ rest (m .text) (m .loaded) (m .refused) (linesFrom (l ++ (b ∷ [])) s)
-        → finished (run (close m (bareOf (m .held) (m .cr))) s)
-        ≡ rest (m .text ++ rowOf (m .loaded + m .refused + 1) a) (tally (m .loaded) (isLoaded a)) (tally (m .refused) (not (isLoaded a))) (linesFrom [] s)
-        → finished (run (cond t (close m (bareOf (m .held) (m .cr))) (push m b)) s)
-        ≡ rest (m .text) (m .loaded) (m .refused) (cond t (withoutCR l ∷ linesFrom [] s) (linesFrom (l ++ (b ∷ [])) s))
-    go false p q = p
-    go true p q = q ∙ rest-cons (m .text) (m .loaded) (m .refused) a (withoutCR l) (linesFrom [] s) (view-line m l v)
+    go : (t : Bool) → cond t (close m (m .held)) m .text ++ totals (cond t (close m (m .held)) m) ≡ closing (cond t (closeRow (r .kept) (r .left .line) (r .left .held)) (r .kept))
+    go true = refl
+    go false = refl
 
 -- THE MACHINE: from nothing, whatever the buffer held
 abbrev pub begun : List ℕ → Machine
@@ -92,34 +91,33 @@ begun line = record { line = line; held = 0; cr = false; loaded = 0; refused = 0
 pub machine-ledger : (line s : List ℕ) → length line ≡ 256 → finished (run (begun line) s) ≡ ledgerOf s
 unfolding ledgerOf
 machine-ledger line s h =
-    whole (begun line) [] s (view-none (begun line) refl refl h)
-    ∙ rw (zero-add (length (linesFrom [] s)), zero-add (loadedIn (linesFrom [] s)), zero-add (refusedIn (linesFrom [] s)))
+    finished-end (runBy closeRow (freshLine line) none s) ∙ ap closing (folded closeRow rowLine (follows rowMore) line none s h) ∙ fold-rest none (linesOf s)
+    ∙ rw (zero-add (length (linesOf s)), zero-add (loadedIn (linesOf s)), zero-add (refusedIn (linesOf s)))
 
 -- ---- how many lines there are
 abbrev pub linesIn : Machine → ℕ
 linesIn m = m .loaded + m .refused + unfinished (m .held)
 
-count-end : (m : Machine) (l : List ℕ) → View m l → linesIn m ≡ m .loaded + m .refused + length (atEnd l)
-count-end m [] v = rw (le-ltb 0 (m .held) (omega (arith, v .count)))
-count-end m (x ∷ l) v = rw (lt-ltb 0 (m .held) (some-held (m .held) x l (v .count)))
+abbrev counted : Kept → ℕ
+counted r = r .loaded + r .refused
 
-count-lines : (m : Machine) (l s : List ℕ) → View m l → linesIn (run m s) ≡ m .loaded + m .refused + length (linesFrom l s)
-unfolding run linesFrom
-count-lines m l [] v = count-end m l v
-count-lines m l (b ∷ s) v =
-    go (eqb b lf) (count-lines (push m b) (l ++ (b ∷ [])) s (view-push m l b v))
-    (count-lines (close m (bareOf (m .held) (m .cr))) [] s (fresh-view m (bareOf (m .held) (m .cr)) (v .size)))
+lines-end : (r : CutSoFar Kept) → linesIn (machineOf r) ≡ counted (endBy closeRow r)
+lines-end r = go (ltb 0 (r .left .held))
   where
     a : Answer Line
-    a = saidOf (m .line) (bareOf (m .held) (m .cr))
+    a = saidOf (r .left .line) (r .left .held)
 
-    go : (t : Bool)
-        → linesIn (run (push m b) s) ≡ m .loaded + m .refused + length (linesFrom (l ++ (b ∷ [])) s)
-        → linesIn (run (close m (bareOf (m .held) (m .cr))) s) ≡ tally (m .loaded) (isLoaded a) + tally (m .refused) (not (isLoaded a)) + length (linesFrom [] s)
-        → linesIn (run (cond t (close m (bareOf (m .held) (m .cr))) (push m b)) s)
-        ≡ m .loaded + m .refused + length (cond t (withoutCR l ∷ linesFrom [] s) (linesFrom (l ++ (b ∷ [])) s))
-    go false p q = p
-    go true p q = q ∙ (let both = tally-both (isLoaded a) (m .loaded) (m .refused) in omega arith)
+    go : (t : Bool) → r .kept .loaded + r .kept .refused + cond t 1 0 ≡ counted (cond t (rowMore (r .kept) a) (r .kept))
+    go true = sym (tally-both (isLoaded a) (r .kept .loaded) (r .kept .refused))
+    go false = add-zero (r .kept .loaded + r .kept .refused)
+
+fold-count : (r : Kept) (ls : List (List ℕ)) → counted (foldLines rowLine r ls) ≡ counted r + length ls
+unfolding foldLines
+fold-count r [] = sym (add-zero (counted r))
+fold-count r (l ∷ ls) =
+    fold-count (rowLine r l) ls ∙ (let both = tally-both (isLoaded (lineOf l)) (r .loaded) (r .refused) in omega arith)
 
 pub machine-lines : (line s : List ℕ) → length line ≡ 256 → linesIn (run (begun line) s) ≡ length (linesOf s)
-machine-lines line s h = count-lines (begun line) [] s (view-none (begun line) refl refl h) ∙ zero-add (length (linesFrom [] s))
+machine-lines line s h =
+    lines-end (runBy closeRow (freshLine line) none s) ∙ ap counted (folded closeRow rowLine (follows rowMore) line none s h) ∙ fold-count none (linesOf s)
+    ∙ zero-add (length (linesOf s))

@@ -10,8 +10,8 @@ use lib.Seq.{take-append-seam}
 use borrow.Author.Tests.{eqb-true}
 use Rattle.line_parse.specs.Line.{lineOf}
 use Rattle.ledger_row.specs.Row.{rowOf, isLoaded}
-use Rattle.ledger_feed.specs.Machine.{lf}
-use Rattle.ledger_whole.specs.Ledger.{withoutCR, atEnd, linesFrom, linesOf, rowsFrom, loadedIn, refusedIn, totalsOf, ledgerOf}
+use Rattle.line_cut.specs.Lines.{lf, withoutCR, atEnd, linesFrom, linesOf}
+use Rattle.ledger_whole.specs.Ledger.{rowsFrom, loadedIn, refusedIn, totalsOf, ledgerOf}
 use Rattle.ledger_whole.specs.Whole.{rowList, joined, piecesFrom, endsInLF, lineIn, Once}
 
 rows-joined : (number : ℕ) (ls : List (List ℕ)) → rowsFrom number ls ≡ joined (rowList number ls)

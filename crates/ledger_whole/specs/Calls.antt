@@ -3,9 +3,9 @@ use mathlib.Core.Bool.{false}
 use mathlib.Core.List.{List, [], _∷_, _++_}
 use Prim.Native.Nat.{ℕ, _*_, _≤_}
 use lib.ListN.{length, take}
-use Rattle.ledger_feed.specs.Machine.{ends}
+use Rattle.line_cut.specs.Lines.{ends}
 use Rattle.ledger_feed.specs.Promises.{Feeds}
-use Rattle.ledger_feed.specs.declared.State.{State}
+use Rattle.ledger_feed.specs.declared.SoFar.{SoFar}
 use Rattle.ledger_feed.specs.declared.Fed.{Fed}
 use Rattle.ledger_feed.specs.declared.Fed.the-variants as F
 use Rattle.ledger_finish.specs.Promises.{Finishes}
@@ -27,7 +27,7 @@ pub record Last : Type 0 where
   pub out′ : List ℕ
 
 -- the state that a call hands on, and the rows that it wrote
-abbrev pub next : Fed → State → State
+abbrev pub next : Fed → SoFar → SoFar
 next (F.Rows state wrote) before = state
 next F.Full before = before
 next F.Many before = before
@@ -46,7 +46,7 @@ lastRowsOf E.Many out′ = []
 lastRowsOf (E.Refused r) out′ = []
 
 -- each call does what `feed` promises, from the state and the line buffer that the call before it left; then `finish`
-unfoldable pub CallsMade : State → List ℕ → List Call → Last → Type 0
+unfoldable pub CallsMade : SoFar → List ℕ → List Call → Last → Type 0
 CallsMade state line [] last = Finishes state line (last .out) (last .finished) (last .out′)
 CallsMade state line (c ∷ cs) last = Feeds state line (c .chunk) (c .out) (c .fed) (c .line′) (c .out′) × CallsMade (next (c .fed) state) (c .line′) cs last
 
@@ -66,5 +66,5 @@ Roomy [] last = 116 ≤ length (last .out)
 Roomy (c ∷ cs) last = (32 * ends (c .chunk) ≤ length (c .out)) × Roomy cs last
 
 -- before the first call
-abbrev pub fresh : State
+abbrev pub fresh : SoFar
 fresh = record { held = 0; cr = false; loaded = 0; refused = 0 }

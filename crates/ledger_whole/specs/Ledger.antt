@@ -1,40 +1,12 @@
 -- The ledger of a whole collection, by its lines (document 01, "A collection's line", "The ledger program"). Definitions only.
-use mathlib.Core.Bool.{Bool, false, cond}
+use mathlib.Core.Bool.{cond}
 use mathlib.Core.List.{List, [], _∷_, _++_}
-use Prim.Native.Nat.{ℕ, _+_, _-_}
-use lib.Dec.{eqb}
-use lib.ListN.{length, take}
+use Prim.Native.Nat.{ℕ, _+_}
+use lib.ListN.{length}
 use Rattle.line_parse.specs.Line.{lineOf}
-use Rattle.text_in.specs.Text.{cr}
+use Rattle.line_cut.specs.Lines.{linesOf}
 use Rattle.ledger_row.specs.Row.{rowOf, isLoaded}
 use Rattle.ledger_totals.specs.Totals.{lastRow}
-use Rattle.ledger_feed.specs.Machine.{lf}
-
--- the last byte is a CR
-unfoldable pub endsInCR : List ℕ → Bool
-endsInCR [] = false
-endsInCR (b ∷ []) = eqb b cr
-endsInCR (b ∷ (c ∷ s)) = endsInCR (c ∷ s)
-
--- "one CR before an LF is dropped"
-abbrev pub withoutCR : List ℕ → List ℕ
-withoutCR line = cond (endsInCR line) (take (length line - 1) line) line
-
--- "A line ends before LF or the end of input", where its CR is kept; "a final LF starts no further line"
-abbrev pub atEnd : List ℕ → List (List ℕ)
-atEnd [] = []
-atEnd (b ∷ s) = (b ∷ s) ∷ []
-
--- the lines of the input, of which the first one begins with a text that was read before
-unfoldable pub linesFrom : List ℕ → List ℕ → List (List ℕ)
-linesFrom begun [] = atEnd begun
-linesFrom begun (b ∷ s) =
-    let next : List (List ℕ) = linesFrom [] s in
-    let longer : List (List ℕ) = linesFrom (begun ++ (b ∷ [])) s in
-    cond (eqb b lf) (withoutCR begun ∷ next) longer
-
-abbrev pub linesOf : List ℕ → List (List ℕ)
-linesOf input = linesFrom [] input
 
 -- each line's row, numbered from the number given
 unfoldable pub rowsFrom : ℕ → List (List ℕ) → List ℕ

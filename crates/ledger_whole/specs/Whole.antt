@@ -7,8 +7,8 @@ use lib.Dec.{eqb}
 use lib.ListN.{length, take, getD}
 use Rattle.line_parse.specs.Line.{lineOf}
 use Rattle.ledger_row.specs.Row.{rowOf}
-use Rattle.ledger_feed.specs.Machine.{lf}
-use Rattle.ledger_whole.specs.Ledger.{withoutCR, atEnd, linesOf, loadedIn, refusedIn, ledgerOf, totalsOf}
+use Rattle.line_cut.specs.Lines.{lf, withoutCR, atEnd, linesOf}
+use Rattle.ledger_whole.specs.Ledger.{loadedIn, refusedIn, ledgerOf, totalsOf}
 use Rattle.ledger_whole.specs.Calls.{Call, Last, CallsMade, Roomy, allWritten, input, fresh}
 
 -- THE LEDGER: for every way the input is cut into chunks, whatever the line buffer held, all that is written is the ledger of the whole

@@ -1,7 +1,7 @@
 // Collections one after another on standard input, each ended by RS and fed byte by byte: the ledger of each. GS stands for a million
 // spaces. So ends of input, and lines longer than a file here should hold, are tried too.
 use ledger_feed::Fed;
-use ledger_feed::State;
+use ledger_feed::SoFar;
 use ledger_finish::Finished;
 
 const RS: u8 = 0x1e;
@@ -15,7 +15,7 @@ fn main() {
 
 // A proved loop has to end: the reads are counted, up to more than any run makes.
 fn write_ledgers(chunk: &mut [u8]) {
-    let mut line = [0u8; ledger_feed::LINE];
+    let mut line = [0u8; line_cut::LINE];
     let mut state = ledger_feed::start();
     let mut more = true;
     let mut reads: u32 = 0;
@@ -28,7 +28,7 @@ fn write_ledgers(chunk: &mut [u8]) {
     }
 }
 
-fn each(state: State, line: &mut [u8], bytes: &[u8]) -> State {
+fn each(state: SoFar, line: &mut [u8], bytes: &[u8]) -> SoFar {
     let mut now = state;
     let mut i = 0;
     while i < bytes.len() {
@@ -38,7 +38,7 @@ fn each(state: State, line: &mut [u8], bytes: &[u8]) -> State {
     now
 }
 
-fn one(state: State, line: &mut [u8], byte: u8) -> State {
+fn one(state: SoFar, line: &mut [u8], byte: u8) -> SoFar {
     if byte == RS {
         finish(state, line);
         return ledger_feed::start();
@@ -51,7 +51,7 @@ fn one(state: State, line: &mut [u8], byte: u8) -> State {
 }
 
 // A million spaces, a thousand at a time.
-fn spaces(state: State, line: &mut [u8]) -> State {
+fn spaces(state: SoFar, line: &mut [u8]) -> SoFar {
     let blank = [b' '; 1000];
     let mut now = state;
     let mut k: u32 = 0;
@@ -62,7 +62,7 @@ fn spaces(state: State, line: &mut [u8]) -> State {
     now
 }
 
-fn feed(state: State, line: &mut [u8], chunk: &[u8]) -> State {
+fn feed(state: SoFar, line: &mut [u8], chunk: &[u8]) -> SoFar {
     let mut out = [0u8; 32];
     match ledger_feed::feed(state, line, chunk, &mut out) {
         Fed::Rows(next, wrote) => {
@@ -75,7 +75,7 @@ fn feed(state: State, line: &mut [u8], chunk: &[u8]) -> State {
     }
 }
 
-fn finish(state: State, line: &[u8]) {
+fn finish(state: SoFar, line: &[u8]) {
     let mut out = [0u8; 116];
     if let Finished::Rows(wrote) = ledger_finish::finish(state, line, &mut out) {
         put(&out, wrote);

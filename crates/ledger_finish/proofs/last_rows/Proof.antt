@@ -9,7 +9,7 @@ use denote.Ref.{now}
 use Rattle.text_out.specs.Text.{Adds}
 use Rattle.text_out.proofs.Added.{adds-or}
 use Rattle.ledger_totals.specs.Totals.{lastRow}
-use Rattle.ledger_close.specs.Ended.{saidOf}
+use Rattle.line_held.specs.Held.{saidOf}
 use Rattle.ledger_close.proofs.Closed.{closed-adds}
 use Rattle.ledger_finish.proofs.Doors.{finished-none, finished-adds, one-unfinished}
 use Rattle.ledger_finish.proofs.last_rows.Statement.{statement}

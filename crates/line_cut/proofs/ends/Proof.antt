@@ -1,14 +1,14 @@
--- `ledger_feed::ends` meets its contract: the loop has counted what ended so far. Assumes nothing.
+-- `line_cut::ends` meets its contract: the loop has counted what ended so far. Assumes nothing.
 use mathlib.Core.Path.{_≡_}
 use mathlib.Core.List.{[], _∷_}
 use Prim.Native.Nat.{_≤_, _+_, _-_}
 use native.Mathlib.Omega.{arith}
 use borrow.Author.Needs.{needs}
 use lib.ListN.{length, drop, getD}
-use Rattle.ledger_feed.specs.Machine.{ends}
-use Rattle.ledger_feed.proofs.Counted.{ends-turn, ends-last, ends-le}
-use Rattle.ledger_feed.proofs.ends.Statement.{statement}
-use Rattle.ledger_feed.proofs.ends.Tie as tie
+use Rattle.line_cut.specs.Lines.{ends}
+use Rattle.line_cut.proofs.Counted.{ends-turn, ends-last, ends-le}
+use Rattle.line_cut.proofs.ends.Statement.{statement}
+use Rattle.line_cut.proofs.ends.Tie as tie
 
 abbrev Inv-loop : tie.InvT-loop
 Inv-loop chunk n₀ i₀ n i = (i ≤ length chunk) × (n ≤ i) × (n + ends (drop i chunk) ≡ ends chunk)

@@ -1,7 +1,7 @@
--- `ledger_feed::bare` meets its contract. Assumes nothing.
+-- `line_cut::bare` meets its contract. Assumes nothing.
 use borrow.Author.Needs.{needs}
-use Rattle.ledger_feed.proofs.bare.Statement.{statement}
-use Rattle.ledger_feed.proofs.bare.Tie as tie
+use Rattle.line_cut.proofs.bare.Statement.{statement}
+use Rattle.line_cut.proofs.bare.Tie as tie
 
 sub-result : tie.Need-sub-result
 sub-result c = search needs

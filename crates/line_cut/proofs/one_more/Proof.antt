@@ -1,8 +1,8 @@
--- `ledger_feed::one_more` meets its contract. Assumes nothing.
+-- `line_cut::one_more` meets its contract. Assumes nothing.
 use borrow.Author.Tests.{lt-ltb, le-ltb}
 use borrow.Author.Needs.{needs}
-use Rattle.ledger_feed.proofs.one_more.Statement.{statement}
-use Rattle.ledger_feed.proofs.one_more.Tie as tie
+use Rattle.line_cut.proofs.one_more.Statement.{statement}
+use Rattle.line_cut.proofs.one_more.Tie as tie
 
 add-result : tie.Need-add-result
 add-result c = search needs

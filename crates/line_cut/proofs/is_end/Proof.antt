@@ -1,7 +1,7 @@
--- `ledger_feed::is_end` meets its contract. Assumes nothing.
-use Rattle.ledger_feed.proofs.Counted.{ends-one, ends-none}
-use Rattle.ledger_feed.proofs.is_end.Statement.{statement}
-use Rattle.ledger_feed.proofs.is_end.Tie as tie
+-- `line_cut::is_end` meets its contract. Assumes nothing.
+use Rattle.line_cut.proofs.Counted.{ends-one, ends-none}
+use Rattle.line_cut.proofs.is_end.Statement.{statement}
+use Rattle.line_cut.proofs.is_end.Tie as tie
 
 returns : tie.Need-returns
 returns c = ends-one (c .before .args .byte) (c .if1 .taken)

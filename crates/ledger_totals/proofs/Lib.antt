@@ -1,3 +1,4 @@
 pub mod Fits
+pub mod Point
 pub mod Examples
 pub mod Determined

@@ -1,0 +1,4 @@
+pub mod Errors
+pub mod Answers
+pub mod Promises
+pub mod Collection

@@ -51,7 +51,7 @@ unfoldable pub butPawn : List Float → (ℕ → Float) → List Float
 unfolding tabulate
 butPawn old rule = tabulate 779 (ruled old rule)
 
--- what stands at place i after a step; `moved` takes the new moments
+-- what stands at place i after a step; the weight takes the new moments
 abbrev pub firstAt : List Float → Fit → ℕ → Float
 firstAt g s i = firstMoment (getD (s .m) i nan) (getD g i nan)
 

@@ -426,11 +426,11 @@ impl Trace {
     /// Adds the line's part to the sums of a gradient, with a coefficient of the caller's. TRACE, and then nothing is added.
     pub fn add_gradient(&self, coefficient: f64, gradient: &mut [f64; WEIGHTS]) -> Result<(), Refusal> {
         // SAFETY: the pointers are those of the arrays of two references, with their lengths.
-        let number = unsafe {
+        let code = unsafe {
             doors::chess_gradient_add(self.counts.as_ptr(), self.mobility.as_ptr(), self.sign, self.piece_count, self.entries.as_ptr(), 768,
                 coefficient, gradient.as_mut_ptr(), WEIGHTS)
         };
-        given(number, ())
+        given(code, ())
     }
 }
 
@@ -470,11 +470,11 @@ impl Fit {
     /// The step of an iteration, numbered from 1. ITERATION, and then nothing has changed.
     pub fn step(&mut self, gradient: &[f64; WEIGHTS], iteration: u64, rate: f64) -> Result<(), Refusal> {
         // SAFETY: the pointers are those of the arrays of two references, with their lengths.
-        let number = unsafe {
+        let code = unsafe {
             doors::chess_adam_step(gradient.as_ptr(), WEIGHTS, self.first_moments.as_mut_ptr(), WEIGHTS, self.second_moments.as_mut_ptr(), WEIGHTS,
                 self.weights.as_mut_ptr(), WEIGHTS, iteration, rate)
         };
-        given(number, ())
+        given(code, ())
     }
 
     /// The weights as a trace's double takes them.

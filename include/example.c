@@ -59,16 +59,16 @@ static int print_step(const position *p)
     static int32_t entries[CHESS_ENTRIES];
     static double gradient[CHESS_WEIGHTS], first[CHESS_WEIGHTS], second[CHESS_WEIGHTS], weights[CHESS_WEIGHTS];
     enum { TEMPO = 10 };
-    uint8_t number = chess_compute_trace(p->bitboards, CHESS_BITBOARDS, p->board, CHESS_SQUARES, p->side, counts, mobility, &sign, &piece_count,
-                                         entries, CHESS_ENTRIES);
-    if (number == 0)
-        number = chess_shipped_weights(weights, weights + CHESS_NAMED_WEIGHTS, CHESS_SQUARE_WEIGHTS);
-    if (number == 0)
-        number = chess_gradient_add(counts, mobility, sign, piece_count, entries, CHESS_ENTRIES, -0.001, gradient, CHESS_WEIGHTS);
-    if (number == 0)
-        number = chess_adam_step(gradient, CHESS_WEIGHTS, first, CHESS_WEIGHTS, second, CHESS_WEIGHTS, weights, CHESS_WEIGHTS, 1, 1.0);
-    if (number != 0)
-        return refused("step", number);
+    chess_code code = chess_compute_trace(p->bitboards, CHESS_BITBOARDS, p->board, CHESS_SQUARES, p->side, counts, mobility, &sign, &piece_count,
+                                          entries, CHESS_ENTRIES);
+    if (code.number == 0)
+        code = chess_shipped_weights(weights, weights + CHESS_NAMED_WEIGHTS, CHESS_SQUARE_WEIGHTS);
+    if (code.number == 0)
+        code = chess_gradient_add(counts, mobility, sign, piece_count, entries, CHESS_ENTRIES, -0.001, gradient, CHESS_WEIGHTS);
+    if (code.number == 0)
+        code = chess_adam_step(gradient, CHESS_WEIGHTS, first, CHESS_WEIGHTS, second, CHESS_WEIGHTS, weights, CHESS_WEIGHTS, 1, 1.0);
+    if (code.number != 0)
+        return refused("step", code);
     printf("tempo %.3f\n", weights[TEMPO]);
     return 0;
 }

@@ -53,7 +53,10 @@ else
     rm -f "target/stamp/$2"
     head -n 1 "$source" >"$result"
     prove "$2"
-    cp "$source" "$result"
+    case $1 in
+    check) cp "$source" "$result" ;;
+    staticlib) cp "$source" "$scratch/$2.o" && rm -f "$result" && ar rc "$result" "$scratch/$2.o" ;;
+    esac
     echo "$stamp" >"target/stamp/$2"
     echo "rt: $2 proved (1 s)"
 fi
@@ -66,14 +69,14 @@ RT
     chmod +x "$work/kit/bin/rt" "$work/kit/toolchain/lib/ld-linux-x86-64.so.2" "$work/kit/on/aarch64/toolchain/bin/qemu-x86_64"
 }
 
-# The scripts as they are, over four small crates, in a folder with a space in its name.
+# The scripts as they are, over five small crates, in a folder with a space in its name.
 put_tree() {
     rm -rf "$tree" "$work/calls" "$work/provers" "$work/busy" "$work/faults"
-    for crate in base other ledger abi; do mkdir -p "$tree/crates/$crate/src"; done
-    printf '# a comment\nbase:\nother:\nledger: base # what it uses\nabi: base\n' >"$tree/crates.txt"
+    for crate in base other ledger abi abi_more; do mkdir -p "$tree/crates/$crate/src"; done
+    printf '# a comment\nbase:\nother:\nledger: base # what it uses\nabi: base\nabi_more: base\n' >"$tree/crates.txt"
     echo 'base 1' >"$tree/crates/base/src/lib.rt"
     echo 'other 1' >"$tree/crates/other/src/lib.rt"
-    echo 'abi 1' >"$tree/crates/abi/src/lib.rt"
+    for crate in abi abi_more; do echo "$crate 1: extern \"C\"" >"$tree/crates/$crate/src/lib.rt"; done
     cp -R "$here/../bin" "$here/../include" "$tree/"
     rm -rf "$tree/include/target"
     program 'echo rows && echo whole >&3'

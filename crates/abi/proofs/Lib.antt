@@ -1,4 +1,2 @@
-pub mod Passed
-pub mod Fed
-pub mod Fitted
+pub mod LineRead
 pub mod Determined

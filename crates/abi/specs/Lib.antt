@@ -1,3 +1,2 @@
 pub mod Doors
-pub mod Ledger
 pub mod Promises

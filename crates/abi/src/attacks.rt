@@ -1,8 +1,8 @@
 // What a piece attacks, who attacks a square, check.
 ghost use Rattle.abi.specs.Promises.{PieceAttacks, AttacksTo, IsAttacked, IsCheck};
-use crate::Code;
 use crate::GIVEN;
-use crate::refused;
+use abi_codes::Code;
+use abi_codes::refused;
 use attack::Found;
 use attack_to::Told;
 use position::State;

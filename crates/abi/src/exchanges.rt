@@ -1,8 +1,8 @@
 // The least attacker and the exchange.
 ghost use Rattle.abi.specs.Promises.{Lvp, See};
-use crate::Code;
 use crate::GIVEN;
-use crate::refused;
+use abi_codes::Code;
+use abi_codes::refused;
 use exchange::Exchanged;
 use exchange_least::Least;
 use position::State;

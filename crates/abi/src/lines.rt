@@ -1,8 +1,8 @@
 // One line of a collection.
 ghost use Rattle.abi.specs.Promises.{ReadsLine, GivesPart};
-use crate::Code;
 use crate::GIVEN;
-use crate::refused;
+use abi_codes::Code;
+use abi_codes::refused;
 use line::Part;
 use line_parse::Read;
 

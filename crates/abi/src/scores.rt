@@ -1,8 +1,8 @@
 // Verdict, material and score.
 ghost use Rattle.abi.specs.Promises.{EvalsEnding, EvalsMaterial, Evals};
-use crate::Code;
 use crate::GIVEN;
-use crate::refused;
+use abi_codes::Code;
+use abi_codes::refused;
 use position::State;
 use score::Scored;
 use score_material::Material;

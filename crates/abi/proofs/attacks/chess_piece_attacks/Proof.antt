@@ -1,7 +1,7 @@
 -- `abi::attacks::chess_piece_attacks` meets its contract. Assumes nothing.
 use mathlib.Core.Path.{refl}
 use Rattle.attack.specs.Answers.{found}
-use Rattle.abi.proofs.Passed.{met, passed}
+use Rattle.abi_codes.proofs.Passed.{met, door-passed}
 use borrow.Author.Needs.{needs}
 use Rattle.abi.proofs.attacks.chess_piece_attacks.Statement.{statement}
 use Rattle.abi.proofs.attacks.chess_piece_attacks.Tie as tie
@@ -21,12 +21,12 @@ enum-known-answer-2 c = search needs
 returns : tie.Need-returns
 returns c =
     let k = c .before .before .before .before in
-    passed (met found (k .piece-attacks .ensures) (c .before .before .answer .given .1)) (c .refused .ensures) refl
+    door-passed (met found (k .piece-attacks .ensures) (c .before .before .answer .given .1)) (c .refused .ensures) refl
 
 returns-2 : tie.Need-returns-2
 returns-2 c =
     let k = c .before .before .before in
-    passed (met found (k .piece-attacks .ensures) (c .before .answer2 .given .1)) refl refl
+    door-passed (met found (k .piece-attacks .ensures) (c .before .answer2 .given .1)) refl refl
 
 pub chess-piece-attacks-spec : {M : Type 1} → statement M
 chess-piece-attacks-spec =

@@ -1,6 +1,6 @@
 -- `abi::lines::chess_read_line` meets its contract. Assumes nothing.
 use mathlib.Core.Path.{refl}
-use Rattle.abi.proofs.Passed.{line-read}
+use Rattle.abi.proofs.LineRead.{line-read}
 use borrow.Author.Needs.{needs}
 use Rattle.abi.proofs.lines.chess_read_line.Statement.{statement}
 use Rattle.abi.proofs.lines.chess_read_line.Tie as tie

@@ -2,7 +2,7 @@
 use mathlib.Core.Path.{refl, ap, _∙_}
 use Rattle.score_verdict.specs.Answers.{ending}
 use Rattle.score_verdict.specs.declared.Ending.the-variants as E
-use Rattle.abi.proofs.Passed.{met, passed}
+use Rattle.abi_codes.proofs.Passed.{met, door-passed}
 use borrow.Author.Needs.{needs}
 use Rattle.abi.proofs.scores.chess_eval_ending.Statement.{statement}
 use Rattle.abi.proofs.scores.chess_eval_ending.Tie as tie
@@ -34,27 +34,27 @@ enum-told-4 c = search needs
 returns : tie.Need-returns
 returns c =
     let k = c .before .before .before .before in
-    passed (met ending (k .eval-ending .ensures) (c .before .before .answer .given .1)) (c .refused .ensures) refl
+    door-passed (met ending (k .eval-ending .ensures) (c .before .before .answer .given .1)) (c .refused .ensures) refl
 
 returns-2 : tie.Need-returns-2
 returns-2 c =
     let a = c .before .before .before in
-    passed (met ending (a .before .before .eval-ending .ensures) (a .answer2 .given .1 ∙ ap E.Is (c .enum-told .given .1))) refl refl
+    door-passed (met ending (a .before .before .eval-ending .ensures) (a .answer2 .given .1 ∙ ap E.Is (c .enum-told .given .1))) refl refl
 
 returns-3 : tie.Need-returns-3
 returns-3 c =
     let a = c .before .before .before in
-    passed (met ending (a .before .before .eval-ending .ensures) (a .answer2 .given .1 ∙ ap E.Is (c .enum-told2 .given .1))) refl refl
+    door-passed (met ending (a .before .before .eval-ending .ensures) (a .answer2 .given .1 ∙ ap E.Is (c .enum-told2 .given .1))) refl refl
 
 returns-4 : tie.Need-returns-4
 returns-4 c =
     let a = c .before .before .before in
-    passed (met ending (a .before .before .eval-ending .ensures) (a .answer2 .given .1 ∙ ap E.Is (c .enum-told3 .given .1))) refl refl
+    door-passed (met ending (a .before .before .eval-ending .ensures) (a .answer2 .given .1 ∙ ap E.Is (c .enum-told3 .given .1))) refl refl
 
 returns-5 : tie.Need-returns-5
 returns-5 c =
     let a = c .before .before .before in
-    passed (met ending (a .before .before .eval-ending .ensures) (a .answer2 .given .1 ∙ ap E.Is (c .enum-told4 .given .1))) refl refl
+    door-passed (met ending (a .before .before .eval-ending .ensures) (a .answer2 .given .1 ∙ ap E.Is (c .enum-told4 .given .1))) refl refl
 
 pub chess-eval-ending-spec : {M : Type 1} → statement M
 chess-eval-ending-spec =

@@ -1,6 +1,6 @@
 -- What `add` returns: one law for each return. Assumes nothing.
 use mathlib.Core.Path.{_≡_, sym, ap, ap₂, _∙_}
-use mathlib.Core.Bool.{Bool, true, false, _&&_}
+use mathlib.Core.Bool.{true, false, _&&_}
 use mathlib.Core.List.{List}
 use native.Mathlib.Nat.{le-of-eq}
 use borrow.Author.Tests.{eq-eqb, ne-eqb}
@@ -43,6 +43,3 @@ module _ (t : Trace) (es : List ℤ) (c : Float) (g : List Float) where
       q
       ∙ ap₂ (λ (y : Parts) (z : List Float). squaresBy y es z 768) (b ∙ ap (λ (y : ℤ). partsOf c (dbl y)) o) (m ∙ ap (λ (z : List Float). firstRaised z g 11) a)
       ∙ sym (all-by-parts c (dbl (t .«piece_count»)) es start entries 768 (le-of-eq (sym e)))
-
-pub tested : (t : Trace) (es : List ℤ) {a b u : Bool} → a ≡ inRanges t → b ≡ areEntries es → (a && b) ≡ u → (inRanges t && areEntries es) ≡ u
-tested t es p q e = rw (sym p, sym q) e

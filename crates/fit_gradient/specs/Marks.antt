@@ -23,10 +23,17 @@ partsOf c x = record {
 abbrev pub bothRaised : List Float → ℕ → Float → Float → List Float
 bothRaised g k opening ending = raised (raised g (placeAt 0 k) opening) (placeAt 1 k) ending
 
+abbrev pub colourPart : ℕ → Float → Float → Float
+colourPart k white black = cond (eqb (colourAt k) 0) white black
+
 unfoldable pub markedBy : Parts → List Float → ℕ → ℤ → List Float
 markedBy p g k entry =
     cond (eqb (natAbs entry) 0) g
-    (cond (eqb (colourAt k) 0) (bothRaised g k (p .«white_opening») (p .«white_ending»)) (bothRaised g k (p .«black_opening») (p .«black_ending»)))
+    (bothRaised g k (colourPart k (p .«white_opening») (p .«black_opening»)) (colourPart k (p .«white_ending») (p .«black_ending»)))
+
+-- the entry at a place
+abbrev pub entryBy : Parts → List ℤ → List Float → ℕ → List Float
+entryBy p entries g k = markedBy p g k (getD entries k (pos 0))
 
 unfoldable pub squaresBy : Parts → List ℤ → List Float → ℕ → List Float
 unfolding markedBy

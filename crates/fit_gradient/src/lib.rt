@@ -1,11 +1,15 @@
 // One line's part of the gradient, as `compute_gradient` has it, added to 779 sums that are lent: one rounding for each operation.
 ghost use mathlib.Core.Path.{_≡_};
+ghost use mathlib.Core.Bool.{true};
 ghost use lib.IntN.{pos};
 ghost use lib.ListN.{length, getD};
 ghost use Prim.Native.Nat.{_+_, _*_, _<_};
 ghost use Rattle.fit_gradient.specs.Gradient.{countPart, mobilityPart, namedParts, firstRaised};
-ghost use Rattle.fit_gradient.specs.Marks.{partsOf, bothRaised, markedBy, squaresBy};
+ghost use Rattle.fit_gradient.specs.Marks.{partsOf, bothRaised, colourPart, markedBy, entryBy, squaresBy};
+ghost use Rattle.trace_counts.specs.Ranges.{areEntries};
+ghost use Rattle.trace_marks.specs.Marks.{groupsOf, foldFrom};
 ghost use Rattle.fit_gradient.specs.Promises.{AddsTrace};
+use bits::Lowest;
 use chess::color::Color;
 use chess::piece::Piece;
 use places::entry::Entry;
@@ -13,6 +17,7 @@ use places::weight::SquareWeight;
 use places::weight::Weight;
 use refusal::Refusal;
 use trace_counts::Trace;
+use trace_marks::GROUP;
 
 // The kinds whose attacked squares are weighed.
 const KNIGHT: usize = chess::kind::KNIGHT as usize;
@@ -113,6 +118,13 @@ fn raise(gradient: &mut [f64], k: usize, opening: f64, ending: f64)
     gradient[later] = gradient[later] + ending;
 }
 
+// White's part or Black's, by the colour of the entry at k; a choice, and no jump that would have to be guessed.
+fn of_colour(k: usize, white: f64, black: f64) -> f64
+    ensures { λ r. ⌜ r ≡ colourPart k white black ⌝ }
+{
+    if k % Color::COUNT == 0 { white } else { black }
+}
+
 // Nothing where the entry is 0.
 fn mark(gradient: &mut [f64], parts: Parts, k: usize, entry: i32)
     requires { ⌜ (length (now gradient) ≡ 779) × (k < 768) ⌝ }
@@ -121,46 +133,41 @@ fn mark(gradient: &mut [f64], parts: Parts, k: usize, entry: i32)
     if entry == 0 {
         return;
     }
-    if k % Color::COUNT == 0 {
-        raise(gradient, k, parts.white_opening, parts.white_ending);
-        return;
-    }
-    raise(gradient, k, parts.black_opening, parts.black_ending);
+    let opening = of_colour(k, parts.white_opening, parts.black_opening);
+    let ending = of_colour(k, parts.white_ending, parts.black_ending);
+    raise(gradient, k, opening, ending);
 }
 
-// White's entry and Black's.
-fn mark_two(gradient: &mut [f64], parts: Parts, k: usize, white: i32, black: i32)
-    requires { ⌜ (length (now gradient) ≡ 779) × (k + 1 < 768) ⌝ }
-    ensures { λ _. ⌜ (now (gradient .exit) ≡ markedBy parts (markedBy parts (now (gradient .entry)) k white) (k + 1) black) × (length (now (gradient .exit)) ≡ 779) ⌝ }
+// A group's entries, one after the other: those that are 0 are passed over.
+fn group_marked(gradient: &mut [f64], parts: Parts, entries: &[i32], group: usize)
+    requires { ⌜ (length (now gradient) ≡ 779) × (length (now entries) ≡ 768) × (group < 48) × (areEntries (now entries) ≡ true) ⌝ }
+    ensures { λ _. ⌜ (now (gradient .exit) ≡ foldFrom (entryBy parts (now (entries .entry))) (now (gradient .entry)) (16 * group) 16) × (length (now (gradient .exit)) ≡ 779) ⌝ }
 {
-    mark(gradient, parts, k, white);
-    mark(gradient, parts, k + 1, black);
-}
-
-// Most entries are 0, and four of those are passed over at once.
-fn mark_four(gradient: &mut [f64], parts: Parts, k: usize, entries: &[i32])
-    requires { ⌜ (length (now gradient) ≡ 779) × (length (now entries) ≡ 768) × (k + 3 < 768) ⌝ }
-    ensures { λ _. ⌜ (now (gradient .exit) ≡ markedBy parts (markedBy parts (markedBy parts (markedBy parts (now (gradient .entry)) k (getD (now (entries .entry)) k (pos 0))) (k + 1) (getD (now (entries .entry)) (k + 1) (pos 0))) (k + 2) (getD (now (entries .entry)) (k + 2) (pos 0))) (k + 3) (getD (now (entries .entry)) (k + 3) (pos 0))) × (length (now (gradient .exit)) ≡ 779) ⌝ }
-{
-    let a = entries[k];
-    let b = entries[k + 1];
-    let c = entries[k + 2];
-    let d = entries[k + 3];
-    if (a == 0) & (b == 0) & (c == 0) & (d == 0) {
-        return;
+    let mut rest = trace_marks::ones(entries, group);
+    loop {
+        let n = bits::next(rest);
+        let Lowest::At(j, r) = n else {
+            return;
+        };
+        let k = GROUP * group + (j as usize);
+        mark(gradient, parts, k, entries[k]);
+        rest = r;
     }
-    mark_two(gradient, parts, k, a, b);
-    mark_two(gradient, parts, k + 2, c, d);
 }
 
-fn squares_added(gradient: &mut [f64], parts: Parts, entries: &[i32])
-    requires { ⌜ (length (now gradient) ≡ 779) × (length (now entries) ≡ 768) ⌝ }
+// All 768, one after the other: the groups that have a 1.
+fn squares_added(gradient: &mut [f64], parts: Parts, entries: &[i32], groups: u64)
+    requires { ⌜ (length (now gradient) ≡ 779) × (length (now entries) ≡ 768) × (areEntries (now entries) ≡ true) × (groups ≡ groupsOf (now entries) 48) ⌝ }
     ensures { λ _. ⌜ now (gradient .exit) ≡ squaresBy parts (now (entries .entry)) (now (gradient .entry)) 768 ⌝ }
 {
-    let mut k: usize = 0;
-    while k < Entry::COUNT {
-        mark_four(gradient, parts, k, entries);
-        k += 4;
+    let mut rest = groups;
+    loop {
+        let n = bits::next(rest);
+        let Lowest::At(group, r) = n else {
+            return;
+        };
+        group_marked(gradient, parts, entries, group as usize);
+        rest = r;
     }
 }
 
@@ -174,11 +181,12 @@ pub fn add(trace: Trace, entries: &[i32], coefficient: f64, gradient: &mut [f64]
     if gradient.len() != Weight::COUNT {
         return Added::Refused(Refusal::Shape);
     }
-    if trace.in_ranges() & trace_counts::are_entries(entries) {
+    let seen = trace_marks::seen(entries);
+    if trace.in_ranges() & seen.entries {
         let named = named_parts(trace, coefficient);
         let squares = square_parts(coefficient, trace.piece_count as f64);
         named_added(&named, gradient);
-        squares_added(gradient, squares, entries);
+        squares_added(gradient, squares, entries, seen.groups);
         return Added::Done;
     }
     Added::Refused(Refusal::Trace)

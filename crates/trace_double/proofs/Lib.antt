@@ -1,4 +1,2 @@
-pub mod Marks
-pub mod Tested
 pub mod Folds
 pub mod Determined

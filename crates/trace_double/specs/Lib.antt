@@ -1,3 +1,3 @@
 pub mod Double
-pub mod Marks
+pub mod PrivateFrom
 pub mod Promises

@@ -1,14 +1,12 @@
 // The double of a trace: `Trace::eval`, worked in the source's order, one rounding for each operation.
 ghost use mathlib.Core.Path.{_≡_};
 ghost use mathlib.Core.Bool.{true};
-ghost use lib.Dec.{ltb};
 ghost use lib.ListN.{length};
-ghost use Prim.Native.Nat.{_+_, _*_, _<_};
-ghost use mir.Syntax.{w32};
-ghost use mir.Val.{ofZ};
+ghost use Prim.Native.Nat.{_*_, _<_};
 ghost use Rattle.trace_counts.specs.Ranges.{areEntries};
 ghost use Rattle.trace_double.specs.Double.{between, entryAdded, folded};
-ghost use Rattle.trace_double.specs.Marks.{bitsAt, Held, marks, groupOf, markOf, groupsOf, entriesFrom};
+ghost use Rattle.trace_double.specs.PrivateFrom.{entriesFrom};
+ghost use Rattle.trace_marks.specs.Marks.{groupsOf};
 ghost use Rattle.trace_double.specs.Promises.{Doubles};
 use bits::Lowest;
 use chess::color::Color;
@@ -17,6 +15,7 @@ use places::weight::SquareWeight;
 use refusal::Refusal;
 use trace_counts::Trace;
 use trace_counts::Weights;
+use trace_marks::GROUP;
 
 pub enum Doubled {
     Is(f64),
@@ -54,87 +53,13 @@ fn entry_added(squares: &[f64], x: f64, score: f64, k: usize, entry: i32) -> f64
     }
 }
 
-// Sixteen entries are a group.
-const GROUP: usize = 16;
-
-const GROUPS: usize = Entry::COUNT / GROUP;
-
-// The entries of a group taken together, binary digit by binary digit: 0 where all are 0, neither 0 nor 1 where one is neither.
-fn united(entries: &[i32], group: usize) -> i32
-    requires { ⌜ (length (now entries) ≡ 768) × (group < 48) ⌝ }
-    ensures { λ r. ⌜ (ofZ w32 r ≡ groupOf (now (entries .entry)) group) × Held (now (entries .entry)) (16 * group) 16 ⌝ }
-{
-    let mut union: i32 = 0;
-    let mut j: usize = 0;
-    while j < GROUP {
-        union |= entries[GROUP * group + j];
-        j += 1;
-    }
-    union
-}
-
-// 1, but 0 for 0.
-fn mark(z: i32) -> u64
-    ensures { λ r. ⌜ r ≡ markOf (ofZ w32 z) ⌝ }
-{
-    if z == 0 {
-        return 0;
-    }
-    1
-}
-
-fn is_entry(z: i32) -> bool
-    ensures { λ r. ⌜ r ≡ ltb (ofZ w32 z) 2 ⌝ }
-{
-    (z == 0) | (z == 1)
-}
-
-// Whether all entries are 0 or 1, and a digit for each group that is not all 0: one reading of the 768.
-struct Read {
-    entries: bool,
-    groups: u64,
-}
-
-fn seen(entries: &[i32]) -> Read
-    requires { ⌜ length (now entries) ≡ 768 ⌝ }
-    ensures { λ r. ⌜ (r .entries ≡ areEntries (now (entries .entry))) × (r .groups ≡ groupsOf (now (entries .entry)) 48) ⌝ }
-{
-    let mut union: i32 = 0;
-    let mut groups: u64 = 0;
-    let mut g: usize = 0;
-    while g < GROUPS {
-        let here = united(entries, g);
-        union |= here;
-        groups |= mark(here) << g;
-        g += 1;
-    }
-    Read {
-        entries: is_entry(union),
-        groups,
-    }
-}
-
-// A digit for each entry of a group that is 1.
-fn ones(entries: &[i32], group: usize) -> u64
-    requires { ⌜ (length (now entries) ≡ 768) × (group < 48) × (areEntries (now entries) ≡ true) ⌝ }
-    ensures { λ r. ⌜ r ≡ marks (λ j. bitsAt (now (entries .entry)) (16 * group + j)) 16 ⌝ }
-{
-    let mut digits: u64 = 0;
-    let mut j: usize = 0;
-    while j < GROUP {
-        digits |= (entries[GROUP * group + j] as u64) << j;
-        j += 1;
-    }
-    digits
-}
-
 // A group's entries, one after the other: those that are 0 add nothing, and are passed over.
 fn group_added(squares: &[f64], x: f64, entries: &[i32], start: f64, group: usize) -> f64
     requires { ⌜ (length (now squares) ≡ 768) × (length (now entries) ≡ 768) × (group < 48) × (areEntries (now entries) ≡ true) ⌝ }
     ensures { λ r. ⌜ r ≡ entriesFrom (now (squares .entry)) x (now (entries .entry)) start (16 * group) 16 ⌝ }
 {
     let mut score = start;
-    let mut rest = ones(entries, group);
+    let mut rest = trace_marks::ones(entries, group);
     loop {
         let n = bits::next(rest);
         let Lowest::At(j, r) = n else {
@@ -173,7 +98,7 @@ pub fn eval(trace: Trace, entries: &[i32], weights: Weights, squares: &[f64]) ->
     if squares.len() != SquareWeight::COUNT {
         return Doubled::Refused(Refusal::Shape);
     }
-    let seen = seen(entries);
+    let seen = trace_marks::seen(entries);
     if trace.in_ranges() & seen.entries {
         let x = trace.piece_count as f64;
         Doubled::Is(entries_added(

@@ -2,7 +2,7 @@
 -- Assumes nothing.
 use mathlib.Core.Path.{_≡_, sym, ap, _∙_}
 use mathlib.Core.List.{_∷_}
-use Prim.Native.Nat.{ℕ, _*_, _<_}
+use Prim.Native.Nat.{ℕ, _+_, _*_, _<_}
 use native.Mathlib.Omega.{arith}
 use borrow.Author.Needs.{needs}
 use lib.IntN.{ℤ}
@@ -12,10 +12,13 @@ use mathlib.Core.List.{List}
 use Rattle.bits.specs.Bitboard.{squares}
 use Rattle.bits.specs.Answers.{lowest}
 use Rattle.bits.proofs.Each.{next-at, next-done}
-use Rattle.trace_double.specs.Marks.{groupOf, markOf, entriesFrom}
-use Rattle.trace_double.proofs.Marks.{mark-small, mark-none}
-use Rattle.trace_double.proofs.Tested.{group-none}
-use Rattle.trace_double.proofs.Folds as folds
+use Rattle.trace_marks.specs.Marks.{groupOf, markOf}
+use Rattle.trace_marks.proofs.Marks.{mark-small, mark-none}
+use Rattle.trace_marks.proofs.Tested.{group-none}
+use Rattle.trace_marks.proofs.Walk as walk
+use Rattle.trace_double.specs.PrivateFrom.{entryStep, entriesFrom}
+use Rattle.trace_marks.proofs.Folds as folds
+use Rattle.trace_double.proofs.Folds.{nothing, from-0}
 use Rattle.trace_double.proofs.entries_added.Statement.{statement}
 use Rattle.trace_double.proofs.entries_added.Tie as tie
 
@@ -24,7 +27,7 @@ abbrev after : List Float → Float → List ℤ → Float → ℕ → Float
 after weights x entries start g = entriesFrom weights x entries start 0 (16 * g)
 
 abbrev Inv-loop : tie.InvT-loop
-Inv-loop weights x entries start groups score₀ rest₀ score rest = folds.Walk (after weights x entries start) 48 score rest
+Inv-loop weights x entries start groups score₀ rest₀ score rest = walk.Walk (after weights x entries start) 48 score rest
 
 abbrev μ-loop : tie.MeasureT-loop
 μ-loop weights x entries start groups score₀ rest₀ score rest = length (squares rest)
@@ -35,11 +38,11 @@ loop-holds c =
     let p = c .before .pre in
     let w = a .squares .now in
     let e = a .entries .now in
-    folds.begun (after w (a .x) e (a .start)) 48 (a .start) (λ g. markOf (groupOf e g)) (a .groups) (p .3) (folds.none-yet w (a .x) e (a .start) 0) (omega arith)
+    walk.begun (after w (a .x) e (a .start)) 48 (a .start) (λ g. markOf (groupOf e g)) (a .groups) (p .3) (folds.none-yet (entryStep w (a .x) e) (a .start) 0) (omega arith)
     (λ g h. mark-small (groupOf e g))
     (λ g h z.
-    folds.all-still w (a .x) e (after w (a .x) e (a .start) g) (16 * g) 16 (λ j i. group-none e (p .1) (p .2) g j h i (mark-none (groupOf e g) z))
-    ∙ folds.group-more w (a .x) e (a .start) g)
+    folds.all-still (entryStep w (a .x) e) (after w (a .x) e (a .start) g) (16 * g) 16 (λ j i. nothing w (a .x) e (16 * g + j) (group-none e (p .1) (p .2) g j h i (mark-none (groupOf e g) z)))
+    ∙ folds.group-more (entryStep w (a .x) e) (a .start) g)
 
 next-requires : tie.Need-next-requires Inv-loop μ-loop
 next-requires c κs = search needs
@@ -55,9 +58,9 @@ returns c =
     let k = c .before .before in
     let l = k .before .loop in
     let a = k .before .before .before .args in
-    folds.walk-end (after (a .squares .now) (a .x) (a .entries .now) (a .start)) 48 (l .score) (l .rest) (l .inv)
+    walk.walk-end (after (a .squares .now) (a .x) (a .entries .now) (a .start)) 48 (l .score) (l .rest) (l .inv)
     (next-done (l .rest) (sym (ap lowest (c .enum-told .given .1)) ∙ k .next .ensures))
-    ∙ folds.from-0 (a .squares .now) (a .x) (a .entries .now) (a .start) 768
+    ∙ from-0 (a .squares .now) (a .x) (a .entries .now) (a .start) 768
 
 -- the group that came, and those that are left
 came : (c : tie.After-known-told Inv-loop μ-loop)
@@ -70,7 +73,7 @@ below : (c : tie.After-known-told Inv-loop μ-loop) → c .before .n .given .0 .
 below c =
     let l = c .before .before .before .before .loop in
     let a = c .before .before .before .before .before .before .args in
-    folds.walk-below (after (a .squares .now) (a .x) (a .entries .now) (a .start)) 48 (l .score) (l .rest) (c .before .n .given .0 .0) (c .before .n .given .0 .1 .0) (l .inv) (came c .0)
+    walk.walk-below (after (a .squares .now) (a .x) (a .entries .now) (a .start)) 48 (l .score) (l .rest) (c .before .n .given .0 .0) (c .before .n .given .0 .1 .0) (l .inv) (came c .0)
 
 cast-group-added : tie.Need-cast-group-added Inv-loop μ-loop
 cast-group-added c = search needs
@@ -90,10 +93,10 @@ loop-again c =
     let e = a .entries .now in
     let s = k .before .n .given .0 .0 in
     let r = k .before .n .given .0 .1 .0 in
-    folds.walk-on (after w (a .x) e (a .start)) 48 (l .score) (l .rest) s r (l .inv) (came k .0) (c .group-added .result) (omega arith)
+    walk.walk-on (after w (a .x) e (a .start)) 48 (l .score) (l .rest) s r (l .inv) (came k .0) (c .group-added .result) (omega arith)
     (c .group-added .ensures
-    ∙ ap (λ (f : Float). entriesFrom w (a .x) e f (16 * s) 16) (folds.walk-at (after w (a .x) e (a .start)) 48 (l .score) (l .rest) s r (l .inv) (came k .0))
-    ∙ folds.group-more w (a .x) e (a .start) s)
+    ∙ ap (λ (f : Float). entriesFrom w (a .x) e f (16 * s) 16) (walk.walk-at (after w (a .x) e (a .start)) 48 (l .score) (l .rest) s r (l .inv) (came k .0))
+    ∙ folds.group-more (entryStep w (a .x) e) (a .start) s)
 
 pub entries-added-spec : {M : Type 1} → statement M
 entries-added-spec =

@@ -1,6 +1,6 @@
 -- `trace_double::eval` meets its contract. Assumes nothing.
 use mathlib.Core.Path.{_≡_, sym, ap₂, _∙_}
-use mathlib.Core.Bool.{Bool, true, false, _&&_}
+use mathlib.Core.Bool.{true, false, _&&_}
 use mathlib.Core.List.{List, []}
 use borrow.Author.Tests.{eq-eqb, ne-eqb}
 use lib.IntN.{ℤ}
@@ -10,6 +10,7 @@ use Rattle.laws.proofs.Truth.{true-T, T-true, and-r}
 use Rattle.refusal.specs.Answer.{given, refused}
 use Rattle.trace_counts.specs.Ranges.{inRanges, areEntries}
 use Rattle.doubles.specs.Doubles.{dbl}
+use Rattle.trace_marks.proofs.Tested.{seen-entries, seen-groups, tested-both}
 use Rattle.trace_named.specs.Named.{named}
 use Rattle.trace_double.specs.Double.{folded, double}
 use Rattle.trace_double.specs.Promises.{doubleOf}
@@ -19,10 +20,6 @@ use Rattle.trace_counts.proofs.Held.{read}
 use borrow.Author.Needs.{needs}
 use Rattle.trace_double.proofs.eval.Statement.{statement}
 use Rattle.trace_double.proofs.eval.Tie as tie
-
--- what the two tests give together
-tested : (t : Trace) (entries : List ℤ) {a b u : Bool} → a ≡ inRanges t → b ≡ areEntries entries → (a && b) ≡ u → (inRanges t && areEntries entries) ≡ u
-tested t entries p q e = rw (sym p, sym q) e
 
 -- the square weights' part goes on from the named weights', at as many pieces as the machine reads back
 worked : (t : Trace) (entries : List ℤ) (w : Weights) (squares : List Float) {x : ℤ} {start r : Float} → x ≡ t .«piece_count» → start ≡ named t w
@@ -62,7 +59,10 @@ entries-added-requires c κs =
     let w = then .before .before in
     let two = w .before .before in
     let v = w .before .seen in
-    (two .if2 .left, two .before .if1 .left, sym (v .ensures .0) ∙ T-true (v .result .entries) (and-r (w .in-ranges .result) (v .result .entries) (true-T (then .if3 .taken))), v .ensures .1)
+    let es = two .before .before .before .args .entries .now in
+    let l = two .before .if1 .left in
+    let all = sym (seen-entries es l (v .ensures)) ∙ T-true (v .result .entries) (and-r (w .in-ranges .result) (v .result .entries) (true-T (then .if3 .taken))) in
+    (two .if2 .left, l, all, seen-groups es l (v .ensures))
 
 returns-3 : tie.Need-returns-3
 returns-3 c =
@@ -75,7 +75,7 @@ returns-3 c =
     let t = s .args .trace in
     let x = read (t .«piece_count») (told .struct-told .given .1 .1 .1 .1 .1 .1 .1 .1 .0 .1) in
     passed t (s .args .entries .now) (s .args .weights) (s .args .squares .now) (two .before .if1 .left) (two .if2 .left)
-    (tested t (s .args .entries .now) (w .in-ranges .ensures) (w .before .seen .ensures .0) (then .if3 .taken))
+    (tested-both t (s .args .entries .now) (w .in-ranges .ensures) (seen-entries (s .args .entries .now) (two .before .if1 .left) (w .before .seen .ensures)) (then .if3 .taken))
     (worked t (s .args .entries .now) (s .args .weights) (s .args .squares .now) x (n .sum .ensures) (c .entries-added .ensures))
 
 returns-4 : tie.Need-returns-4
@@ -85,7 +85,7 @@ returns-4 c =
     let s = two .before .before .before in
     let t = s .args .trace in
     failed t (s .args .entries .now) (s .args .weights) (s .args .squares .now) (two .before .if1 .left) (two .if2 .left)
-    (tested t (s .args .entries .now) (w .in-ranges .ensures) (w .before .seen .ensures .0) (c .if3 .left))
+    (tested-both t (s .args .entries .now) (w .in-ranges .ensures) (seen-entries (s .args .entries .now) (two .before .if1 .left) (w .before .seen .ensures)) (c .if3 .left))
 
 pub eval-spec : {M : Type 1} → statement M
 eval-spec =

@@ -1,22 +1,24 @@
 -- `trace_double::group_added` meets its contract. The loop's invariant: the score is that of the entries up to the next 1. Assumes nothing.
 use mathlib.Core.Path.{_≡_, sym, ap, _∙_}
 use mathlib.Core.List.{_∷_}
-use Prim.Native.Nat.{ℕ, _+_, _*_, _<_}
+use Prim.Native.Nat.{_+_, _*_, _<_}
 use native.Mathlib.Omega.{arith}
 use borrow.Author.Needs.{needs}
-use lib.IntN.{pos}
-use lib.ListN.{length, getD}
+use lib.ListN.{length}
 use Rattle.bits.specs.Bitboard.{squares}
 use Rattle.bits.specs.Answers.{lowest}
 use Rattle.bits.proofs.Each.{next-at, next-done}
-use Rattle.trace_double.specs.Marks.{bitsAt, entriesFrom}
-use Rattle.trace_double.proofs.Tested.{entry-at, group-bits, no-bits}
-use Rattle.trace_double.proofs.Folds as folds
+use Rattle.trace_marks.specs.Marks.{oddAt}
+use Rattle.trace_marks.proofs.Tested.{ones-of, odd-small, odd-none}
+use Rattle.trace_marks.proofs.Walk as walk
+use Rattle.trace_double.specs.PrivateFrom.{entryStep, entriesFrom}
+use Rattle.trace_marks.proofs.Folds as folds
+use Rattle.trace_double.proofs.Folds.{one-read, nothing}
 use Rattle.trace_double.proofs.group_added.Statement.{statement}
 use Rattle.trace_double.proofs.group_added.Tie as tie
 
 abbrev Inv-loop : tie.InvT-loop
-Inv-loop weights x entries start group score₀ rest₀ score rest = folds.Walk (entriesFrom weights x entries start (16 * group)) 16 score rest
+Inv-loop weights x entries start group score₀ rest₀ score rest = walk.Walk (entriesFrom weights x entries start (16 * group)) 16 score rest
 
 abbrev μ-loop : tie.MeasureT-loop
 μ-loop weights x entries start group score₀ rest₀ score rest = length (squares rest)
@@ -29,10 +31,10 @@ loop-holds c =
     let a = c .before .before .args in
     let p = c .before .before .pre in
     let e = a .entries .now in
-    let f : ℕ → ℕ = λ j. bitsAt e (16 * a .group + j) in
-    folds.begun (entriesFrom (a .squares .now) (a .x) e (a .start) (16 * a .group)) 16 (a .start) f (c .ones .result) (c .ones .ensures) (folds.none-yet (a .squares .now) (a .x) e (a .start) (16 * a .group)) (omega arith)
-    (λ j h. group-bits e (p .1) (p .3) (a .group) j (p .2) h)
-    (λ j h z. folds.one-still (a .squares .now) (a .x) e (a .start) (16 * a .group) j (no-bits (getD e (16 * a .group + j) (pos 0)) (entry-at e (p .1) (p .3) (16 * a .group + j) (omega arith)) z))
+    walk.begun (entriesFrom (a .squares .now) (a .x) e (a .start) (16 * a .group)) 16 (a .start) (oddAt e (a .group)) (c .ones .result) (c .ones .ensures ∙ ones-of e (p .1) (a .group) (p .2))
+    (folds.none-yet (entryStep (a .squares .now) (a .x) e) (a .start) (16 * a .group)) (omega arith)
+    (λ j h. odd-small e (a .group) j)
+    (λ j h z. folds.one-still (entryStep (a .squares .now) (a .x) e) (a .start) (16 * a .group) j (nothing (a .squares .now) (a .x) e (16 * a .group + j) (odd-none e (p .1) (p .3) (a .group) j (p .2) h z)))
 
 next-requires : tie.Need-next-requires Inv-loop μ-loop
 next-requires c κs = search needs
@@ -48,7 +50,7 @@ returns c =
     let k = c .before .before in
     let l = k .before .loop in
     let a = k .before .before .before .before .args in
-    folds.walk-end (entriesFrom (a .squares .now) (a .x) (a .entries .now) (a .start) (16 * a .group)) 16 (l .score) (l .rest) (l .inv)
+    walk.walk-end (entriesFrom (a .squares .now) (a .x) (a .entries .now) (a .start) (16 * a .group)) 16 (l .score) (l .rest) (l .inv)
     (next-done (l .rest) (sym (ap lowest (c .enum-told .given .1)) ∙ k .next .ensures))
 
 -- the 1 that came, and those that are left
@@ -62,7 +64,7 @@ below : (c : tie.After-known-told Inv-loop μ-loop) → c .before .n .given .0 .
 below c =
     let l = c .before .before .before .before .loop in
     let a = c .before .before .before .before .before .before .before .args in
-    folds.walk-below (entriesFrom (a .squares .now) (a .x) (a .entries .now) (a .start) (16 * a .group)) 16 (l .score) (l .rest) (c .before .n .given .0 .0) (c .before .n .given .0 .1 .0) (l .inv) (came c .0)
+    walk.walk-below (entriesFrom (a .squares .now) (a .x) (a .entries .now) (a .start) (16 * a .group)) 16 (l .score) (l .rest) (c .before .n .given .0 .0) (c .before .n .given .0 .1 .0) (l .inv) (came c .0)
 
 mul-k : tie.Need-mul-k Inv-loop μ-loop
 mul-k c = search needs
@@ -93,9 +95,9 @@ loop-again c =
     let s = k .before .n .given .0 .0 in
     let r = k .before .n .given .0 .1 .0 in
     let F = entriesFrom (a .squares .now) (a .x) (a .entries .now) (a .start) (16 * a .group) in
-    folds.walk-on F 16 (l .score) (l .rest) s r (l .inv) (came k .0) (c .entry-added .result) (omega arith)
-    (folds.one-more (a .squares .now) (a .x) (a .entries .now) (a .start) (16 * a .group) s (c .before .entry-added-arg .given)
-    (folds.walk-at F 16 (l .score) (l .rest) s r (l .inv) (came k .0)) (c .entry-added .ensures))
+    walk.walk-on F 16 (l .score) (l .rest) s r (l .inv) (came k .0) (c .entry-added .result) (omega arith)
+    (one-read (a .squares .now) (a .x) (a .entries .now) (a .start) (16 * a .group) s (c .before .entry-added-arg .given)
+    (walk.walk-at F 16 (l .score) (l .rest) s r (l .inv) (came k .0)) (c .entry-added .ensures))
 
 pub group-added-spec : {M : Type 1} → statement M
 group-added-spec =

@@ -1,21 +1,25 @@
 -- The test of the entries by what they are together, and what an entry's bits say of it. Assumes nothing.
-use mathlib.Core.Path.{_≡_, refl, sym, ap, subst}
-use mathlib.Core.Bool.{true}
+use mathlib.Core.Path.{_≡_, sym, ap, subst, _∙_}
+use mathlib.Core.Bool.{Bool, true, _&&_}
 use mathlib.Core.List.{List}
 use Prim.Native.Nat.{ℕ, _+_, _*_, _-_, _/_, _%_, _^_, _≤_, _<_}
 use native.Mathlib.Decide.{ℕ-discrete, decLe}
 use native.Mathlib.Omega.{arith}
+use borrow.Author.Tests.{eq-eqb, lt-ltb}
 use lib.Dec.{T, ltb, leb, leb→le, le→leb, ltb→lt, lt→ltb}
-use lib.IntN.{ℤ, pos, negsuc, natAbs}
-use lib.Signed.{mag, nonNeg}
+use lib.IntN.{ℤ, pos, negsuc}
+use lib.Signed.{mag}
 use lib.ListN.{length, getD}
 use mir.Syntax.{w32}
 use mir.Val.{ofZ}
 use Rattle.laws.proofs.Tests.{all-at, all-of}
 use Rattle.laws.proofs.Truth.{iff, and-r, and-i, true-T}
-use Rattle.trace_counts.specs.Ranges.{within, areEntries}
-use Rattle.trace_double.specs.Marks.{bitsAt, Held, together, groupOf}
-use Rattle.trace_double.proofs.Marks.{together-most, together-small, together-lt}
+use Rattle.trace_counts.specs.Ranges.{within, inRanges, areEntries}
+use Rattle.trace_counts.specs.declared.Trace.{Trace}
+use Rattle.trace_marks.specs.Marks.{bitsAt, Held, together, groupOf, groupsOf, oddAt, oddOf}
+use Rattle.trace_marks.specs.Promises.{onesOf, Sees}
+use Rattle.trace_marks.specs.declared.Reading.{Reading}
+use Rattle.trace_marks.proofs.Marks.{together-most, together-small, together-lt}
 
 -- ---- one entry
 pub bits-small : (z : ℤ) → mag z < 2 ^ 31 → ofZ w32 z < 2 → T (within (pos 1) z)
@@ -26,13 +30,12 @@ pub small-bits : (z : ℤ) → T (within (pos 1) z) → ofZ w32 z < 2
 small-bits (pos n) t = let q = leb→le n 1 (and-r (leb 0 n) (leb n 1) t) in omega arith
 small-bits (negsuc n) t = absurd t
 
-pub within-pos : (z : ℤ) → T (within (pos 1) z) → (T (nonNeg z)) × (natAbs z ≡ ofZ w32 z)
-within-pos (pos n) t = (tt, refl)
-within-pos (negsuc n) t = absurd t
-
 pub no-bits : (z : ℤ) → T (within (pos 1) z) → ofZ w32 z ≡ 0 → z ≡ pos 0
 no-bits (pos n) t e = ap pos e
 no-bits (negsuc n) t e = absurd t
+
+pub odd-small : (entries : List ℤ) (g j : ℕ) → oddAt entries g j < 2
+odd-small entries g j = omega arith
 
 -- ---- all of them
 module _ (entries : List ℤ) (l : length entries ≡ 768) where
@@ -44,8 +47,19 @@ module _ (entries : List ℤ) (l : length entries ≡ 768) where
       together-small (λ j. bitsAt entries (16 * g + j)) 16
       (λ j i. small-bits (getD entries (16 * g + j) (pos 0)) (all-at (length entries) (λ k. within (pos 1) (getD entries k (pos 0))) t (16 * g + j) (omega arith)))
 
-  pub group-bits : areEntries entries ≡ true → (g j : ℕ) → g < 48 → j < 16 → bitsAt entries (16 * g + j) < 2
-  group-bits t g j h i = small-bits (getD entries (16 * g + j) (pos 0)) (entry-at t (16 * g + j) (omega arith))
+  pub odd-none : areEntries entries ≡ true → (g j : ℕ) → g < 48 → j < 16 → oddAt entries g j ≡ 0 → getD entries (16 * g + j) (pos 0) ≡ pos 0
+  odd-none t g j h i z =
+      let w = entry-at t (16 * g + j) (omega arith) in
+      no-bits (getD entries (16 * g + j) (pos 0)) w (omega (arith, z, small-bits (getD entries (16 * g + j) (pos 0)) w))
+
+  pub ones-of : (g : ℕ) → g < 48 → onesOf entries g ≡ oddOf entries g
+  ones-of g h = simp (eq-eqb (length entries) 768 l, lt-ltb g 48 h)
+
+  pub seen-entries : {r : Reading} → Sees entries r → r .entries ≡ areEntries entries
+  seen-entries e = ap (λ (r : Reading). r .entries) e ∙ simp (eq-eqb (length entries) 768 l)
+
+  pub seen-groups : {r : Reading} → Sees entries r → r .groups ≡ groupsOf entries 48
+  seen-groups e = ap (λ (r : Reading). r .groups) e ∙ simp (eq-eqb (length entries) 768 l)
 
   pub group-none : areEntries entries ≡ true → (g j : ℕ) → g < 48 → j < 16 → groupOf entries g ≡ 0 → getD entries (16 * g + j) (pos 0) ≡ pos 0
   group-none t g j h i z =
@@ -86,3 +100,7 @@ bits-lt (negsuc n) h = omega arith
 
 pub group-lt : (entries : List ℤ) (g : ℕ) → Held entries (16 * g) 16 → groupOf entries g < 2 ^ 32
 group-lt entries g m = together-lt 32 (λ j. bitsAt entries (16 * g + j)) 16 (λ j h. bits-lt (getD entries (16 * g + j) (pos 0)) (m .each j h))
+
+-- ---- both tests of a trace: what the code's two give together
+pub tested-both : (t : Trace) (entries : List ℤ) {a b u : Bool} → a ≡ inRanges t → b ≡ areEntries entries → (a && b) ≡ u → (inRanges t && areEntries entries) ≡ u
+tested-both t entries p q e = rw (sym p, sym q) e

@@ -12,7 +12,7 @@ use lib.Dec.{eqb, leb, ltb}
 use borrow.Author.Tests.{le-leb, le-ltb, ne-eqb}
 use Rattle.bits.specs.Bitboard.{has}
 use Rattle.bits.proofs.Digits.{has-or, has-shl, has-high, has-zero}
-use Rattle.trace_double.specs.Marks.{together, marks, markOf}
+use Rattle.trace_marks.specs.Marks.{together, marks, markOf}
 
 pow-pos : (k : ℕ) → 0 < 2 ^ k
 pow-pos zero = omega arith

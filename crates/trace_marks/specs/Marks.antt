@@ -1,14 +1,12 @@
--- How the entries are read: in groups of sixteen, and only those that are 1. No promise reaches this. Definitions only.
+-- How 768 entries are read: in groups of sixteen, and only those that are 1. Definitions only.
 use mathlib.Core.List.{List}
 use Prim.Native.Nat.{ℕ, zero, suc, _+_, _*_, _%_, _^_, _<_}
 use lib.Bits.{bitOr}
 use lib.IntN.{ℤ, pos}
 use lib.Signed.{mag}
 use lib.ListN.{getD}
-use lib.Ieee.{Float}
 use mir.Syntax.{w32}
 use mir.Val.{ofZ}
-use Rattle.trace_double.specs.Double.{entryAdded}
 
 -- an entry as the machine holds it
 abbrev pub bitsAt : List ℤ → ℕ → ℕ
@@ -41,8 +39,14 @@ markOf (suc n) = 1
 abbrev pub groupsOf : List ℤ → ℕ → ℕ
 groupsOf entries n = marks (λ g. markOf (groupOf entries g)) n
 
--- n entries from k on, in the order of their places, from a score on
-unfoldable pub entriesFrom : List Float → Float → List ℤ → Float → ℕ → ℕ → Float
-unfolding entryAdded
-entriesFrom squares x entries score k zero = score
-entriesFrom squares x entries score k (suc n) = entryAdded squares x (entriesFrom squares x entries score k n) (k + n) (getD entries (k + n) (pos 0))
+-- a digit for each entry of a group that is odd: of entries that are 0 or 1, that is 1
+abbrev pub oddAt : List ℤ → ℕ → ℕ → ℕ
+oddAt entries g j = bitsAt entries (16 * g + j) % 2
+
+abbrev pub oddOf : List ℤ → ℕ → ℕ
+oddOf entries g = marks (oddAt entries g) 16
+
+-- n numbers from k on, one after the other, from a start on
+unfoldable pub foldFrom : {A : Type 0} → (A → ℕ → A) → A → ℕ → ℕ → A
+foldFrom step start k zero = start
+foldFrom step start k (suc n) = step (foldFrom step start k n) (k + n)

@@ -1,15 +1,15 @@
--- `trace_double::united` meets its contract. The loop's invariant: the first j entries of the group are in. Assumes nothing.
+-- `trace_marks::united` meets its contract. The loop's invariant: the first j entries of the group are in. Assumes nothing.
 use mathlib.Core.Path.{_≡_, refl, ap, subst, _∙_}
 use Prim.Native.Nat.{_+_, _*_, _-_, _≤_}
 use native.Mathlib.Omega.{arith}
 use borrow.Author.Needs.{needs}
 use mir.Syntax.{w32}
 use mir.ValLaws.{ofZ-toZ}
-use Rattle.trace_double.specs.Marks.{bitsAt, Held, together, groupOf}
-use Rattle.trace_double.proofs.Marks.{together-none, together-next}
-use Rattle.trace_double.proofs.Tested.{held-begin, held-next, group-lt}
-use Rattle.trace_double.proofs.united.Statement.{statement}
-use Rattle.trace_double.proofs.united.Tie as tie
+use Rattle.trace_marks.specs.Marks.{bitsAt, Held, together, groupOf}
+use Rattle.trace_marks.proofs.Marks.{together-none, together-next}
+use Rattle.trace_marks.proofs.Tested.{held-begin, held-next, group-lt}
+use Rattle.trace_marks.proofs.united.Statement.{statement}
+use Rattle.trace_marks.proofs.united.Tie as tie
 
 abbrev Inv-loop : tie.InvT-loop
 Inv-loop entries group union₀ j₀ union j = (j ≤ 16) × (union ≡ together (λ i. bitsAt entries (16 * group + i)) j) × Held entries (16 * group) j

@@ -1,4 +1,4 @@
--- `trace_double::seen` meets its contract. The loop's invariant: the first g groups are in. Assumes nothing.
+-- `trace_marks::tested_groups` meets its contract. The loop's invariant: the first g groups are in. Assumes nothing.
 use mathlib.Core.Path.{_≡_, sym, ap, subst, _∙_}
 use Prim.Native.Nat.{ℕ, _*_, _-_, _^_, _≤_, _<_}
 use native.Mathlib.Omega.{arith}
@@ -8,11 +8,11 @@ use lib.Dec.{ltb}
 use mir.Syntax.{w32}
 use mir.Val.{ofZ}
 use mir.ValLaws.{ofZ-toZ}
-use Rattle.trace_double.specs.Marks.{Held, together, groupOf, markOf, groupsOf}
-use Rattle.trace_double.proofs.Marks.{together-none, together-next, row-none, row-next}
-use Rattle.trace_double.proofs.Tested.{tested, held-begin, held-more, group-lt}
-use Rattle.trace_double.proofs.seen.Statement.{statement}
-use Rattle.trace_double.proofs.seen.Tie as tie
+use Rattle.trace_marks.specs.Marks.{Held, together, groupOf, markOf, groupsOf}
+use Rattle.trace_marks.proofs.Marks.{together-none, together-next, row-none, row-next}
+use Rattle.trace_marks.proofs.Tested.{tested, held-begin, held-more, group-lt}
+use Rattle.trace_marks.proofs.tested_groups.Statement.{statement}
+use Rattle.trace_marks.proofs.tested_groups.Tie as tie
 
 abbrev Inv-loop : tie.InvT-loop
 Inv-loop entries union₀ groups₀ g₀ union groups g = (g ≤ 48) × (union ≡ together (groupOf entries) g) × (groups ≡ groupsOf entries g) × Held entries 0 (16 * g) × (union < 2 ^ 32)
@@ -66,8 +66,8 @@ returns c =
       l .inv .2 ∙ ap (groupsOf e) ended,
     )
 
-pub seen-spec : {M : Type 1} → statement M
-seen-spec =
+pub tested-groups-spec : {M : Type 1} → statement M
+tested-groups-spec =
     tie.close
     (tie.spec
     Inv-loop

@@ -53,7 +53,7 @@ count write(int fd, const void *from, size handed)
     if (is("pieces")) handed = least(handed, 7);
     if (is("signals") && calls % 2) return fails(EINTR);
     if (is("signals")) handed = least(handed, 1000);
-    if (is("broken-write") && calls == 1) handed = least(handed, 100);
+    if (is("broken-write") && calls == 1) handed = least(handed, 10);
     if (is("broken-write") && calls == 2) return fails(ENOSPC);
     if (is("no-headway") && fd == 1) return *__errno_location() = 0;
     return asked(WRITE, fd, (count)from, (count)handed);

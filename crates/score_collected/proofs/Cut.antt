@@ -16,14 +16,14 @@ use Rattle.line_cut.proofs.Folded.{folded}
 use Rattle.line_held.proofs.Said.{follows}
 use Rattle.line_parse.specs.Line.{lineOf}
 use Rattle.score_collection.specs.Gather.{lineMore}
-use Rattle.score_collection.specs.Answers.{piecePaper, endedPaper}
-use Rattle.score_collection.specs.Promises.{closeMore, nothing, gatheredOf, gatheredIn, gatherOf, lineKept, Gathers, outcomeOf, endOf}
+use Rattle.score_collection.specs.Answers.{piecePaper}
+use Rattle.score_collection.specs.Promises.{closeMore, nothing, gatheredOf, gatheredIn, gatherOf, lineKept, Gathers, outcomeOf, endOf, EndsCollection}
 use Rattle.score_collection.specs.declared.Sum.{Sum}
 use Rattle.score_collection.specs.declared.Gathered.{Gathered}
 use Rattle.score_collection.specs.declared.Piece.{Piece}
 use Rattle.score_collection.specs.declared.Piece.the-variants as T
 use Rattle.score_collection.specs.declared.Ended.{Ended}
-use Rattle.score_collected.specs.Collected.{PieceCall, handedOn, PiecesMade, wholeInput, begun, Collected}
+use Rattle.score_collected.specs.Collected.{collectedOf, PieceCall, handedOn, PiecesThen, wholeInput, begun, Collected}
 use Rattle.score_collected.proofs.Totals.{all-lines}
 
 -- ---- a call with a buffer of 256 bytes
@@ -48,23 +48,32 @@ ends : (g : Gathered) (line : List ℕ) → length line ≡ 256 → endOf g line
 ends g line size =
     ap (λ (t : Bool). orRefuse t R.Shape (outcomeOf (endBy closeMore (record { left = opened (g .begun) line; kept = g .sum })))) (eq-eqb (length line) 256 size)
 
--- ---- one call after another
-all : (g : Gathered) (line : List ℕ) (calls : List PieceCall) (r : Ended) → length line ≡ 256 → PiecesMade g line calls r
-    → endedPaper r ≡ outcomeOf (endBy closeMore (runBy closeMore (opened (g .begun) line) (g .sum) (wholeInput calls)))
-unfolding runBy PiecesMade wholeInput
-all g line [] r size made = made ∙ ends g line size
-all g line (c ∷ cs) r size made =
+-- ---- one call after another: whatever is done last finds what the machine leaves of the whole input
+pub come : (last : Gathered → List ℕ → Type 0) (g : Gathered) (line : List ℕ) (calls : List PieceCall) → length line ≡ 256 → PiecesThen last g line calls
+    → last (gatheredOf (runBy closeMore (opened (g .begun) line) (g .sum) (wholeInput calls))) (runBy closeMore (opened (g .begun) line) (g .sum) (wholeInput calls) .left .line)
+unfolding runBy PiecesThen wholeInput
+come last g line [] size made = made
+come last g line (c ∷ cs) size made =
     let m : CutSoFar Sum = runBy closeMore (opened (g .begun) line) (g .sum) (c .chunk) in
     let k = goes g line (c .chunk) (c .piece) (c .line′) size (made .0) in
-    let rest : PiecesMade (gatheredOf m) (m .left .line) cs r =
-    subst (λ (l : List ℕ). PiecesMade (gatheredOf m) l cs r) (k .kept) (subst (λ (p : Piece). PiecesMade (handedOn p g) (c .line′) cs r) (k .piece) (made .1)) in
-    all (gatheredOf m) (m .left .line) cs r (run-size closeMore (opened (g .begun) line) (g .sum) (c .chunk) ∙ size) rest
-    ∙ sym (ap (λ (x : CutSoFar Sum). outcomeOf (endBy closeMore x)) (run-append closeMore (opened (g .begun) line) (g .sum) (c .chunk) (wholeInput cs)))
+    let rest : PiecesThen last (gatheredOf m) (m .left .line) cs =
+    subst (λ (l : List ℕ). PiecesThen last (gatheredOf m) l cs) (k .kept) (subst (λ (p : Piece). PiecesThen last (handedOn p g) (c .line′) cs) (k .piece) (made .1)) in
+    subst (λ (x : CutSoFar Sum). last (gatheredOf x) (x .left .line)) (sym (run-append closeMore (opened (g .begun) line) (g .sum) (c .chunk) (wholeInput cs)))
+    (come last (gatheredOf m) (m .left .line) cs (run-size closeMore (opened (g .begun) line) (g .sum) (c .chunk) ∙ size) rest)
+
+-- what the machine leaves of a whole input, and what `end` makes of it
+abbrev pub leftOf : List ℕ → List ℕ → CutSoFar Sum
+leftOf line input = runBy closeMore (opened (begun .begun) line) nothing input
+
+pub end-left : (line input : List ℕ) → length line ≡ 256 → endOf (gatheredOf (leftOf line input)) (leftOf line input .left .line) ≡ collectedOf input
+end-left line input size =
+    ends (gatheredOf (leftOf line input)) (leftOf line input .left .line) (run-size closeMore (opened (begun .begun) line) nothing input ∙ size)
+    ∙ ap outcomeOf (folded closeMore (λ (s : Sum) (l : List ℕ). lineMore s (lineOf l)) (follows lineMore) line nothing input size)
+    ∙ all-lines (linesOf input)
 
 -- the claim, for every line buffer and all calls
 pub collected : (line : List ℕ) (calls : List PieceCall) (r : Ended) → Collected line calls r
 collected line calls r = record {
   totals = λ size made.
-      all begun line calls r size made ∙ ap outcomeOf (folded closeMore (λ (s : Sum) (l : List ℕ). lineMore s (lineOf l)) (follows lineMore) line nothing (wholeInput calls) size)
-      ∙ all-lines (linesOf (wholeInput calls));
+      come (λ (g : Gathered) (l : List ℕ). EndsCollection g l r) begun line calls size made ∙ end-left line (wholeInput calls) size;
 }

@@ -50,10 +50,14 @@ abbrev pub handedOn : Piece → Gathered → Gathered
 handedOn (T.Lines gathered) before = gathered
 handedOn (T.Refused r) before = before
 
--- each call does what `feed` promises, from what the call before it gathered and left in the line buffer; then `end`
-unfoldable pub PiecesMade : Gathered → List ℕ → List PieceCall → Ended → Type 0
-PiecesMade gathered line [] r = EndsCollection gathered line r
-PiecesMade gathered line (c ∷ cs) r = Gathers gathered line (c .chunk) (c .piece) (c .line′) × PiecesMade (handedOn (c .piece) gathered) (c .line′) cs r
+-- each call does what `feed` promises, from what the call before it gathered and left in the line buffer; then whatever is done last, with what was gathered
+unfoldable pub PiecesThen : (Gathered → List ℕ → Type 0) → Gathered → List ℕ → List PieceCall → Type 0
+PiecesThen last gathered line [] = last gathered line
+PiecesThen last gathered line (c ∷ cs) = Gathers gathered line (c .chunk) (c .piece) (c .line′) × PiecesThen last (handedOn (c .piece) gathered) (c .line′) cs
+
+-- and where that is `end`
+abbrev pub PiecesMade : Gathered → List ℕ → List PieceCall → Ended → Type 0
+PiecesMade gathered line calls r = PiecesThen (λ (g : Gathered) (l : List ℕ). EndsCollection g l r) gathered line calls
 
 -- the whole input, which the pieces are cut from
 unfoldable pub wholeInput : List PieceCall → List ℕ

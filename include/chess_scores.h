@@ -33,10 +33,10 @@ typedef struct {
 
 enum { CHESS_NO_SQUARE = 255 };
 
-/* Refusals. Of those from 14 on ITERATION alone is given yet. */
+/* Refusals. 2 was CHESS_BOARD: 14 to 16 come where it came, with a square, and nothing has its number again.
+ * Of those from 17 on ITERATION alone is given yet. */
 enum {
     CHESS_SHAPE = 1,      /* a length, a side, a colour or a piece code that none has */
-    CHESS_BOARD = 2,      /* bitboards and board bytes that do not agree */
     CHESS_SCORE = 3,      /* a number leaves 16 bits on the way to the score */
     CHESS_SQUARE = 4,     /* a square above 63 */
     CHESS_MOVE = 5,       /* no capture by the side to move */
@@ -91,15 +91,15 @@ chess_part chess_position_field(const uint8_t *line, size_t line_length);
 /* ---- scores: of a position for the side to move */
 
 /* The verdict: fewer than two kings in all is lost or won; fewer than four pieces and only kings, knights and bishops is drawn; else
- * none. SHAPE, BOARD. */
+ * none. SHAPE, OVERLAP, UNION, BYTEBOARD. */
 chess_code chess_eval_ending(const uint64_t *bitboards, size_t bitboards_length, const uint8_t *board, size_t board_length, uint8_t side,
                              uint8_t *verdict);
 
-/* What a colour's pieces are worth, without the pair of bishops. SHAPE (the colour too), BOARD, SCORE. */
+/* What a colour's pieces are worth, without the pair of bishops. SHAPE (the colour too), OVERLAP, UNION, BYTEBOARD, SCORE. */
 chess_code chess_eval_material(const uint64_t *bitboards, size_t bitboards_length, const uint8_t *board, size_t board_length, uint8_t side,
                                uint8_t color, int16_t *material);
 
-/* A verdict, and 0 for the score; or CHESS_NONE, and the score. SHAPE, BOARD, SCORE. */
+/* A verdict, and 0 for the score; or CHESS_NONE, and the score. SHAPE, OVERLAP, UNION, BYTEBOARD, SCORE. */
 chess_code chess_eval(const uint64_t *bitboards, size_t bitboards_length, const uint8_t *board, size_t board_length, uint8_t side,
                       uint8_t *verdict, int16_t *score);
 
@@ -109,26 +109,26 @@ chess_code chess_eval(const uint64_t *bitboards, size_t bitboards_length, const 
  * SHAPE (the code), SQUARE. */
 chess_code chess_piece_attacks(uint8_t piece, uint8_t square, uint64_t occupied, uint64_t *squares);
 
-/* The squares of the pieces of both colours that attack a square, whether they stand in `occupied` or not. SHAPE, BOARD, SQUARE. */
+/* The squares of the pieces of both colours that attack a square, whether they stand in `occupied` or not. SHAPE, OVERLAP, UNION, BYTEBOARD, SQUARE. */
 chess_code chess_attacks_to(const uint64_t *bitboards, size_t bitboards_length, const uint8_t *board, size_t board_length, uint8_t side,
                             uint8_t square, uint64_t occupied, uint64_t *squares);
 
-/* Whether a piece of the colour other than the one named attacks a square. SHAPE (the colour too), BOARD, SQUARE. */
+/* Whether a piece of the colour other than the one named attacks a square. SHAPE (the colour too), OVERLAP, UNION, BYTEBOARD, SQUARE. */
 chess_code chess_is_attacked(const uint64_t *bitboards, size_t bitboards_length, const uint8_t *board, size_t board_length, uint8_t side,
                              uint8_t square, uint8_t color, bool *attacked);
 
-/* Whether the colour's king is attacked, the lowest if it has several; true if it has none. SHAPE (the colour too), BOARD. */
+/* Whether the colour's king is attacked, the lowest if it has several; true if it has none. SHAPE (the colour too), OVERLAP, UNION, BYTEBOARD. */
 chess_code chess_is_check(const uint64_t *bitboards, size_t bitboards_length, const uint8_t *board, size_t board_length, uint8_t side,
                           uint8_t color, bool *check);
 
 /* ---- exchanges */
 
 /* Whether the colour has a piece in `attacks` and `occupied`, and the lowest square of the first kind that has one, in the order
- * pawn, knight, bishop, rook, queen, king; 0 beside false. SHAPE (the colour too), BOARD. */
+ * pawn, knight, bishop, rook, queen, king; 0 beside false. SHAPE (the colour too), OVERLAP, UNION, BYTEBOARD. */
 chess_code chess_lvp(const uint64_t *bitboards, size_t bitboards_length, const uint8_t *board, size_t board_length, uint8_t side,
                      uint8_t color, uint64_t attacks, uint64_t occupied, bool *found, uint8_t *square);
 
-/* What the exchange that the capture `from`-`to` starts is worth to the side to move. SHAPE, BOARD, SQUARE, MOVE, CROWD. */
+/* What the exchange that the capture `from`-`to` starts is worth to the side to move. SHAPE, OVERLAP, UNION, BYTEBOARD, SQUARE, MOVE, CROWD. */
 chess_code chess_see(const uint64_t *bitboards, size_t bitboards_length, const uint8_t *board, size_t board_length, uint8_t side,
                      uint8_t from, uint8_t to, int16_t *worth);
 
@@ -138,7 +138,7 @@ chess_code chess_see(const uint64_t *bitboards, size_t bitboards_length, const u
  * counts[10 + colour] is 1 for two or more bishops. mobility[2 * kind + colour] counts the squares that they attack. sign is 1 for
  * White to move and -1 for Black. entries[128 * kind + 2 * square + colour] is 1 where a piece stands, Black's squares xor 56. */
 
-/* The trace of a position. SHAPE (also not 768 entries), BOARD. */
+/* The trace of a position. SHAPE (also not 768 entries), OVERLAP, UNION, BYTEBOARD. */
 chess_code chess_compute_trace(const uint64_t *bitboards, size_t bitboards_length, const uint8_t *board, size_t board_length, uint8_t side,
                                int32_t counts[CHESS_COUNTS], int32_t mobility[CHESS_COUNTS], int32_t *sign, int32_t *piece_count,
                                int32_t *entries, size_t entries_length);

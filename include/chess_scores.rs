@@ -54,13 +54,12 @@ pub const BISHOP: u8 = 8;
 pub const ROOK: u8 = 10;
 pub const QUEEN: u8 = 12;
 
-/// Why a call is refused: the table of documents 01 and 02, with the square that some name. Those from `Overlap` on are given by no call yet.
+/// Why a call is refused: the table of documents 01 and 02, with the square that some name. 2 was BOARD: 14 to 16 come where it came, and
+/// nothing has its number again. Of those from `Room` on `Iteration` alone is given by a call yet.
 #[derive(Clone, Copy, Debug, PartialEq, Eq)]
 pub enum Refusal {
     /// A length, a side, a colour or a piece code that none has.
     Shape,
-    /// Bitboards and board bytes that do not agree.
-    Board,
     /// A number leaves 16 bits on the way to the score.
     Score,
     /// A square above 63.
@@ -131,7 +130,6 @@ impl Refusal {
         use Refusal::*;
         match self {
             Shape => 1,
-            Board => 2,
             Score => 3,
             Square => 4,
             Move => 5,
@@ -179,8 +177,8 @@ impl Refusal {
     /// The refusal that a door gave. What the table has not, a number or a square, is kept as it came.
     fn of(code: Code) -> Refusal {
         use Refusal::*;
-        const PLAIN: [Refusal; 26] = [
-            Shape, Board, Score, Square, Move, Crowd, Trace, Long, Byte,
+        const PLAIN: [Refusal; 25] = [
+            Shape, Score, Square, Move, Crowd, Trace, Long, Byte,
             Field, Place, Side, Result, Room, Length, Order, Entry, Many,
             Iteration, Kings, Pawns, Pieces, Rights, Passant, Counter, Absent,
         ];
@@ -299,42 +297,42 @@ pub fn piece_attacks(piece: u8, square: u8, occupied: u64) -> Result<u64, Refusa
 // SAFETY, of every call below: the pointers are those of the position's arrays, of slices and of locals, with their lengths, and none of
 // those written through overlaps another.
 impl Position {
-    /// The verdict, or none. SHAPE, BOARD.
+    /// The verdict, or none. SHAPE, OVERLAP, UNION, BYTEBOARD.
     pub fn eval_ending(&self) -> Result<Option<Verdict>, Refusal> {
         let mut ending = 0;
         let code = unsafe { doors::chess_eval_ending(self.bitboards.as_ptr(), 14, self.board.as_ptr(), 64, self.side, &mut ending) };
         given(code, verdict(ending))
     }
 
-    /// What a colour's pieces are worth, without the pair of bishops. SHAPE, BOARD, SCORE.
+    /// What a colour's pieces are worth, without the pair of bishops. SHAPE, OVERLAP, UNION, BYTEBOARD, SCORE.
     pub fn eval_material(&self, color: u8) -> Result<i16, Refusal> {
         let mut material = 0;
         let code = unsafe { doors::chess_eval_material(self.bitboards.as_ptr(), 14, self.board.as_ptr(), 64, self.side, color, &mut material) };
         given(code, material)
     }
 
-    /// The verdict, or the score for the side to move. SHAPE, BOARD, SCORE.
+    /// The verdict, or the score for the side to move. SHAPE, OVERLAP, UNION, BYTEBOARD, SCORE.
     pub fn eval(&self) -> Result<Outcome, Refusal> {
         let (mut ending, mut score) = (0, 0);
         let code = unsafe { doors::chess_eval(self.bitboards.as_ptr(), 14, self.board.as_ptr(), 64, self.side, &mut ending, &mut score) };
         given(code, verdict(ending).map_or(Outcome::Score(score), Outcome::Verdict))
     }
 
-    /// The squares of the pieces of both colours that attack a square, whether they stand in `occupied` or not. SHAPE, BOARD, SQUARE.
+    /// The squares of the pieces of both colours that attack a square, whether they stand in `occupied` or not. SHAPE, OVERLAP, UNION, BYTEBOARD, SQUARE.
     pub fn attacks_to(&self, square: u8, occupied: u64) -> Result<u64, Refusal> {
         let mut squares = 0;
         let code = unsafe { doors::chess_attacks_to(self.bitboards.as_ptr(), 14, self.board.as_ptr(), 64, self.side, square, occupied, &mut squares) };
         given(code, squares)
     }
 
-    /// Whether a piece of the colour other than the one named attacks a square. SHAPE, BOARD, SQUARE.
+    /// Whether a piece of the colour other than the one named attacks a square. SHAPE, OVERLAP, UNION, BYTEBOARD, SQUARE.
     pub fn is_attacked(&self, square: u8, color: u8) -> Result<bool, Refusal> {
         let mut attacked = false;
         let code = unsafe { doors::chess_is_attacked(self.bitboards.as_ptr(), 14, self.board.as_ptr(), 64, self.side, square, color, &mut attacked) };
         given(code, attacked)
     }
 
-    /// Whether the colour's king is attacked, the lowest if it has several; true if it has none. SHAPE, BOARD.
+    /// Whether the colour's king is attacked, the lowest if it has several; true if it has none. SHAPE, OVERLAP, UNION, BYTEBOARD.
     pub fn is_check(&self, color: u8) -> Result<bool, Refusal> {
         let mut check = false;
         let code = unsafe { doors::chess_is_check(self.bitboards.as_ptr(), 14, self.board.as_ptr(), 64, self.side, color, &mut check) };
@@ -342,21 +340,21 @@ impl Position {
     }
 
     /// The lowest square of the first kind that has a piece of the colour in `attacks` and `occupied`, in the order pawn, knight, bishop,
-    /// rook, queen, king; or none. SHAPE, BOARD.
+    /// rook, queen, king; or none. SHAPE, OVERLAP, UNION, BYTEBOARD.
     pub fn lvp(&self, color: u8, attacks: u64, occupied: u64) -> Result<Option<u8>, Refusal> {
         let (mut found, mut square) = (false, 0);
         let code = unsafe { doors::chess_lvp(self.bitboards.as_ptr(), 14, self.board.as_ptr(), 64, self.side, color, attacks, occupied, &mut found, &mut square) };
         given(code, found.then_some(square))
     }
 
-    /// What the exchange that a capture starts is worth to the side to move. SHAPE, BOARD, SQUARE, MOVE, CROWD.
+    /// What the exchange that a capture starts is worth to the side to move. SHAPE, OVERLAP, UNION, BYTEBOARD, SQUARE, MOVE, CROWD.
     pub fn see(&self, from: u8, to: u8) -> Result<i16, Refusal> {
         let mut worth = 0;
         let code = unsafe { doors::chess_see(self.bitboards.as_ptr(), 14, self.board.as_ptr(), 64, self.side, from, to, &mut worth) };
         given(code, worth)
     }
 
-    /// The position's trace. SHAPE, BOARD.
+    /// The position's trace. SHAPE, OVERLAP, UNION, BYTEBOARD.
     pub fn trace(&self) -> Result<Trace, Refusal> {
         let mut trace = Trace { counts: [0; 12], mobility: [0; 12], sign: 0, piece_count: 0, entries: [0; 768] };
         let code = unsafe {

@@ -45,10 +45,22 @@ fn attacks() {
 
 #[test]
 fn refusals_of_a_position() {
+    // One fault after the other, each tried before the last: a byte, Black's union, White's below it, an overlap.
     let mut bent = position(START);
     bent.board[0] = 0;
-    assert_eq!(bent.eval(), Err(Refusal::Board));
-    assert_eq!(bent.trace(), Err(Refusal::Board));
+    assert_eq!(bent.eval(), Err(Refusal::Byteboard(0)));
+    assert_eq!(bent.trace().err(), Some(Refusal::Byteboard(0)));
+    bent.bitboards[1] ^= 1 << 63;
+    assert_eq!(bent.eval(), Err(Refusal::Union(63)));
+    bent.bitboards[0] ^= 1 << 20;
+    assert_eq!(bent.see(0, 1), Err(Refusal::Union(20)));
+    bent.bitboards[12] ^= 1 << 50;
+    assert_eq!(bent.eval_material(WHITE), Err(Refusal::Overlap(50)));
+    // Codes 2 and 4 at 50 and 12 and 13 at 2: the lowest square, whichever codes they are.
+    bent.bitboards[2] ^= 1 << 50;
+    bent.bitboards[13] ^= 1 << 2;
+    assert_eq!(bent.is_check(BLACK), Err(Refusal::Overlap(2)));
+    assert_eq!(bent.is_check(BLACK).unwrap_err().to_string(), "refused 14 at c1");
     bent.side = 2;
     assert_eq!(bent.eval(), Err(Refusal::Shape));
 }
@@ -99,7 +111,8 @@ fn traces() {
 #[test]
 fn a_code_is_read_as_its_refusal() {
     let of = |number, square| Refusal::of(Code { number, square });
-    for number in 1..=32 {
+    assert_eq!(of(2, NO_SQUARE), Refusal::Unknown(2, None));
+    for number in (1..=32).filter(|&number| number != 2) {
         let named = [14, 15, 16, 19, 27, 28].contains(&number);
         let (square, other) = if named { (12, NO_SQUARE) } else { (NO_SQUARE, 12) };
         let refusal = of(number, square);

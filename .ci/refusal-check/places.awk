@@ -69,6 +69,7 @@ function read_rows(place, file, full,    line, cell, last) {
         if (!full) continue
         if (cell[1] + 0 <= last) wrong(place, cell[2] " does not stand in the order of the numbers")
         last = cell[1] + 0
+        if (cell[6] == "no longer given") gone[cell[2]] = 1
         if (cell[6] == "not given yet" || cell[6] == "no longer given") not_given[cell[2]] = 1
         else { calls_of[cell[2]] = cell[6]; if (cell[3] == "" || cell[4] == "" || cell[5] == "") wrong(place, cell[2] " has a column that says nothing") }
     }

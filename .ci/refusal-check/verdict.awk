@@ -34,6 +34,15 @@ function one_number_each(    name, n, i, bearer) {
     }
 }
 
+# What is no longer given stands in no place but the page, and nothing else has its number.
+function judge_gone(place,    name, n, i, old) {
+    n = split(names_in[place], name, " ")
+    for (i = 1; i <= n; i++) for (old in gone) {
+        if (name[i] == old) wrong(place, old " is no longer given")
+        else if (number_in[place, name[i]] == number_in[page, old]) wrong(place, name[i] " has the number of " old ", which is no longer given")
+    }
+}
+
 # A place that has the page's names, and all that are given.
 function as_on_page(place, whole,    name, n, i) {
     n = split(names_in[place], name, " ")
@@ -104,6 +113,12 @@ BEGIN {
     read_python("oracle/reference/refusal.py", "oracle/reference/refusal.py")
     read_promises("docs/PROMISES.md", "docs/PROMISES.md")
     one_number_each()
+    judge_gone(source)
+    judge_gone(definition)
+    judge_gone("README.md")
+    judge_gone(header)
+    judge_gone("include/chess_scores.rs")
+    judge_gone("oracle/reference/refusal.py")
     same_as_enum(definition)
     page_and_enum()
     as_on_page("README.md", 1)

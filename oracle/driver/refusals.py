@@ -76,7 +76,7 @@ def of_crowds():
 
 
 def of_bent():
-    """BOARD: each bitboard and each byte of a position bent in turn; and bytes that change nothing."""
+    """OVERLAP, UNION, BYTEBOARD: each bitboard and each byte of a position bent in turn; and bytes that change nothing."""
     for index in range(14):
         for square in (0, 4, 12, 60, 63):
             yield f"bent {index} {1 << square} 0 0 {KINGS_AND_PAWN}"
@@ -87,6 +87,13 @@ def of_bent():
             yield f"bent 0 0 {square} {byte} {KINGS_AND_PAWN}"
     # Bits and byte bent together: a pawn put on e3 by its own board, by its colour's too, by the byte.
     for index, bits, square, byte in ((2, 1 << 20, 20, 2), (0, 1 << 20, 20, 2), (0, 0, 20, 2), (2, 1 << 12, 12, 0)):
+        yield f"bent {index} {bits} {square} {byte} {KINGS_AND_PAWN}"
+    # Several squares of one fault, the lowest named: two boards overlap at two, White's and Black's union wrong at two, byte and byte.
+    for index, bits in ((2, 1 << 4 | 1 << 60), (3, 1 << 12 | 1 << 60), (0, 1 << 20 | 1 << 63), (1, 1 << 3 | 1 << 60), (3, 1 << 33 | 1 << 62)):
+        yield f"bent {index} {bits} 0 0 {KINGS_AND_PAWN}"
+    # Two faults, the first in order at the higher square and at the lower: overlap and union, overlap and byte, union and byte.
+    for index, bits, square, byte in ((3, 1 << 0 | 1 << 60, 0, 0), (3, 1 << 4 | 1 << 63, 0, 0), (2, 1 << 4, 0, 9), (2, 1 << 4, 63, 9),
+                                      (1, 1 << 63, 0, 9), (0, 1 << 0, 63, 9), (0, 1 << 63, 4, 0), (1, 1 << 5, 60, 0)):
         yield f"bent {index} {bits} {square} {byte} {KINGS_AND_PAWN}"
 
 

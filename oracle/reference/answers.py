@@ -55,7 +55,7 @@ def next_square(board):
 
 
 def bent(index, bits, square, byte, position):
-    """The score of a position after one bitboard and one byte were changed: how BOARD is asked for."""
+    """The score of a position after one bitboard and one byte were changed: how OVERLAP, UNION and BYTEBOARD are asked for."""
     bitboards, board = list(position.bitboards), list(position.board)
     bitboards[index] ^= bits
     board[square] = byte
@@ -160,7 +160,8 @@ def answer(question):
     try:
         return str(WORDS[word](*arguments(parts)))
     except Refused as refused:
-        return "over" if refused.number == SCORE else f"refused {refused.number}"
+        beside = "" if refused.square is None else f" {refused.square}"
+        return "over" if refused.number == SCORE else f"refused {refused.number}{beside}"
 
 
 def main():

@@ -1,7 +1,7 @@
 """A position: 14 bitboards, 64 board bytes, a side; and 01's test of its consistency."""
 
 from .pieces import CODES, COLOURS, EMPTY
-from .refusal import BOARD, SHAPE, refuse_unless
+from .refusal import BYTEBOARD, OVERLAP, SHAPE, UNION, refuse_lowest, refuse_unless
 
 
 class Position:
@@ -33,27 +33,38 @@ def has_shape(position):
     return len(position.bitboards) == 14 and len(position.board) == 64 and position.side in COLOURS
 
 
-def consistent(position):
-    """No two piece boards overlap, each colour's board is its union, each byte names the piece whose bit is there."""
-    unions = [0, 0]
-    for code in CODES:
-        pieces = position.bitboards[code]
-        if pieces & (unions[0] | unions[1]):
-            return False
-        unions[code % 2] |= pieces
-    if unions != position.bitboards[:2]:
-        return False
-    return all(byte_agrees(position, square) for square in range(64))
+def overlapping(position):
+    """The squares that two or more of the twelve piece boards have."""
+    return [square for square in range(64) if sum(position.bitboards[code] >> square & 1 for code in CODES) > 1]
+
+
+def split(position):
+    """The squares at which a colour's board is not the union of its pieces', White's or Black's."""
+    wrong = 0
+    for colour in COLOURS:
+        union = 0
+        for code in CODES:
+            if code % 2 == colour:
+                union |= position.bitboards[code]
+        wrong |= union ^ position.bitboards[colour]
+    return [square for square in range(64) if wrong >> square & 1]
+
+
+def disagreeing(position):
+    """The squares whose byte does not name the piece whose bit is there."""
+    return [square for square in range(64) if not byte_agrees(position, square)]
 
 
 def byte_agrees(position, square):
     byte = position.board[square]
     if byte in CODES:
         return position.bitboards[byte] >> square & 1 == 1
-    return byte == EMPTY and position.occupied() >> square & 1 == 0
+    return byte == EMPTY and not any(position.bitboards[code] >> square & 1 for code in CODES)
 
 
 def tested(position, *colours):
-    """SHAPE, then BOARD: the first two tests of everything that takes a position."""
+    """SHAPE, then OVERLAP, UNION, BYTEBOARD: the first tests of everything that takes a position. Each goes over all squares before the next."""
     refuse_unless(has_shape(position) and all(colour in COLOURS for colour in colours), SHAPE)
-    refuse_unless(consistent(position), BOARD)
+    refuse_lowest(overlapping(position), OVERLAP)
+    refuse_lowest(split(position), UNION)
+    refuse_lowest(disagreeing(position), BYTEBOARD)

@@ -27,7 +27,7 @@ pub extern "C" fn chess_piece_attacks(
     }
 }
 
-// The squares of the attackers of both colours, whether they stand in `occupied` or not: SHAPE, BOARD, SQUARE.
+// The squares of the attackers of both colours, whether they stand in `occupied` or not: SHAPE, OVERLAP, UNION, BYTEBOARD, SQUARE.
 #[no_mangle]
 pub extern "C" fn chess_attacks_to(
     bitboards: &[u64],
@@ -49,7 +49,7 @@ pub extern "C" fn chess_attacks_to(
     }
 }
 
-// Whether a piece of the colour other than the one named attacks a square: SHAPE, BOARD, SQUARE.
+// Whether a piece of the colour other than the one named attacks a square: SHAPE, OVERLAP, UNION, BYTEBOARD, SQUARE.
 #[no_mangle]
 pub extern "C" fn chess_is_attacked(
     bitboards: &[u64],
@@ -71,7 +71,7 @@ pub extern "C" fn chess_is_attacked(
     }
 }
 
-// Whether a colour's king is attacked, the lowest if it has several; true if it has none: SHAPE, BOARD.
+// Whether a colour's king is attacked, the lowest if it has several; true if it has none: SHAPE, OVERLAP, UNION, BYTEBOARD.
 #[no_mangle]
 pub extern "C" fn chess_is_check(
     bitboards: &[u64],

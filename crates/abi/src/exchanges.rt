@@ -7,7 +7,7 @@ use exchange::Exchanged;
 use exchange_least::Least;
 use position::State;
 
-// Whether there is an attacker of the colour, in `attacks` and in `occupied`, and the square of the least; 0 beside none: SHAPE, BOARD.
+// Whether there is an attacker of the colour, in `attacks` and in `occupied`, and the square of the least; 0 beside none: SHAPE, OVERLAP, UNION, BYTEBOARD.
 #[no_mangle]
 pub extern "C" fn chess_lvp(
     bitboards: &[u64],
@@ -37,7 +37,7 @@ pub extern "C" fn chess_lvp(
     }
 }
 
-// What the exchange that a capture starts is worth to the side to move: SHAPE, BOARD, SQUARE, MOVE, CROWD.
+// What the exchange that a capture starts is worth to the side to move: SHAPE, OVERLAP, UNION, BYTEBOARD, SQUARE, MOVE, CROWD.
 #[no_mangle]
 pub extern "C" fn chess_see(
     bitboards: &[u64],

@@ -18,7 +18,7 @@ pub const WON: u8 = 2;
 
 pub const DRAWN: u8 = 3;
 
-// The verdict for the side to move: SHAPE, BOARD.
+// The verdict for the side to move: SHAPE, OVERLAP, UNION, BYTEBOARD.
 #[no_mangle]
 pub extern "C" fn chess_eval_ending(
     bitboards: &[u64],
@@ -43,7 +43,7 @@ pub extern "C" fn chess_eval_ending(
     }
 }
 
-// What a colour's pieces are worth, without the pair of bishops: SHAPE, BOARD, SCORE.
+// What a colour's pieces are worth, without the pair of bishops: SHAPE, OVERLAP, UNION, BYTEBOARD, SCORE.
 #[no_mangle]
 pub extern "C" fn chess_eval_material(
     bitboards: &[u64],
@@ -64,7 +64,7 @@ pub extern "C" fn chess_eval_material(
     }
 }
 
-// The verdict, and beside it 0; or none, and the score for the side to move: SHAPE, BOARD, SCORE.
+// The verdict, and beside it 0; or none, and the score for the side to move: SHAPE, OVERLAP, UNION, BYTEBOARD, SCORE.
 #[no_mangle]
 pub extern "C" fn chess_eval(
     bitboards: &[u64],

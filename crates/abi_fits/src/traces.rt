@@ -11,7 +11,7 @@ use position::State;
 use trace_double::Doubled;
 use trace_shipped::Written;
 
-// The trace of a position: SHAPE, also where there are not 768 entries, BOARD.
+// The trace of a position: SHAPE, also where there are not 768 entries, OVERLAP, UNION, BYTEBOARD.
 #[no_mangle]
 pub extern "C" fn chess_compute_trace(
     bitboards: &[u64],

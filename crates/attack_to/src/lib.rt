@@ -13,7 +13,7 @@ pub enum Told {
     Refused(Refusal),
 }
 
-// The squares of the pieces of both colours that attack a square, whether they stand in `occupied` or not: SHAPE, BOARD, SQUARE.
+// The squares of the pieces of both colours that attack a square, whether they stand in `occupied` or not: SHAPE, OVERLAP, UNION, BYTEBOARD, SQUARE.
 pub fn attacks_to(bitboards: &[u64], board: &[u8], state: State, square: u8, occupied: u64) -> Found
     ensures { λ r. ⌜ AttacksTo (now (bitboards .entry)) (now (board .entry)) state square occupied r ⌝ }
 {
@@ -26,7 +26,7 @@ pub fn attacks_to(bitboards: &[u64], board: &[u8], state: State, square: u8, occ
     Found::Squares(inner::attacks_to(bitboards, square, occupied))
 }
 
-// Whether a piece of the other colour attacks a square: SHAPE, BOARD, SQUARE.
+// Whether a piece of the other colour attacks a square: SHAPE, OVERLAP, UNION, BYTEBOARD, SQUARE.
 pub fn is_attacked(bitboards: &[u64], board: &[u8], state: State, square: u8, color: u8) -> Told
     ensures { λ r. ⌜ IsAttacked (now (bitboards .entry)) (now (board .entry)) state square color r ⌝ }
 {
@@ -42,7 +42,7 @@ pub fn is_attacked(bitboards: &[u64], board: &[u8], state: State, square: u8, co
     Told::Is(inner::is_attacked(bitboards, square, color))
 }
 
-// Whether a colour's king is attacked, the lowest if it has several; true if it has none: SHAPE, BOARD.
+// Whether a colour's king is attacked, the lowest if it has several; true if it has none: SHAPE, OVERLAP, UNION, BYTEBOARD.
 pub fn is_check(bitboards: &[u64], board: &[u8], state: State, color: u8) -> Told
     ensures { λ r. ⌜ IsCheck (now (bitboards .entry)) (now (board .entry)) state color r ⌝ }
 {

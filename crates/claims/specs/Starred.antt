@@ -9,7 +9,7 @@ use Rattle.refusal.specs.Answer.{Answer, given, refused}
 use Rattle.bits.specs.Bitboard.{has, those, some, howMany}
 use Rattle.position_boards.specs.Boards.{bitboardsOf}
 use Rattle.position_boards.specs.Sound.{boardsWith, ofColour}
-use Rattle.position_consistent.specs.Consistent.{consistent}
+use Rattle.position_odds.specs.Odds.{orOdds}
 use Rattle.position.specs.Checked.{ofSide, checked}
 use Rattle.exchange.specs.Exchange.{exchangeOf}
 use Rattle.exchange_start.specs.Capture.{mayCapture, uncrowded}
@@ -30,7 +30,7 @@ valued (refused number beside) = refused number beside
 
 -- what the doors of the score and of the exchange answer, refusals and all
 unfoldable pub answerOf : List Placed → Question → Answer Outcome
-unfolding bytesOf bitboardsOf tabulate those has some howMany allBelow boardsWith ofColour consistent checked evalOf mayCapture uncrowded exchangeOf
+unfolding bytesOf bitboardsOf tabulate those has some howMany allBelow boardsWith ofColour orOdds checked evalOf mayCapture uncrowded exchangeOf
 answerOf ps (scored side) = let bytes : List ℕ = bytesOf ps in evalOf (bitboardsOf bytes) bytes (ofSide side)
 answerOf ps (exchanged from to) = let bytes : List ℕ = bytesOf ps in valued (seeOf (bitboardsOf bytes) bytes (ofSide 0) from to)
 

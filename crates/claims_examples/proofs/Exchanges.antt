@@ -7,10 +7,11 @@ use lib.ListN.{length}
 use Rattle.laws.specs.Tests.{allBelow}
 use Rattle.laws.specs.Tables.{tabulate}
 use Rattle.refusal.specs.Answer.{Answer, given, refused}
-use Rattle.bits.specs.Bitboard.{has, those, some, howMany, board}
+use Rattle.bits.specs.Bitboard.{has, those, some, howMany, firstFrom, board}
 use Rattle.position_boards.specs.Boards.{bitboardsOf}
 use Rattle.position_boards.specs.Sound.{boardsWith, ofColour}
-use Rattle.position_consistent.specs.Consistent.{consistent}
+use Rattle.position_odds.specs.Named.{lowestWrong}
+use Rattle.position_odds.specs.Odds.{orOdds}
 use Rattle.position.specs.Checked.{ofSide, checked}
 use Rattle.attack.specs.Attacks.{occupied}
 use Rattle.attack_to.specs.Attackers.{attackers}
@@ -24,7 +25,7 @@ use Rattle.exchange.specs.Answers.{seeOf}
 
 -- the door's answer with White to move, refusals and all
 unfoldable answered : List Placed → ℕ → ℕ → Answer ℤ
-unfolding bytesOf bitboardsOf tabulate those has some howMany allBelow boardsWith ofColour consistent checked mayCapture uncrowded exchangeOf
+unfolding bytesOf bitboardsOf tabulate those has some howMany allBelow boardsWith ofColour orOdds checked mayCapture uncrowded exchangeOf
 answered ps from to = let bytes : List ℕ = bytesOf ps in let bbs : List ℕ = bitboardsOf bytes in seeOf bbs bytes (ofSide 0) from to
 
 -- queen d1 takes pawn d5, pawn e4 behind her; knight f6, bishop b7 defend; kings g1, g8
@@ -100,18 +101,18 @@ squares : answered queenCase 64 35 ∷ answered queenCase 3 64 ∷ [] ≡ refuse
 unfolding answered
 squares = refl
 
--- BOARD where a byte is not its board's, before SQUARE; SHAPE where the side is none, before BOARD
+-- BYTEBOARD with a2 where a byte is not its board's, before SQUARE; SHAPE where the side is none, before BYTEBOARD
 unfoldable amiss : ℕ → ℕ → Answer ℤ
-unfolding bytesOf bitboardsOf tabulate those has some howMany allBelow boardsWith ofColour consistent checked mayCapture uncrowded exchangeOf
+unfolding bytesOf bitboardsOf tabulate those has some howMany allBelow boardsWith ofColour orOdds lowestWrong firstFrom checked mayCapture uncrowded exchangeOf
 amiss side from = let bbs : List ℕ = bitboardsOf (bytesOf queenCase) in seeOf bbs (bytesOf (putOn 2 8 ∷ queenCase)) (ofSide side) from 35
 
-amiss-is : amiss 0 3 ∷ amiss 0 64 ∷ amiss 2 3 ∷ [] ≡ refused 2 [] ∷ refused 2 [] ∷ refused 1 [] ∷ []
+amiss-is : amiss 0 3 ∷ amiss 0 64 ∷ amiss 2 3 ∷ [] ≡ refused 16 (8 ∷ []) ∷ refused 16 (8 ∷ []) ∷ refused 1 [] ∷ []
 unfolding amiss
 amiss-is = refl
 
 -- ---- the least attacker of a colour on d5, where only some squares are still there: the queen's position with black knights on c7 and e7 too
 unfoldable leastOn : ℕ → List ℕ → Answer (List ℕ)
-unfolding bytesOf bitboardsOf tabulate those has some howMany allBelow boardsWith ofColour consistent checked attackers occupied board leastOf
+unfolding bytesOf bitboardsOf tabulate those has some howMany allBelow boardsWith ofColour orOdds checked attackers occupied board leastOf
 leastOn colour still =
     let bytes : List ℕ = bytesOf (putOn 5 50 ∷ putOn 5 52 ∷ queenCase) in
     let bbs : List ℕ = bitboardsOf bytes in

@@ -17,7 +17,7 @@ pub enum Least {
     Refused(Refusal),
 }
 
-// The lowest square of the first kind that has an attacker of the colour, in `attacks` and in `occupied`: SHAPE, BOARD.
+// The lowest square of the first kind that has an attacker of the colour, in `attacks` and in `occupied`: SHAPE, OVERLAP, UNION, BYTEBOARD.
 pub fn lvp(
     bitboards: &[u64],
     board: &[u8],

@@ -22,7 +22,7 @@ lent-row number (refused n v) = refl
 pub told-row : (tables : List (List ℕ)) (pst : List ℤ) → tables ≡ stepTables → pst ≡ pstTable → (number : ℕ) (a : Answer Line) → rowBy (scoreWith tables pst) number a ≡ rowOf number a
 told-row tables pst e f number a = ap₂ (λ (t : List (List ℕ)) (w : List ℤ). rowBy (scoreWith t w) number a) e f ∙ lent-row number a
 
--- neither SHAPE nor BOARD comes before a row's score
+-- neither SHAPE nor anything at odds comes before a row's score
 pub shown-eval : (line : List ℕ) (l : Line) → lineOf line ≡ given l → evalOf (bitboardsOf (l .board)) (l .board) (l .state) ≡ scoreOf (bitboardsOf (l .board)) (l .state)
 unfolding evalOf
 shown-eval line l e = loaded-checked line l e (scoreOf (bitboardsOf (l .board)) (l .state))

@@ -1,5 +1,5 @@
 -- What a line that is not refused writes is a consistent position, and the only one whose bytes its ranks spell. So a call on it meets
--- neither SHAPE nor BOARD. Assumes nothing.
+-- neither SHAPE nor anything at odds. Assumes nothing.
 use mathlib.Core.Path.{_≡_, sym, ap, _∙_}
 use mathlib.Core.Bool.{true}
 use mathlib.Core.List.{List}
@@ -44,7 +44,7 @@ module _ (line : List ℕ) (l : Line) (e : lineOf line ≡ given l) where
   pub loaded-only : (bitboards : List ℕ) → length bitboards ≡ 14 → ((board : ℕ) → getD bitboards board 0 < 2 ^ 64) → consistent bitboards (l .board) ≡ true → bitboards ≡ bitboardsOf (l .board)
   loaded-only bitboards n small c = only-made bitboards (l .board) c n small
 
-  -- neither SHAPE nor BOARD stands before what is asked of it
+  -- neither SHAPE nor anything at odds stands before what is asked of it
   pub loaded-checked : {A : Type 0} (rest : Answer A) → checked (bitboardsOf (l .board)) (l .board) (l .state) rest ≡ rest
   loaded-checked rest =
       sym (sound (bitboardsOf (l .board)) (l .board) (l .state) rest

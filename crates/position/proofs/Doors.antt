@@ -12,6 +12,11 @@ use Rattle.refusal.specs.declared.Refusal.{Refusal}
 use Rattle.refusal.specs.declared.Refusal.the-variants as R
 use Rattle.refusal.proofs.Answers.{given-not}
 use Rattle.position_consistent.specs.Consistent.{consistent}
+use Rattle.position_odds.specs.Odds.{orOdds}
+use Rattle.position_odds.specs.Promises.{sized, refusedAs, Tells}
+use Rattle.position_odds.specs.Exactly.{AtOdds}
+use Rattle.position_odds.proofs.Exactly.{goes-on, at-odds}
+use Rattle.position_odds.proofs.Determined.{refused-one}
 use Rattle.position.specs.Checked.{shaped, checked}
 use Rattle.position.specs.Promises.{paper, Checks}
 use Rattle.position.specs.declared.State.{State}
@@ -48,19 +53,43 @@ bytes-64 bbs bytes state e =
 pub side-below-2 : (bbs bytes : List ℕ) (state : State) → shaped bbs bytes state ≡ true → state .side < 2
 side-below-2 bbs bytes state e = ltb→lt (state .side) 2 (and-r (eqb (length bbs) 14 && eqb (length bytes) 64) (ltb (state .side) 2) (true-T e))
 
--- ---- the three answers
+-- ---- the answers
 module _ {A : Type 0} (bbs bytes : List ℕ) (state : State) (rest : Answer A) where
   pub misshapen : shaped bbs bytes state ≡ false → refusalOf R.Shape ≡ checked bbs bytes state rest
   unfolding checked
-  misshapen e = sym (ap (λ (t : Bool). orRefuse t R.Shape (orRefuse (consistent bbs bytes) R.Board rest)) e)
+  misshapen e = sym (ap (λ (t : Bool). orRefuse t R.Shape (orOdds bbs bytes rest)) e)
 
-  pub inconsistent : shaped bbs bytes state ≡ true → consistent bbs bytes ≡ false → refusalOf R.Board ≡ checked bbs bytes state rest
+  in-order : shaped bbs bytes state ≡ true → (x : Answer A) → orOdds bbs bytes rest ≡ x → x ≡ checked bbs bytes state rest
   unfolding checked
-  inconsistent s e = sym (ap₂ (λ (t u : Bool). orRefuse t R.Shape (orRefuse u R.Board rest)) s e)
+  in-order s x e = sym e ∙ sym (ap (λ (t : Bool). orRefuse t R.Shape (orOdds bbs bytes rest)) s)
 
   pub sound : shaped bbs bytes state ≡ true → consistent bbs bytes ≡ true → rest ≡ checked bbs bytes state rest
-  unfolding checked
-  sound s e = sym (ap₂ (λ (t u : Bool). orRefuse t R.Shape (orRefuse u R.Board rest)) s e)
+  sound s e = in-order s rest (goes-on bbs bytes rest e)
+
+  -- what is at odds, refusedAs by one refusal, is every call's refusal
+  pub inconsistent : shaped bbs bytes state ≡ true → consistent bbs bytes ≡ false → (q : Refusal) → Tells bbs bytes q → refusalOf q ≡ checked bbs bytes state rest
+  inconsistent s e q p =
+      let o = at-odds bbs bytes e in
+      in-order s (refusalOf q) (o .refuses rest ∙ ap (λ (r : Refusal). refusalOf r) (the-one o))
+    where
+      sized-too : shaped bbs bytes state ≡ true → sized bbs bytes ≡ true
+      sized-too t = ap₂ _&&_ (eq-eqb (length bbs) 14 (boards-14 bbs bytes state t)) (eq-eqb (length bytes) 64 (bytes-64 bbs bytes state t))
+
+      the-one : (o : AtOdds bbs bytes) → o .refusal ≡ q
+      the-one o =
+          refused-one (o .refusal) q
+          (sym (o .refuses (refusedAs (R.Byteboard 64))) ∙ sym (ap (λ (t : Bool). orRefuse t R.Shape (orOdds bbs bytes (refusedAs (R.Byteboard 64)))) (sized-too s)) ∙ sym p)
+
+-- an answer was given: the position has its shape, and the answer is the rest's
+pub rest-given : {A : Type 0} (bbs bytes : List ℕ) (state : State) (rest : Answer A) (a : A) → checked bbs bytes state rest ≡ given a
+    → (shaped bbs bytes state ≡ true) × (rest ≡ given a)
+unfolding checked
+rest-given bbs bytes state rest a e = go (shaped bbs bytes state) (consistent bbs bytes) refl e
+  where
+    go : (s t : Bool) → consistent bbs bytes ≡ t → orRefuse s R.Shape (orOdds bbs bytes rest) ≡ given a → (s ≡ true) × (rest ≡ given a)
+    go true true c p = (refl, sym (goes-on bbs bytes rest c) ∙ p)
+    go true false c p = given-not (sym p ∙ at-odds bbs bytes c .refuses rest)
+    go false t c p = given-not (sym p)
 
 -- ---- after a call of `check`
 abbrev done : Answer (Unit {0})
@@ -69,12 +98,12 @@ done = given tt
 module _ (bbs bytes : List ℕ) (state : State) (r : Checked) (promise : Checks bbs bytes state r) where
   fit-both : r ≡ Fit → (shaped bbs bytes state ≡ true) × (consistent bbs bytes ≡ true)
   unfolding checked
-  fit-both e = go (shaped bbs bytes state) (consistent bbs bytes) (sym (ap paper e) ∙ promise)
+  fit-both e = go (shaped bbs bytes state) (consistent bbs bytes) refl (sym (ap paper e) ∙ promise)
     where
-      go : (s t : Bool) → done ≡ orRefuse s R.Shape (orRefuse t R.Board done) → (s ≡ true) × (t ≡ true)
-      go true true p = (refl, refl)
-      go true false p = given-not p
-      go false t p = given-not p
+      go : (s t : Bool) → consistent bbs bytes ≡ t → done ≡ orRefuse s R.Shape (orOdds bbs bytes done) → (s ≡ true) × (t ≡ true)
+      go true true q p = (refl, refl)
+      go true false q p = given-not (p ∙ at-odds bbs bytes q .refuses done)
+      go false t q p = given-not p
 
   -- it fits: the position has its shape and is consistent, and the rest of the definition is the answer
   pub fit-shaped : r ≡ Fit → shaped bbs bytes state ≡ true
@@ -89,9 +118,12 @@ module _ (bbs bytes : List ℕ) (state : State) (r : Checked) (promise : Checks 
   -- it is refused: so is every call on the position
   pub pass-on : {A : Type 0} (rest : Answer A) (q : Refusal) → r ≡ Refused q → refusalOf q ≡ checked bbs bytes state rest
   unfolding checked
-  pass-on {A} rest q e = go (shaped bbs bytes state) (consistent bbs bytes) (sym (ap paper e) ∙ promise)
+  pass-on {A} rest q e = go (shaped bbs bytes state) (consistent bbs bytes) refl (sym (ap paper e) ∙ promise)
     where
-      go : (s t : Bool) → refusalOf q ≡ orRefuse s R.Shape (orRefuse t R.Board done) → refusalOf q ≡ orRefuse s R.Shape (orRefuse t R.Board rest)
-      go true true p = given-not (sym p)
-      go true false p = cc
-      go false t p = cc
+      go : (s t : Bool) → consistent bbs bytes ≡ t → refusalOf q ≡ orRefuse s R.Shape (orOdds bbs bytes done) → refusalOf q ≡ orRefuse s R.Shape (orOdds bbs bytes rest)
+      go true true c p = given-not (sym (p ∙ goes-on bbs bytes done c))
+      go true false c p =
+          let o = at-odds bbs bytes c in
+          let both : refusalOf {A = Unit {0}} q ≡ refusalOf (o .refusal) = p ∙ o .refuses done in
+          ap (λ (x : Refusal). refusalOf x) (refused-one q (o .refusal) both) ∙ sym (o .refuses rest)
+      go false t c p = cc

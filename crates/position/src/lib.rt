@@ -17,7 +17,8 @@ pub enum Checked {
     Refused(Refusal),
 }
 
-// SHAPE, then BOARD: the test that every call on a position begins with.
+// SHAPE, then OVERLAP, UNION, BYTEBOARD: the test that every call on a position begins with. Which of the three, and at which square, is looked for
+// after a no alone: a consistent position pays nothing for it.
 pub fn check(bitboards: &[u64], board: &[u8], state: State) -> Checked
     ensures { λ r. ⌜ Checks (now (bitboards .entry)) (now (board .entry)) state r ⌝ }
 {
@@ -30,8 +31,8 @@ pub fn check(bitboards: &[u64], board: &[u8], state: State) -> Checked
     if index(state.side) >= Color::COUNT {
         return Checked::Refused(Refusal::Shape);
     }
-    if !position_consistent::fits(bitboards, board) {
-        return Checked::Refused(Refusal::Board);
+    if position_consistent::fits(bitboards, board) {
+        return Checked::Fit;
     }
-    Checked::Fit
+    Checked::Refused(position_odds::at_odds(bitboards, board))
 }

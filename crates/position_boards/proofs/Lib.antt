@@ -2,6 +2,7 @@ pub mod Apart
 pub mod United
 pub mod Crowded
 pub mod Tested
+pub mod Wrong
 pub mod Places
 pub mod Planes
 pub mod Copied

@@ -15,7 +15,7 @@ use Rattle.position_boards.specs.Sound.{on, boardsWith, apart, ofColour,
 use Rattle.position_boards.specs.PrivateTested.{sharedBy, colourSquares}
 
 -- ---- "don't overlap": no square that two boards have
-at-most-one : (x : ℕ) → not (leb 2 x) ≡ leb x 1
+pub at-most-one : (x : ℕ) → not (leb 2 x) ≡ leb x 1
 at-most-one zero = refl
 at-most-one (suc zero) = refl
 at-most-one (suc (suc x)) = ap not (le-leb 2 (suc (suc x)) (omega arith)) ∙ sym (lt-leb (suc (suc x)) 1 (omega arith))

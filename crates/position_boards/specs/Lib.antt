@@ -1,4 +1,5 @@
 pub mod Sound
+pub mod Wrong
 pub mod Boards
 pub mod Promises
 pub mod PrivateTested

@@ -24,9 +24,13 @@ apart bbs k = leb (boardsWith bbs k) 1
 unfoldable pub ofColour : List ℕ → ℕ → ℕ → Bool
 ofColour bbs colour k = some 6 (λ n. on bbs (2 + 2 * n + colour) k)
 
+-- a colour's board has square k exactly where one of its pieces' has
+abbrev pub unitedIn : List ℕ → ℕ → ℕ → Bool
+unitedIn bbs colour k = Bool·beq (on bbs colour k) (ofColour bbs colour k)
+
 -- "board 0 is the union of the even codes from 2, board 1 of the odd codes from 3"
 abbrev pub united : List ℕ → ℕ → Bool
-united bbs k = Bool·beq (on bbs 0 k) (ofColour bbs 0 k) && Bool·beq (on bbs 1 k) (ofColour bbs 1 k)
+united bbs k = unitedIn bbs 0 k && unitedIn bbs 1 k
 
 -- there are 14, and the two tests hold over all squares
 unfoldable pub sound : List ℕ → Bool

@@ -6,7 +6,7 @@ ghost use Rattle.laws.specs.Tables.{tabulate};
 ghost use Rattle.bits.specs.Bitboard.{has};
 ghost use Rattle.position_boards.specs.PrivateTested.{sharedBy, colourSquares, sortedBy, boardsBy};
 ghost use Rattle.position_boards.specs.Planes.{Row, Rows, Covers, Sliced, rankWord, digitsOf, highOf, beyondOf, placesBy};
-ghost use Rattle.position_boards.specs.Promises.{TestsBoards, Makes};
+ghost use Rattle.position_boards.specs.Promises.{TestsBoards, Overlaps, Splits, Makes};
 use chess::color::BLACK_BOARD;
 use chess::color::Color;
 use chess::color::WHITE_BOARD;
@@ -70,6 +70,28 @@ pub fn sound(bitboards: &[u64]) -> bool
     }
     let black = unite(bitboards, BLACK_BOARD);
     bitboards[BLACK_BOARD] == black
+}
+
+// The squares where the first test fails: two or more piece boards have them. None unless there are 14 boards.
+pub fn overlap(bitboards: &[u64]) -> u64
+    ensures { λ r. ⌜ Overlaps (now (bitboards .entry)) r ⌝ }
+{
+    if bitboards.len() != Piece::BOARDS {
+        return 0;
+    }
+    shared(bitboards)
+}
+
+// The squares where the second fails: a colour's board, White's or Black's, isn't the union of its pieces'. None unless there are 14.
+pub fn split(bitboards: &[u64]) -> u64
+    ensures { λ r. ⌜ Splits (now (bitboards .entry)) r ⌝ }
+{
+    if bitboards.len() != Piece::BOARDS {
+        return 0;
+    }
+    let white = unite(bitboards, WHITE_BOARD);
+    let black = unite(bitboards, BLACK_BOARD);
+    bitboards[WHITE_BOARD] ^ white | bitboards[BLACK_BOARD] ^ black
 }
 
 // In a table by bytes: a place for each below 14, among them 1, which is no code, and one for all others.

@@ -11,11 +11,10 @@ use Rattle.refusal.specs.declared.Refusal.the-variants as R
 
 -- their places in the table, from 0
 abbrev pub unnamed : List ℕ
-unnamed = 0 ∷ 1 ∷ 2 ∷ 3 ∷ 4 ∷ 5 ∷ 6 ∷ 7 ∷ 8 ∷ 9 ∷ 10 ∷ 11 ∷ 12 ∷ 16 ∷ 17 ∷ 19 ∷ 20 ∷ 21 ∷ 22 ∷ 23 ∷ 24 ∷ 25 ∷ 28 ∷ 29 ∷ 30 ∷ 31 ∷ []
+unnamed = 0 ∷ 1 ∷ 2 ∷ 3 ∷ 4 ∷ 5 ∷ 6 ∷ 7 ∷ 8 ∷ 9 ∷ 10 ∷ 11 ∷ 15 ∷ 16 ∷ 18 ∷ 19 ∷ 20 ∷ 21 ∷ 22 ∷ 23 ∷ 24 ∷ 27 ∷ 28 ∷ 29 ∷ 30 ∷ []
 
 pub none-named : (r : Refusal) → OneOf unnamed (tagOf the-type r) → [] ≡ besideOf r
 none-named R.Shape o = refl
-none-named R.Board o = refl
 none-named R.Score o = refl
 none-named R.Square o = refl
 none-named R.Move o = refl
@@ -27,12 +26,12 @@ none-named R.Field o = refl
 none-named R.Place o = refl
 none-named R.Side o = refl
 none-named R.Result o = refl
-none-named (R.Overlap s) o = absurd (miss unnamed 13 tt o)
-none-named (R.Union s) o = absurd (miss unnamed 14 tt o)
-none-named (R.Byteboard s) o = absurd (miss unnamed 15 tt o)
+none-named (R.Overlap s) o = absurd (miss unnamed 12 tt o)
+none-named (R.Union s) o = absurd (miss unnamed 13 tt o)
+none-named (R.Byteboard s) o = absurd (miss unnamed 14 tt o)
 none-named R.Room o = refl
 none-named R.Length o = refl
-none-named (R.Code s) o = absurd (miss unnamed 18 tt o)
+none-named (R.Code s) o = absurd (miss unnamed 17 tt o)
 none-named R.Order o = refl
 none-named R.Entry o = refl
 none-named R.Many o = refl
@@ -40,8 +39,8 @@ none-named R.Iteration o = refl
 none-named R.Kings o = refl
 none-named R.Pawns o = refl
 none-named R.Pieces o = refl
-none-named (R.Rank s) o = absurd (miss unnamed 26 tt o)
-none-named (R.Check s) o = absurd (miss unnamed 27 tt o)
+none-named (R.Rank s) o = absurd (miss unnamed 25 tt o)
+none-named (R.Check s) o = absurd (miss unnamed 26 tt o)
 none-named R.Rights o = refl
 none-named R.Passant o = refl
 none-named R.Counter o = refl

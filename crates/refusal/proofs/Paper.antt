@@ -17,19 +17,18 @@ one p q = p ∙ sym q
 pub retract : {X A : Type 0} (paper : X → A) (from : A → X) → ((r : X) → from (paper r) ≡ r) → (r s : X) → paper r ≡ paper s → r ≡ s
 retract paper from back r s e = sym (back r) ∙ ap from e ∙ back s
 
--- the refusal of a number with the values beside it, as 01 and 02 list them
+-- the refusal of a number with the values beside it, as 01 and 02 list them; no refusal has the numbers 0 and 2
 abbrev pub ofNumber : ℕ → List ℕ → Refusal
 ofNumber n values =
     let s : ℕ = getD values 0 0 in
     getD
-    (R.Shape ∷ R.Shape ∷ R.Board ∷ R.Score ∷ R.Square ∷ R.Move ∷ R.Crowd ∷ R.Trace ∷ R.Long ∷ R.Byte ∷ R.Field ∷ R.Place ∷ R.Side ∷ R.Result
+    (R.Shape ∷ R.Shape ∷ R.Shape ∷ R.Score ∷ R.Square ∷ R.Move ∷ R.Crowd ∷ R.Trace ∷ R.Long ∷ R.Byte ∷ R.Field ∷ R.Place ∷ R.Side ∷ R.Result
     ∷ R.Overlap s ∷ R.Union s ∷ R.Byteboard s ∷ R.Room ∷ R.Length ∷ R.Code s ∷ R.Order ∷ R.Entry ∷ R.Many ∷ R.Iteration
     ∷ R.Kings ∷ R.Pawns ∷ R.Pieces ∷ R.Rank s ∷ R.Check s ∷ R.Rights ∷ R.Passant ∷ R.Counter ∷ R.Absent ∷ [])
     n R.Shape
 
 pub number-back : (r : Refusal) → ofNumber (numberOf r) (besideOf r) ≡ r
 number-back R.Shape = refl
-number-back R.Board = refl
 number-back R.Score = refl
 number-back R.Square = refl
 number-back R.Move = refl
@@ -73,7 +72,6 @@ readBack is out (refused n l) = out (ofNumber n l)
 -- no refusal's number has three digits
 pub number-small : (r : Refusal) → numberOf r < 100
 number-small R.Shape = omega arith
-number-small R.Board = omega arith
 number-small R.Score = omega arith
 number-small R.Square = omega arith
 number-small R.Move = omega arith

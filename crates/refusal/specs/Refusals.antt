@@ -7,10 +7,9 @@ use Rattle.refusal.specs.declared.Refusal.the-variants as R
 use Rattle.refusal.specs.declared.Beside.{Beside}
 use Rattle.refusal.specs.declared.Beside.the-variants as B
 
--- 01's column "No.", then the numbers of 02's requests
+-- 01's column "No." but 2, which 02's "14 OVERLAP, 15 UNION, 16 BYTEBOARD replace", then the numbers of 02's requests
 abbrev pub numberOf : Refusal → ℕ
 numberOf R.Shape = 1
-numberOf R.Board = 2
 numberOf R.Score = 3
 numberOf R.Square = 4
 numberOf R.Move = 5
@@ -45,7 +44,6 @@ numberOf R.Absent = 32
 -- "a refusal naming a square .. returns it beside its number"; 01's "returns its number only"
 abbrev pub besideOf : Refusal → List ℕ
 besideOf R.Shape = []
-besideOf R.Board = []
 besideOf R.Score = []
 besideOf R.Square = []
 besideOf R.Move = []

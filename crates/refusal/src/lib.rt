@@ -1,10 +1,10 @@
 // Why a call is refused: the one table of documents 01 and 02, with the number of each and the square that some name.
 ghost use Rattle.refusal.specs.Refusals.{Numbers, NamesSquare};
 
-// 1 to 13 are document 01's, the others document 02's. A number whose request has not landed is given by no call yet.
+// 1 to 13 are document 01's, the others document 02's. 2 was BOARD: 14 to 16 stand in its place, and no refusal has its number again.
+// A number whose request has not landed is given by no call yet.
 pub enum Refusal {
     Shape,
-    Board,
     Score,
     Square,
     Move,
@@ -53,7 +53,6 @@ impl Refusal {
     {
         match self {
             Refusal::Shape => 1,
-            Refusal::Board => 2,
             Refusal::Score => 3,
             Refusal::Square => 4,
             Refusal::Move => 5,

@@ -1,4 +1,5 @@
 // What there is to say to a question, and how it is written.
+use refusal::Beside;
 use refusal::Refusal;
 use score_verdict::Verdict;
 
@@ -46,11 +47,15 @@ fn word(verdict: Verdict) {
     }
 }
 
-// SCORE has a word of its own, as in the ledger's rows.
+// SCORE has a word of its own, as in the ledger's rows. A square stands after the number.
 fn refused(refusal: Refusal) {
     if let Refusal::Score = refusal {
         return write(b"over");
     }
     write(b"refused ");
     natural(refusal.number() as u64);
+    if let Beside::Square(square) = refusal.square() {
+        write(b" ");
+        natural(square as u64);
+    }
 }

@@ -38,7 +38,7 @@ unfoldable pub material : List ℕ → ℕ → ℕ
 unfolding worth pair
 material bbs colour = worth bbs colour + pair bbs colour * pairValue
 
--- "`eval_material` gives SCORE exactly if its total is above 32767", after SHAPE and BOARD
+-- "`eval_material` gives SCORE exactly if its total is above 32767", after SHAPE, OVERLAP, UNION and BYTEBOARD
 unfoldable pub materialOf : List ℕ → List ℕ → State → ℕ → Answer ℤ
 unfolding checked worth
 materialOf bbs bytes state colour =

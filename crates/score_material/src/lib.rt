@@ -9,7 +9,7 @@ use refusal::Refusal;
 
 pub mod inner;
 
-// A colour's material: SHAPE, BOARD, SCORE.
+// A colour's material: SHAPE, OVERLAP, UNION, BYTEBOARD, SCORE.
 pub enum Material {
     Is(i16),
     Refused(Refusal),
@@ -33,7 +33,7 @@ pub const BISHOP_PAIR: u32 = 33;
 // The largest number of 16 bits.
 const LARGEST: u32 = 32767;
 
-// What a colour's pieces are worth, without the pair of bishops: SHAPE, BOARD, SCORE.
+// What a colour's pieces are worth, without the pair of bishops: SHAPE, OVERLAP, UNION, BYTEBOARD, SCORE.
 pub fn eval_material(bitboards: &[u64], board: &[u8], state: State, color: u8) -> Material
     ensures { λ r. ⌜ EvalsMaterial (now (bitboards .entry)) (now (board .entry)) state color r ⌝ }
 {

@@ -14,13 +14,13 @@ pub enum Verdict {
     None,
 }
 
-// A verdict: SHAPE, BOARD.
+// A verdict: SHAPE, OVERLAP, UNION, BYTEBOARD.
 pub enum Ending {
     Is(Verdict),
     Refused(Refusal),
 }
 
-// Lost, won or drawn, for the side to move, or none of them: SHAPE, BOARD.
+// Lost, won or drawn, for the side to move, or none of them: SHAPE, OVERLAP, UNION, BYTEBOARD.
 pub fn eval_ending(bitboards: &[u64], board: &[u8], state: State) -> Ending
     ensures { λ r. ⌜ EvalsEnding (now (bitboards .entry)) (now (board .entry)) state r ⌝ }
 {

@@ -15,7 +15,7 @@ use Rattle.trace_counts.specs.declared.Trace.{Trace}
 use Rattle.trace.specs.Trace.{traceOf, entriesOf, noTrace}
 use Rattle.trace.specs.declared.Traced.{Traced}
 
--- "trace ..: 1, 2": SHAPE, also if "not .. 768 trace entries", then BOARD
+-- "trace ..: 1, 2": SHAPE, also if "not .. 768 trace entries", then OVERLAP, UNION, BYTEBOARD
 abbrev pub tracedOf : List ℕ → List ℕ → State → List ℤ → Answer Trace
 tracedOf bbs bytes state entries =
     orRefuse (eqb (length entries) 768) R.Shape (checked bbs bytes state (given (traceOf bbs (state .side))))

@@ -6,7 +6,7 @@ use Prim.Native.Nat.{ℕ}
 use native.Mathlib.Omega.{arith}
 use lib.ListN.{length}
 use borrow.Author.Needs.{needs}
-use borrow.Author.Tests.{eq-eqb, not-true, not-false}
+use borrow.Author.Tests.{eq-eqb}
 use Rattle.refusal.specs.Answer.{given}
 use Rattle.position_consistent.specs.Consistent.{consistent}
 use Rattle.position_consistent.specs.Promises.{Fits}
@@ -44,20 +44,26 @@ returns-4 c =
     let s = c .before .before in
     let b = s .before .before in
     let a = b .before .before .before .before .args in
-    inconsistent (a .bitboards .now) (a .board .now) (a .state) (given tt)
+    sound (a .bitboards .now) (a .board .now) (a .state) (given tt)
     (in-shape (a .bitboards .now) (a .board .now) (a .state) (b .before .if1 .left) (b .if2 .left) (omega arith))
-    (decided (a .bitboards .now) (a .board .now) (c .before .fits2 .result) (b .before .if1 .left) (b .if2 .left) (c .before .fits2 .ensures) ∙ not-true (c .before .fits2 .result) (c .if4 .taken))
+    (decided (a .bitboards .now) (a .board .now) (c .before .fits2 .result) (b .before .if1 .left) (b .if2 .left) (c .before .fits2 .ensures) ∙ c .if4 .taken)
+
+at-odds-requires : tie.Need-at-odds-requires
+at-odds-requires c κs = search needs
 
 returns-5 : tie.Need-returns-5
 returns-5 c =
-    let s = c .before .before in
+    let n = c .before in
+    let f = n .before in
+    let s = f .before in
     let b = s .before .before in
     let a = b .before .before .before .before .args in
-    sound (a .bitboards .now) (a .board .now) (a .state) (given tt)
+    inconsistent (a .bitboards .now) (a .board .now) (a .state) (given tt)
     (in-shape (a .bitboards .now) (a .board .now) (a .state) (b .before .if1 .left) (b .if2 .left) (omega arith))
-    (decided (a .bitboards .now) (a .board .now) (c .before .fits2 .result) (b .before .if1 .left) (b .if2 .left) (c .before .fits2 .ensures) ∙ not-false (c .before .fits2 .result) (c .if4 .left))
+    (decided (a .bitboards .now) (a .board .now) (f .fits2 .result) (b .before .if1 .left) (b .if2 .left) (f .fits2 .ensures) ∙ n .if4 .left)
+    (c .«at-odds» .result) (c .«at-odds» .ensures)
 
 pub check-spec : {M : Type 1} → statement M
 check-spec =
     tie.close
-    (tie.spec returns returns-2 index-requires returns-3 fits-requires returns-4 returns-5)
+    (tie.spec returns returns-2 index-requires returns-3 fits-requires returns-4 at-odds-requires returns-5)

@@ -98,9 +98,6 @@ enum-told-30 c = search needs
 enum-told-31 : tie.Need-enum-told-31
 enum-told-31 c = search needs
 
-enum-told-32 : tie.Need-enum-told-32
-enum-told-32 c = search needs
-
 returns : tie.Need-returns
 returns c = sym (ap numberOf (c .enum-told .given .1))
 
@@ -194,9 +191,6 @@ returns-30 c = sym (ap numberOf (c .enum-told30 .given .1))
 returns-31 : tie.Need-returns-31
 returns-31 c = sym (ap numberOf (c .enum-told31 .given .1))
 
-returns-32 : tie.Need-returns-32
-returns-32 c = sym (ap numberOf (c .enum-told32 .given .1))
-
 pub number-spec : {M : Type 1} → statement M
 number-spec =
     tie.close
@@ -232,7 +226,6 @@ number-spec =
     enum-told-29
     enum-told-30
     enum-told-31
-    enum-told-32
     returns
     returns-2
     returns-3
@@ -263,5 +256,4 @@ number-spec =
     returns-28
     returns-29
     returns-30
-    returns-31
-    returns-32)
+    returns-31)

@@ -1,6 +1,6 @@
 // The library's doors, by the declarations of its Rust face, with no more around them than the original's functions have.
 use crate::chess_scores::doors::*;
-use crate::chess_scores::Code;
+use crate::chess_scores::{Code, ORDER};
 use crate::color::WHITE;
 use crate::game::Game;
 use crate::tune;
@@ -51,7 +51,7 @@ pub fn is_check(game: &Game) -> i64 {
 
 pub fn see(game: &Game, from: u8, to: u8) -> i64 {
     let mut worth = 0;
-    answer(unsafe { chess_see(game.bitboards.as_ptr(), 14, game.board.as_ptr(), 64, game.side(), from, to, &mut worth) }, worth as i64)
+    answer(unsafe { chess_see(game.bitboards.as_ptr(), 14, game.board.as_ptr(), 64, game.side(), ORDER.as_ptr(), from, to, &mut worth) }, worth as i64)
 }
 
 pub fn piece_attacks(piece: u8, square: u8, occupied: u64) -> u64 {

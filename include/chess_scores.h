@@ -34,7 +34,7 @@ typedef struct {
 enum { CHESS_NO_SQUARE = 255 };
 
 /* Refusals. 2 was CHESS_BOARD: 14 to 16 come where it came, with a square, and nothing has its number again.
- * Of those from 17 on ITERATION alone is given yet. */
+ * Of those from 17 on ORDER, MANY and ITERATION alone are given yet. */
 enum {
     CHESS_SHAPE = 1,      /* a length, a side, a colour or a piece code that none has */
     CHESS_SCORE = 3,      /* a number leaves 16 bits on the way to the score */
@@ -123,14 +123,21 @@ chess_code chess_is_check(const uint64_t *bitboards, size_t bitboards_length, co
 
 /* ---- exchanges */
 
-/* Whether the colour has a piece in `attacks` and `occupied`, and the lowest square of the first kind that has one, in the order
- * pawn, knight, bishop, rook, queen, king; 0 beside false. SHAPE (the colour too), OVERLAP, UNION, BYTEBOARD. */
-chess_code chess_lvp(const uint64_t *bitboards, size_t bitboards_length, const uint8_t *board, size_t board_length, uint8_t side,
-                     uint8_t color, uint64_t attacks, uint64_t occupied, bool *found, uint8_t *square);
+/* An order of the six kinds is six bytes, each kind once: pawn 0, knight 1, bishop 2, rook 3, queen 4, king 5, the first to take first.
+ * CHESS_ORDER_01 is document 01's, the original's: const uint8_t order[CHESS_KINDS] = CHESS_ORDER_01. */
+enum { CHESS_KINDS = 6 };
+#define CHESS_ORDER_01 { 0, 1, 2, 3, 4, 5 }
 
-/* What the exchange that the capture `from`-`to` starts is worth to the side to move. SHAPE, OVERLAP, UNION, BYTEBOARD, SQUARE, MOVE, CROWD. */
+/* Whether the colour has a piece in `attacks` and `occupied`, the lowest square of the first kind in the order that has one, and that
+ * kind; 0 and 0 beside false. SHAPE (the colour too), OVERLAP, UNION, BYTEBOARD, ORDER. */
+chess_code chess_lvp(const uint64_t *bitboards, size_t bitboards_length, const uint8_t *board, size_t board_length, uint8_t side,
+                     const uint8_t order[CHESS_KINDS], uint8_t color, uint64_t attacks, uint64_t occupied, bool *found, uint8_t *square,
+                     uint8_t *kind);
+
+/* What the exchange that the capture `from`-`to` starts is worth to the side to move, the kinds capturing in the order. SHAPE, OVERLAP, UNION, BYTEBOARD,
+ * SQUARE, ORDER, MOVE, CROWD. */
 chess_code chess_see(const uint64_t *bitboards, size_t bitboards_length, const uint8_t *board, size_t board_length, uint8_t side,
-                     uint8_t from, uint8_t to, int16_t *worth);
+                     const uint8_t order[CHESS_KINDS], uint8_t from, uint8_t to, int16_t *worth);
 
 /* ---- traces
  *

@@ -29,8 +29,8 @@ pub(crate) mod doors {
         pub fn chess_attacks_to(bitboards: *const u64, b: usize, board: *const u8, s: usize, side: u8, square: u8, occupied: u64, squares: *mut u64) -> Code;
         pub fn chess_is_attacked(bitboards: *const u64, b: usize, board: *const u8, s: usize, side: u8, square: u8, color: u8, attacked: *mut bool) -> Code;
         pub fn chess_is_check(bitboards: *const u64, b: usize, board: *const u8, s: usize, side: u8, color: u8, check: *mut bool) -> Code;
-        pub fn chess_lvp(bitboards: *const u64, b: usize, board: *const u8, s: usize, side: u8, color: u8, attacks: u64, occupied: u64, found: *mut bool, square: *mut u8) -> Code;
-        pub fn chess_see(bitboards: *const u64, b: usize, board: *const u8, s: usize, side: u8, from: u8, to: u8, worth: *mut i16) -> Code;
+        pub fn chess_lvp(bitboards: *const u64, b: usize, board: *const u8, s: usize, side: u8, order: *const u8, color: u8, attacks: u64, occupied: u64, found: *mut bool, square: *mut u8, kind: *mut u8) -> Code;
+        pub fn chess_see(bitboards: *const u64, b: usize, board: *const u8, s: usize, side: u8, order: *const u8, from: u8, to: u8, worth: *mut i16) -> Code;
         pub fn chess_compute_trace(bitboards: *const u64, b: usize, board: *const u8, s: usize, side: u8, counts: *mut i32, mobility: *mut i32, sign: *mut i32, pieces: *mut i32, entries: *mut i32, e: usize) -> Code;
         pub fn chess_trace_eval(counts: *const i32, mobility: *const i32, sign: i32, pieces: i32, entries: *const i32, e: usize, weights: *const f64, squares: *const f64, w: usize, value: *mut f64) -> Code;
         pub fn chess_gradient_add(counts: *const i32, mobility: *const i32, sign: i32, pieces: i32, entries: *const i32, e: usize, coefficient: f64, gradient: *mut f64, g: usize) -> Code;
@@ -54,8 +54,11 @@ pub const BISHOP: u8 = 8;
 pub const ROOK: u8 = 10;
 pub const QUEEN: u8 = 12;
 
+/// Document 01's order of the kinds, pawn 0 to king 5, the first to take first: the original's.
+pub const ORDER: [u8; 6] = [0, 1, 2, 3, 4, 5];
+
 /// Why a call is refused: the table of documents 01 and 02, with the square that some name. 2 was BOARD: 14 to 16 come where it came, and
-/// nothing has its number again. Of those from `Room` on `Iteration` alone is given by a call yet.
+/// nothing has its number again. Of those from `Room` on `Order`, `Many` and `Iteration` alone are given by a call yet.
 #[derive(Clone, Copy, Debug, PartialEq, Eq)]
 pub enum Refusal {
     /// A length, a side, a colour or a piece code that none has.
@@ -339,18 +342,19 @@ impl Position {
         given(code, check)
     }
 
-    /// The lowest square of the first kind that has a piece of the colour in `attacks` and `occupied`, in the order pawn, knight, bishop,
-    /// rook, queen, king; or none. SHAPE, OVERLAP, UNION, BYTEBOARD.
-    pub fn lvp(&self, color: u8, attacks: u64, occupied: u64) -> Result<Option<u8>, Refusal> {
-        let (mut found, mut square) = (false, 0);
-        let code = unsafe { doors::chess_lvp(self.bitboards.as_ptr(), 14, self.board.as_ptr(), 64, self.side, color, attacks, occupied, &mut found, &mut square) };
-        given(code, found.then_some(square))
+    /// The lowest square of the first kind in the order that has a piece of the colour in `attacks` and `occupied`, and that kind; or none. SHAPE, OVERLAP, UNION, BYTEBOARD, ORDER.
+    pub fn lvp(&self, order: &[u8; 6], color: u8, attacks: u64, occupied: u64) -> Result<Option<(u8, u8)>, Refusal> {
+        let (mut found, mut square, mut kind) = (false, 0, 0);
+        let code = unsafe {
+            doors::chess_lvp(self.bitboards.as_ptr(), 14, self.board.as_ptr(), 64, self.side, order.as_ptr(), color, attacks, occupied, &mut found, &mut square, &mut kind)
+        };
+        given(code, found.then_some((square, kind)))
     }
 
-    /// What the exchange that a capture starts is worth to the side to move. SHAPE, OVERLAP, UNION, BYTEBOARD, SQUARE, MOVE, CROWD.
-    pub fn see(&self, from: u8, to: u8) -> Result<i16, Refusal> {
+    /// What the exchange that a capture starts is worth to the side to move, the kinds capturing in the order. SHAPE, OVERLAP, UNION, BYTEBOARD, SQUARE, ORDER, MOVE, CROWD.
+    pub fn see(&self, order: &[u8; 6], from: u8, to: u8) -> Result<i16, Refusal> {
         let mut worth = 0;
-        let code = unsafe { doors::chess_see(self.bitboards.as_ptr(), 14, self.board.as_ptr(), 64, self.side, from, to, &mut worth) };
+        let code = unsafe { doors::chess_see(self.bitboards.as_ptr(), 14, self.board.as_ptr(), 64, self.side, order.as_ptr(), from, to, &mut worth) };
         given(code, worth)
     }
 

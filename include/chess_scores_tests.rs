@@ -22,11 +22,27 @@ fn scores_of_document_01() {
 
 #[test]
 fn exchanges_of_document_01() {
-    assert_eq!(position("8/8/8/4p3/8/8/8/4R3 w").see(4, 36), Ok(100));
-    assert_eq!(position("8/8/3p4/4p3/8/8/8/4R3 w").see(4, 36), Ok(-387));
-    assert_eq!(position("6k1/1b6/5n2/3p4/4P3/8/8/3Q2K1 w").see(3, 35), Ok(-709));
-    assert_eq!(position(START).see(3, 35), Err(Refusal::Move));
-    assert_eq!(position(START).see(3, 64), Err(Refusal::Square));
+    assert_eq!(position("8/8/8/4p3/8/8/8/4R3 w").see(&ORDER, 4, 36), Ok(100));
+    assert_eq!(position("8/8/3p4/4p3/8/8/8/4R3 w").see(&ORDER, 4, 36), Ok(-387));
+    assert_eq!(position("6k1/1b6/5n2/3p4/4P3/8/8/3Q2K1 w").see(&ORDER, 3, 35), Ok(-709));
+    assert_eq!(position(START).see(&ORDER, 3, 35), Err(Refusal::Move));
+    assert_eq!(position(START).see(&ORDER, 3, 64), Err(Refusal::Square));
+}
+
+#[test]
+fn orders_of_capture() {
+    let queens = position("6k1/1b6/5n2/3p4/4P3/8/8/3Q2K1 w");
+    let bishops_first = [0, 2, 1, 3, 4, 5];
+    assert_eq!(queens.see(&bishops_first, 3, 35), Ok(-721));
+    let attackers = queens.attacks_to(35, u64::MAX).unwrap() | queens.bitboards[1];
+    assert_eq!(queens.lvp(&ORDER, BLACK, attackers & !queens.bitboards[3], u64::MAX), Ok(Some((45, 1))));
+    assert_eq!(queens.lvp(&bishops_first, BLACK, attackers & !queens.bitboards[3], u64::MAX), Ok(Some((49, 2))));
+    for no_order in [[0, 2, 2, 3, 4, 5], [0, 1, 2, 3, 4, 6]] {
+        assert_eq!(queens.see(&no_order, 3, 35), Err(Refusal::Order));
+        assert_eq!(queens.see(&no_order, 3, 36), Err(Refusal::Order));
+        assert_eq!(queens.see(&no_order, 64, 35), Err(Refusal::Square));
+        assert_eq!(queens.lvp(&no_order, BLACK, attackers, u64::MAX), Err(Refusal::Order));
+    }
 }
 
 #[test]
@@ -39,8 +55,8 @@ fn attacks() {
     assert_eq!(start.is_attacked(16, WHITE), Ok(false));
     let attackers = start.attacks_to(18, start.bitboards[0] | start.bitboards[1]).unwrap();
     assert_eq!(attackers, 1 << 1 | 1 << 9 | 1 << 11);
-    assert_eq!(start.lvp(WHITE, attackers, u64::MAX), Ok(Some(9)));
-    assert_eq!(start.lvp(BLACK, attackers, u64::MAX), Ok(None));
+    assert_eq!(start.lvp(&ORDER, WHITE, attackers, u64::MAX), Ok(Some((9, 0))));
+    assert_eq!(start.lvp(&ORDER, BLACK, attackers, u64::MAX), Ok(None));
 }
 
 #[test]

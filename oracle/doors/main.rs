@@ -87,6 +87,11 @@ fn odd(asked: &Question) -> Answer {
     double(asked.byte(2), asked.bitboard(3), &trace)
 }
 
+/// The six digits of an order, one a kind.
+fn order(digits: u64) -> [u8; 6] {
+    std::array::from_fn(|place| (digits / 10_u64.pow(5 - place as u32) % 10) as u8)
+}
+
 fn of_position(asked: &Question, position: Position) -> Answer {
     Ok(match asked.word {
         "eval" => return outcome(position),
@@ -95,8 +100,16 @@ fn of_position(asked: &Question, position: Position) -> Answer {
         "check" => (position.is_check(asked.byte(0))? as u8).to_string(),
         "attacked" => (position.is_attacked(asked.byte(0), asked.byte(1))? as u8).to_string(),
         "attacks_to" => position.attacks_to(asked.byte(0), asked.bitboard(1))?.to_string(),
-        "lvp" => position.lvp(asked.byte(0), asked.bitboard(1), asked.bitboard(2))?.map_or("none".to_string(), |square| square.to_string()),
-        "see" => position.see(asked.byte(0), asked.byte(1))?.to_string(),
+        "lvp" => {
+            let found = position.lvp(&chess_scores::ORDER, asked.byte(0), asked.bitboard(1), asked.bitboard(2))?;
+            found.map_or("none".to_string(), |(square, _)| square.to_string())
+        }
+        "see" => position.see(&chess_scores::ORDER, asked.byte(0), asked.byte(1))?.to_string(),
+        "lvp_by" => {
+            let found = position.lvp(&order(asked.bitboard(0)), asked.byte(1), asked.bitboard(2), asked.bitboard(3))?;
+            found.map_or("none".to_string(), |(square, kind)| format!("{square} {kind}"))
+        }
+        "see_by" => position.see(&order(asked.bitboard(0)), asked.byte(1), asked.byte(2))?.to_string(),
         "trace" => trace(&position.trace()?),
         "double" => return double(asked.byte(0), asked.bitboard(1), &position.trace()?),
         _ => "no door".to_string(),

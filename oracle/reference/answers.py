@@ -31,6 +31,16 @@ def number_or_none(answer):
     return "none" if answer is None else answer
 
 
+def kinds_of(order):
+    """An order's six digits, one a kind."""
+    return [order // 10 ** place % 10 for place in range(5, -1, -1)]
+
+
+def least(found, shown):
+    """So many of square and kind, or `none`."""
+    return "none" if found is None else numbers(found[:shown])
+
+
 def numbers(listed):
     return " ".join(map(str, listed))
 
@@ -109,8 +119,10 @@ WORDS = {
     "material": lambda colour, position: score.eval_material(position, colour),
     "additions": lambda position: numbers(score.Sums(position).additions),
     "see": lambda start, target, position: exchange.see(position, start, target),
-    "lvp": lambda colour, attacks, occupied, position: number_or_none(
-        exchange.lvp(position, colour, attacks, occupied)),
+    "lvp": lambda colour, attacks, occupied, position: least(exchange.lvp(position, colour, attacks, occupied), 1),
+    "see_by": lambda order, start, target, position: exchange.see(position, start, target, kinds_of(order)),
+    "lvp_by": lambda order, colour, attacks, occupied, position: least(
+        exchange.lvp(position, colour, attacks, occupied, kinds_of(order)), 2),
     "check": lambda colour, position: int(attack.is_check(position, colour)),
     "attacked": lambda square, colour, position: int(attack.is_attacked(position, square, colour)),
     "attacks_to": lambda square, occupied, position: attack.attacks_to(position, square, occupied),

@@ -1,25 +1,31 @@
-"""The least attacker and the exchange (01, "The exchange")."""
+"""The least attacker and the exchange (01, "The exchange"), for any order of the kinds (02, W-206)."""
 
 from .attack import attackers, attacks_from
 from .bitboard import count, scan
-from .pieces import COLOURS, EMPTY, KING, KINDS, code, value_of
+from .pieces import COLOURS, EMPTY, KING, KIND_OF_CODE, KINDS, code, value_of
 from .position import tested
-from .refusal import CROWD, MOVE, SQUARE, refuse_unless
+from .refusal import CROWD, MOVE, ORDER, SQUARE, refuse_unless
+
+
+def is_order(order):
+    """Each kind once."""
+    return sorted(order) == list(KINDS)
 
 
 def least(position, colour, attacks, occupied, order=KINDS):
-    """The lowest square of the first kind in the order that has an attacker still there, or None."""
+    """The lowest square of the first kind in the order that has an attacker still there, and the kind; or None."""
     still_there = attacks & occupied
     for kind in order:
         found = still_there & position.pieces(code(kind, colour))
         if found:
-            return scan(found)
+            return scan(found), kind
     return None
 
 
-def lvp(position, colour, attacks, occupied):
+def lvp(position, colour, attacks, occupied, order=KINDS):
     tested(position, colour)
-    return least(position, colour, attacks, occupied)
+    refuse_unless(is_order(order), ORDER)
+    return least(position, colour, attacks, occupied, order)
 
 
 def may_capture(position, start, target):
@@ -38,12 +44,12 @@ def crowded(position):
 def values_taken(position, start, target, order=KINDS):
     """What each capture takes: v0 the target, v1 the first capturer, and so on."""
     values = []
-    standing, capturer = position.board[target], start
+    standing, capturer = position.board[target], (start, KIND_OF_CODE[position.board[start]])
     side, occupied = position.side, position.occupied()
     while capturer is not None:
         values.append(value_of(standing))
-        standing = position.board[capturer]
-        occupied &= ~(1 << capturer)
+        standing = position.board[capturer[0]]
+        occupied &= ~(1 << capturer[0])
         side = 1 - side
         capturer = least(position, side, attackers(position, target, occupied), occupied, order)
     return values
@@ -57,9 +63,10 @@ def settled(values):
     return s
 
 
-def see(position, start, target):
+def see(position, start, target, order=KINDS):
     tested(position)
     refuse_unless(0 <= start <= 63 and 0 <= target <= 63, SQUARE)
+    refuse_unless(is_order(order), ORDER)
     refuse_unless(may_capture(position, start, target), MOVE)
     refuse_unless(not crowded(position), CROWD)
-    return settled(values_taken(position, start, target))
+    return settled(values_taken(position, start, target, order))

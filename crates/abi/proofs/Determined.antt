@@ -41,14 +41,15 @@ pub is-check : (bitboards board : List ℕ) (side colour : ℕ) (check : Bool) (
 is-check bitboards board side colour check r s v w = door
 
 -- ---- exchanges
-pub lvp : (bitboards board : List ℕ) (side colour attacks occupied : ℕ) (found : Bool) (square : ℕ) (r s : Code) (v w : Bool) (y z : ℕ)
-    → Lvp bitboards board side colour attacks occupied found square r v y → Lvp bitboards board side colour attacks occupied found square s w z
-    → (r ≡ s) × (v ≡ w) × (y ≡ z)
-lvp bitboards board side colour attacks occupied found square r s v w y z = doors
+pub lvp : (kinds bitboards board : List ℕ) (side colour attacks occupied : ℕ) (found : Bool) (square kind : ℕ) (r s : Code) (v w : Bool) (y z k l : ℕ)
+    → Lvp kinds bitboards board side colour attacks occupied found square kind r v y k → Lvp kinds bitboards board side colour attacks occupied found square kind s w z l
+    → (r ≡ s) × (v ≡ w) × (y ≡ z) × (k ≡ l)
+lvp kinds bitboards board side colour attacks occupied found square kind r s v w y z k l p q =
+    (one (p .code) (q .code), one (p .lent) (q .lent), one (p .lent2) (q .lent2), one (p .lent3) (q .lent3))
 
-pub see : (bitboards board : List ℕ) (side from to : ℕ) (worth : ℤ) (r s : Code) (v w : ℤ)
-    → See bitboards board side from to worth r v → See bitboards board side from to worth s w → (r ≡ s) × (v ≡ w)
-see bitboards board side from to worth r s v w = door
+pub see : (kinds bitboards board : List ℕ) (side from to : ℕ) (worth : ℤ) (r s : Code) (v w : ℤ)
+    → See kinds bitboards board side from to worth r v → See kinds bitboards board side from to worth s w → (r ≡ s) × (v ≡ w)
+see kinds bitboards board side from to worth r s v w = door
 
 -- ---- lines
 pub read-line : (line bitboards board : List ℕ) (side half : ℕ) (r s : Code) (b b′ y y′ : List ℕ) (v w h k : ℕ)

@@ -1,11 +1,10 @@
--- Verdicts, outcomes and a square or nobody as numbers for C. Definitions only.
+-- Verdicts, outcomes and an attacker or nobody as numbers for C. Definitions only.
 use mathlib.Core.Bool.{Bool, true, false}
-use mathlib.Core.List.{List, [], _∷_}
 use Prim.Native.Nat.{ℕ}
 use lib.IntN.{ℤ, pos}
+use Rattle.exchange_least.specs.Least.{Attacker, nobody, attacker}
 use Rattle.score_verdict.specs.Verdict as P
 use Rattle.score.specs.Score.{Outcome, verdict, score}
-use Rattle.abi_codes.specs.Codes.{firstOr}
 
 -- ---- a verdict's number, none 0
 abbrev pub verdictCode : P.Verdict → ℕ
@@ -23,10 +22,15 @@ abbrev pub outcomeScore : Outcome → ℤ
 outcomeScore (verdict v) = pos 0
 outcomeScore (score z) = z
 
--- ---- a square or nobody: whether there is one, and the square, 0 beside nobody
-abbrev pub anyone : List ℕ → Bool
-anyone [] = false
-anyone (s ∷ l) = true
+-- ---- an attacker or nobody: whether there is one, its square and its kind, 0 beside nobody
+abbrev pub anyone : Attacker → Bool
+anyone nobody = false
+anyone (attacker s kind) = true
 
-abbrev pub squareOr : List ℕ → ℕ
-squareOr l = firstOr 0 l
+abbrev pub squareOr : Attacker → ℕ
+squareOr nobody = 0
+squareOr (attacker s kind) = s
+
+abbrev pub kindOr : Attacker → ℕ
+kindOr nobody = 0
+kindOr (attacker s kind) = kind

@@ -19,7 +19,7 @@ use Rattle.score.specs.Score.{evalOf}
 use Rattle.score_verdict.specs.Verdict.{endingOf}
 use Rattle.score_material.specs.Material.{materialOf}
 use Rattle.abi_codes.specs.Codes.{answerNumber, lentAfter, Door, Doors, asItIs}
-use Rattle.abi.specs.Doors.{verdictCode, outcomeVerdict, outcomeScore, anyone, squareOr}
+use Rattle.abi.specs.Doors.{verdictCode, outcomeVerdict, outcomeScore, anyone, squareOr, kindOr}
 use Rattle.abi_codes.specs.declared.Code.{Code}
 
 -- ---- scores
@@ -47,12 +47,14 @@ abbrev pub IsCheck : List ℕ → List ℕ → ℕ → ℕ → Bool → Code →
 IsCheck bitboards board side colour check r check′ = Door (isCheckOf bitboards board (ofSide side) colour) asItIs check r check′
 
 -- ---- exchanges
-abbrev pub Lvp : List ℕ → List ℕ → ℕ → ℕ → ℕ → ℕ → Bool → ℕ → Code → Bool → ℕ → Type 0
-Lvp bitboards board side colour attacks occupied found square r found′ square′ =
-    Doors (lvpOf bitboards board (ofSide side) colour attacks occupied) anyone squareOr found square r found′ square′
+pub record Lvp (kinds bitboards board : List ℕ) (side colour attacks occupied : ℕ) (found : Bool) (square kind : ℕ) (r : Code) (found′ : Bool) (square′ kind′ : ℕ) : Type 0 where
+  pub code : r ≡ answerNumber (lvpOf kinds bitboards board (ofSide side) colour attacks occupied)
+  pub lent : found′ ≡ lentAfter anyone found (lvpOf kinds bitboards board (ofSide side) colour attacks occupied)
+  pub lent2 : square′ ≡ lentAfter squareOr square (lvpOf kinds bitboards board (ofSide side) colour attacks occupied)
+  pub lent3 : kind′ ≡ lentAfter kindOr kind (lvpOf kinds bitboards board (ofSide side) colour attacks occupied)
 
-abbrev pub See : List ℕ → List ℕ → ℕ → ℕ → ℕ → ℤ → Code → ℤ → Type 0
-See bitboards board side from to worth r worth′ = Door (seeOf bitboards board (ofSide side) from to) asItIs worth r worth′
+abbrev pub See : List ℕ → List ℕ → List ℕ → ℕ → ℕ → ℕ → ℤ → Code → ℤ → Type 0
+See kinds bitboards board side from to worth r worth′ = Door (seeOf kinds bitboards board (ofSide side) from to) asItIs worth r worth′
 
 -- ---- lines
 pub record ReadsLine (line bitboards board : List ℕ) (side half : ℕ) (r : Code) (bitboards′ board′ : List ℕ) (side′ half′ : ℕ) : Type 0 where

@@ -3,53 +3,67 @@ ghost use Rattle.abi.specs.Promises.{Lvp, See};
 use crate::GIVEN;
 use abi_codes::Code;
 use abi_codes::refused;
+use chess::kind::Kind;
 use exchange::Exchanged;
 use exchange_least::Least;
 use position::State;
 
-// Whether there is an attacker of the colour, in `attacks` and in `occupied`, and the square of the least; 0 beside none: SHAPE, OVERLAP, UNION, BYTEBOARD.
+// Whether there is an attacker of the colour, in `attacks` and in `occupied`, and the square and kind of the least in the order; 0 beside none: SHAPE, OVERLAP, UNION, BYTEBOARD, ORDER.
 #[no_mangle]
 pub extern "C" fn chess_lvp(
     bitboards: &[u64],
     board: &[u8],
     side: u8,
+    order: &[u8; Kind::COUNT],
     color: u8,
     attacks: u64,
     occupied: u64,
     found: &mut bool,
     square: &mut u8,
+    kind: &mut u8,
 ) -> Code
-    ensures { λ r. ⌜ Lvp (now (bitboards .entry)) (now (board .entry)) side color attacks occupied (now (found .entry)) (now (square .entry)) r (now (found .exit)) (now (square .exit)) ⌝ }
+    ensures { λ r. ⌜ Lvp (now (order .entry)) (now (bitboards .entry)) (now (board .entry)) side color attacks occupied (now (found .entry)) (now (square .entry)) (now (kind .entry)) r (now (found .exit)) (now (square .exit)) (now (kind .exit)) ⌝ }
 {
-    let answer = exchange_least::lvp(bitboards, board, State { side }, color, attacks, occupied);
+    let answer = exchange_least::lvp(
+        bitboards,
+        board,
+        State { side },
+        order,
+        color,
+        attacks,
+        occupied,
+    );
     match answer {
         Least::Refused(refusal) => refused(refusal),
         Least::Nobody => {
             *found = false;
             *square = 0;
+            *kind = 0;
             GIVEN
         }
-        Least::At(s) => {
+        Least::At(s, k) => {
             *found = true;
             *square = s;
+            *kind = k;
             GIVEN
         }
     }
 }
 
-// What the exchange that a capture starts is worth to the side to move: SHAPE, OVERLAP, UNION, BYTEBOARD, SQUARE, MOVE, CROWD.
+// What the exchange that a capture starts is worth to the side to move, the kinds capturing in the order: SHAPE, OVERLAP, UNION, BYTEBOARD, SQUARE, ORDER, MOVE, CROWD.
 #[no_mangle]
 pub extern "C" fn chess_see(
     bitboards: &[u64],
     board: &[u8],
     side: u8,
+    order: &[u8; Kind::COUNT],
     from: u8,
     to: u8,
     worth: &mut i16,
 ) -> Code
-    ensures { λ r. ⌜ See (now (bitboards .entry)) (now (board .entry)) side from to (now (worth .entry)) r (now (worth .exit)) ⌝ }
+    ensures { λ r. ⌜ See (now (order .entry)) (now (bitboards .entry)) (now (board .entry)) side from to (now (worth .entry)) r (now (worth .exit)) ⌝ }
 {
-    let answer = exchange::see(bitboards, board, State { side }, from, to);
+    let answer = exchange::see(bitboards, board, State { side }, order, from, to);
     match answer {
         Exchanged::Refused(refusal) => refused(refusal),
         Exchanged::Worth(z) => {

@@ -11,6 +11,7 @@ use Rattle.position_boards.specs.Boards.{bitboardsOf}
 use Rattle.position_boards.specs.Sound.{boardsWith, ofColour}
 use Rattle.position_odds.specs.Odds.{orOdds}
 use Rattle.position.specs.Checked.{ofSide, checked}
+use Rattle.exchange_order.specs.Orders.{order, eachOnce}
 use Rattle.exchange.specs.Exchange.{exchangeOf}
 use Rattle.exchange_start.specs.Capture.{mayCapture, uncrowded}
 use Rattle.exchange.specs.Answers.{seeOf}
@@ -28,11 +29,11 @@ abbrev pub valued : Answer ℤ → Answer Outcome
 valued (given z) = given (score z)
 valued (refused number beside) = refused number beside
 
--- what the doors of the score and of the exchange answer, refusals and all
+-- what the doors of the score and of the exchange, in document 01's order, answer, refusals and all
 unfoldable pub answerOf : List Placed → Question → Answer Outcome
-unfolding bytesOf bitboardsOf tabulate those has some howMany allBelow boardsWith ofColour orOdds checked evalOf mayCapture uncrowded exchangeOf
+unfolding bytesOf bitboardsOf tabulate those has some howMany allBelow boardsWith ofColour orOdds checked evalOf eachOnce mayCapture uncrowded exchangeOf
 answerOf ps (scored side) = let bytes : List ℕ = bytesOf ps in evalOf (bitboardsOf bytes) bytes (ofSide side)
-answerOf ps (exchanged from to) = let bytes : List ℕ = bytesOf ps in valued (seeOf (bitboardsOf bytes) bytes (ofSide 0) from to)
+answerOf ps (exchanged from to) = let bytes : List ℕ = bytesOf ps in valued (seeOf order (bitboardsOf bytes) bytes (ofSide 0) from to)
 
 pub record Starred : Type 0 where
   pub pieces : List Placed

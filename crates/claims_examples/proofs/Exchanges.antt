@@ -16,17 +16,22 @@ use Rattle.position.specs.Checked.{ofSide, checked}
 use Rattle.attack.specs.Attacks.{occupied}
 use Rattle.attack_to.specs.Attackers.{attackers}
 use Rattle.claims_examples.specs.Placed.{Placed, putOn, bytesOf}
-use Rattle.exchange_least.specs.Least.{leastOf, order}
+use Rattle.exchange_order.specs.Orders.{order, eachOnce}
+use Rattle.exchange_least.specs.Least.{Attacker, nobody, attacker, leastOf}
 use Rattle.exchange_least.specs.Answers.{lvpOf}
 use Rattle.exchange_start.specs.Capture.{mayCapture, uncrowded}
 use Rattle.exchange.specs.Exchange.{Capture, capturesOf, exchangeOf}
 use Rattle.exchange.specs.PrivateSource.{sourceSee}
 use Rattle.exchange.specs.Answers.{seeOf}
 
--- the door's answer with White to move, refusals and all
+-- the door's answer with White to move, refusals and all, for any six kinds; and for document 01's order
+unfoldable answeredBy : List ℕ → List Placed → ℕ → ℕ → Answer ℤ
+unfolding bytesOf bitboardsOf tabulate those has some howMany allBelow boardsWith ofColour consistent checked eachOnce mayCapture uncrowded exchangeOf
+answeredBy kinds ps from to = let bytes : List ℕ = bytesOf ps in let bbs : List ℕ = bitboardsOf bytes in seeOf kinds bbs bytes (ofSide 0) from to
+
 unfoldable answered : List Placed → ℕ → ℕ → Answer ℤ
-unfolding bytesOf bitboardsOf tabulate those has some howMany allBelow boardsWith ofColour orOdds checked mayCapture uncrowded exchangeOf
-answered ps from to = let bytes : List ℕ = bytesOf ps in let bbs : List ℕ = bitboardsOf bytes in seeOf bbs bytes (ofSide 0) from to
+unfolding answeredBy
+answered = answeredBy order
 
 -- queen d1 takes pawn d5, pawn e4 behind her; knight f6, bishop b7 defend; kings g1, g8
 abbrev queenCase : List Placed
@@ -46,19 +51,24 @@ queens-are : queens order ≡ capture 3 4 100 ∷ capture 45 1 1013 ∷ capture 
 unfolding queens
 queens-are = refl
 
--- "Bishops before knights because 292 is under 304: the queen case gives −721"
-unfoldable bishopsFirst : ℤ
-unfolding bytesOf bitboardsOf tabulate those exchangeOf
-bishopsFirst = let bytes : List ℕ = bytesOf queenCase in let bbs : List ℕ = bitboardsOf bytes in exchangeOf (0 ∷ 2 ∷ 1 ∷ 3 ∷ 4 ∷ 5 ∷ []) bbs bytes 0 3 35
-
-bishops-first : bishopsFirst ≡ negsuc 720
-unfolding bishopsFirst
+-- bishops before knights: queen d1, bishop b7, pawn e4, knight f6
+bishops-first : queens (0 ∷ 2 ∷ 1 ∷ 3 ∷ 4 ∷ 5 ∷ []) ≡ capture 3 4 100 ∷ capture 49 2 1013 ∷ capture 28 0 292 ∷ capture 45 1 100 ∷ []
+unfolding queens
 bishops-first = refl
+
+-- "Bishops before knights because 292 is under 304: the queen case gives −721". ORDER: bishop twice, before MOVE (nothing on e1) and CROWD (a second king on a1); a kind 6;
+-- after SQUARE
+orders : answeredBy (0 ∷ 2 ∷ 1 ∷ 3 ∷ 4 ∷ 5 ∷ []) queenCase 3 35
+    ∷ answeredBy (0 ∷ 2 ∷ 2 ∷ 3 ∷ 4 ∷ 5 ∷ []) queenCase 4 35 ∷ answeredBy (0 ∷ 2 ∷ 2 ∷ 3 ∷ 4 ∷ 5 ∷ []) (putOn 6 0 ∷ queenCase) 3 35
+    ∷ answeredBy (0 ∷ 1 ∷ 2 ∷ 3 ∷ 4 ∷ 6 ∷ []) queenCase 3 35 ∷ answeredBy (0 ∷ 2 ∷ 2 ∷ 3 ∷ 4 ∷ 5 ∷ []) queenCase 64 35 ∷ []
+    ≡ given (negsuc 720) ∷ refused 20 [] ∷ refused 20 [] ∷ refused 20 [] ∷ refused 4 [] ∷ []
+unfolding answeredBy
+orders = refl
 
 -- what the source folds back
 unfoldable queensBySource : ℤ
 unfolding bytesOf bitboardsOf tabulate those sourceSee
-queensBySource = let bytes : List ℕ = bytesOf queenCase in let bbs : List ℕ = bitboardsOf bytes in sourceSee bbs bytes 0 3 35
+queensBySource = let bytes : List ℕ = bytesOf queenCase in let bbs : List ℕ = bitboardsOf bytes in sourceSee order bbs bytes 0 3 35
 
 by-source : queensBySource ≡ negsuc 708
 unfolding queensBySource
@@ -103,23 +113,31 @@ squares = refl
 
 -- BYTEBOARD with a2 where a byte is not its board's, before SQUARE; SHAPE where the side is none, before BYTEBOARD
 unfoldable amiss : ℕ → ℕ → Answer ℤ
-unfolding bytesOf bitboardsOf tabulate those has some howMany allBelow boardsWith ofColour orOdds lowestWrong firstFrom checked mayCapture uncrowded exchangeOf
-amiss side from = let bbs : List ℕ = bitboardsOf (bytesOf queenCase) in seeOf bbs (bytesOf (putOn 2 8 ∷ queenCase)) (ofSide side) from 35
+unfolding bytesOf bitboardsOf tabulate those has some howMany allBelow boardsWith ofColour orOdds lowestWrong firstFrom checked eachOnce mayCapture uncrowded exchangeOf
+amiss side from = let bbs : List ℕ = bitboardsOf (bytesOf queenCase) in seeOf order bbs (bytesOf (putOn 2 8 ∷ queenCase)) (ofSide side) from 35
 
 amiss-is : amiss 0 3 ∷ amiss 0 64 ∷ amiss 2 3 ∷ [] ≡ refused 16 (8 ∷ []) ∷ refused 16 (8 ∷ []) ∷ refused 1 [] ∷ []
 unfolding amiss
 amiss-is = refl
 
 -- ---- the least attacker of a colour on d5, where only some squares are still there: the queen's position with black knights on c7 and e7 too
-unfoldable leastOn : ℕ → List ℕ → Answer (List ℕ)
-unfolding bytesOf bitboardsOf tabulate those has some howMany allBelow boardsWith ofColour orOdds checked attackers occupied board leastOf
-leastOn colour still =
+unfoldable leastOn : List ℕ → ℕ → List ℕ → Answer Attacker
+unfolding bytesOf bitboardsOf tabulate those has some howMany allBelow boardsWith ofColour orOdds checked eachOnce attackers occupied board leastOf
+leastOn kinds colour still =
     let bytes : List ℕ = bytesOf (putOn 5 50 ∷ putOn 5 52 ∷ queenCase) in
     let bbs : List ℕ = bitboardsOf bytes in
-    lvpOf bbs bytes (ofSide 0) colour (attackers bbs 35 (occupied bbs)) (board still)
+    lvpOf kinds bbs bytes (ofSide 0) colour (attackers bbs 35 (occupied bbs)) (board still)
 
 -- the pawn before the queen; the queen alone; of two knights the lower, before the bishop; the bishop alone; the king, which does not attack; no colour
-least-are : leastOn 0 (3 ∷ 28 ∷ []) ∷ leastOn 0 (3 ∷ []) ∷ leastOn 1 (49 ∷ 52 ∷ 50 ∷ []) ∷ leastOn 1 (49 ∷ []) ∷ leastOn 1 (62 ∷ []) ∷ leastOn 2 (49 ∷ []) ∷ []
-    ≡ given (28 ∷ []) ∷ given (3 ∷ []) ∷ given (50 ∷ []) ∷ given (49 ∷ []) ∷ given [] ∷ refused 1 [] ∷ []
+least-are : leastOn order 0 (3 ∷ 28 ∷ []) ∷ leastOn order 0 (3 ∷ []) ∷ leastOn order 1 (49 ∷ 52 ∷ 50 ∷ []) ∷ leastOn order 1 (49 ∷ []) ∷ leastOn order 1 (62 ∷ [])
+    ∷ leastOn order 2 (49 ∷ []) ∷ []
+    ≡ given (attacker 28 0) ∷ given (attacker 3 4) ∷ given (attacker 50 1) ∷ given (attacker 49 2) ∷ given nobody ∷ refused 1 [] ∷ []
 unfolding leastOn
 least-are = refl
+
+-- in other orders: the queen before the pawn, the bishop before the knights; a kind left out; SHAPE before ORDER
+least-by : leastOn (5 ∷ 4 ∷ 3 ∷ 2 ∷ 1 ∷ 0 ∷ []) 0 (3 ∷ 28 ∷ []) ∷ leastOn (0 ∷ 2 ∷ 1 ∷ 3 ∷ 4 ∷ 5 ∷ []) 1 (49 ∷ 52 ∷ 50 ∷ []) ∷ leastOn (0 ∷ 0 ∷ 2 ∷ 3 ∷ 4 ∷ 5 ∷ []) 1 (49 ∷ [])
+    ∷ leastOn (0 ∷ 0 ∷ 2 ∷ 3 ∷ 4 ∷ 5 ∷ []) 2 (49 ∷ []) ∷ []
+    ≡ given (attacker 3 4) ∷ given (attacker 49 2) ∷ refused 20 [] ∷ refused 1 [] ∷ []
+unfolding leastOn
+least-by = refl

@@ -1,6 +1,6 @@
 -- Each public function is determined by its promise: two results that it allows are equal. Assumes nothing.
 use mathlib.Core.Path.{_≡_, refl, ap}
-use mathlib.Core.List.{List, [], _∷_}
+use mathlib.Core.List.{List}
 use Prim.Native.Nat.{ℕ}
 use Rattle.refusal.proofs.Paper.{one, retract, readBack, number-back}
 use Rattle.position.specs.declared.State.{State}
@@ -13,17 +13,17 @@ use Rattle.exchange_least.specs.declared.inner.Attacker.{Attacker}
 use Rattle.exchange_least.specs.declared.inner.Attacker.the-variants as A
 
 -- ---- answers that read the same are one
-abbrev unlist : List ℕ → Least
-unlist [] = L.Nobody
-unlist (s ∷ l) = L.At s
+abbrev unleast : P.Attacker → Least
+unleast P.nobody = L.Nobody
+unleast (P.attacker s kind) = L.At s kind
 
-least-back : (r : Least) → readBack unlist L.Refused (least r) ≡ r
-least-back (L.At s) = refl
+least-back : (r : Least) → readBack unleast L.Refused (least r) ≡ r
+least-back (L.At s kind) = refl
 least-back L.Nobody = refl
 least-back (L.Refused q) = ap L.Refused (number-back q)
 
 pub least-one : (r s : Least) → least r ≡ least s → r ≡ s
-least-one = retract least (readBack unlist L.Refused) least-back
+least-one = retract least (readBack unleast L.Refused) least-back
 
 abbrev untold : P.Attacker → Attacker
 untold P.nobody = A.Nobody
@@ -37,9 +37,9 @@ pub told-one : (r s : Attacker) → paperAttacker r ≡ paperAttacker s → r �
 told-one = retract paperAttacker untold told-back
 
 -- ---- the door
-pub lvp : (bitboards board : List ℕ) (state : State) (colour attacks occ : ℕ) (r s : Least)
-    → Lvp bitboards board state colour attacks occ r → Lvp bitboards board state colour attacks occ s → r ≡ s
-lvp bitboards board state colour attacks occ r s p q = least-one r s (one p q)
+pub lvp : (kinds bitboards board : List ℕ) (state : State) (colour attacks occ : ℕ) (r s : Least)
+    → Lvp kinds bitboards board state colour attacks occ r → Lvp kinds bitboards board state colour attacks occ s → r ≡ s
+lvp kinds bitboards board state colour attacks occ r s p q = least-one r s (one p q)
 
 -- ---- the inner functions
 pub inner-pick : (kinds bitboards : List ℕ) (colour attacks occ : ℕ) (r s : Attacker)

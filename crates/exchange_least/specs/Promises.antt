@@ -10,8 +10,8 @@ use Rattle.exchange_least.specs.declared.Least.{Least}
 use Rattle.exchange_least.specs.declared.inner.Attacker.{Attacker}
 
 -- ---- the door
-abbrev pub Lvp : List ℕ → List ℕ → State → ℕ → ℕ → ℕ → Least → Type 0
-Lvp bitboards board state colour attacks occ r = least r ≡ lvpOf bitboards board state colour attacks occ
+abbrev pub Lvp : List ℕ → List ℕ → List ℕ → State → ℕ → ℕ → ℕ → Least → Type 0
+Lvp kinds bitboards board state colour attacks occ r = least r ≡ lvpOf kinds bitboards board state colour attacks occ
 
 -- ---- the inner functions
 abbrev pub Picks : List ℕ → List ℕ → ℕ → ℕ → ℕ → Attacker → Type 0

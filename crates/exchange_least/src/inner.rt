@@ -4,22 +4,12 @@ ghost use Rattle.exchange_least.specs.Least.{stillThere};
 ghost use Rattle.exchange_least.specs.Promises.{Picks, Capturer};
 use attack::inner::standing;
 use attack_to::inner::attacks_to;
-use chess::kind::BISHOP;
-use chess::kind::KING;
-use chess::kind::KNIGHT;
-use chess::kind::Kind;
-use chess::kind::PAWN;
-use chess::kind::QUEEN;
-use chess::kind::ROOK;
 
 // Who captures next: its square and its kind.
 pub enum Attacker {
     At(u8, u8),
     Nobody,
 }
-
-// Document 01's order.
-pub const ORDER: [u8; Kind::COUNT] = [PAWN, KNIGHT, BISHOP, ROOK, QUEEN, KING];
 
 fn still_there(bitboards: &[u64], kind: u8, color: u8, attacks: u64, occupied: u64) -> u64
     ensures { λ r. ⌜ r ≡ stillThere (now (bitboards .entry)) kind color attacks occupied ⌝ }

@@ -4,7 +4,10 @@ use mathlib.Core.Bool.{Bool}
 use mathlib.Core.List.{List}
 use Prim.Native.Nat.{ℕ}
 use Rattle.refusal.proofs.Paper.{one}
-use Rattle.exchange_start.specs.Promises.{KindOn, MayCapture, Uncrowded}
+use Rattle.position.specs.declared.State.{State}
+use Rattle.position.specs.declared.Checked.{Checked}
+use Rattle.position.proofs.Determined.{paper-one}
+use Rattle.exchange_start.specs.Promises.{KindOn, MayCapture, Uncrowded, BeginsExchange}
 
 pub kind-on : (board : List ℕ) (square r s : ℕ) → KindOn board square r → KindOn board square s → r ≡ s
 kind-on board square r s = one
@@ -14,3 +17,7 @@ may-capture bitboards board side from to r s = one
 
 pub is-uncrowded : (bitboards : List ℕ) (r s : Bool) → Uncrowded bitboards r → Uncrowded bitboards s → r ≡ s
 is-uncrowded bitboards r s = one
+
+pub begins : (kinds bitboards board : List ℕ) (state : State) (from to : ℕ) (r s : Checked)
+    → BeginsExchange kinds bitboards board state from to r → BeginsExchange kinds bitboards board state from to s → r ≡ s
+begins kinds bitboards board state from to r s p q = paper-one r s (one p q)

@@ -1,2 +1,3 @@
 pub mod Tested
+pub mod Begun
 pub mod Determined

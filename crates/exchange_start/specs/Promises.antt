@@ -3,7 +3,11 @@ use mathlib.Core.Path.{_≡_}
 use mathlib.Core.Bool.{Bool}
 use mathlib.Core.List.{List}
 use Prim.Native.Nat.{ℕ}
+use Rattle.position.specs.Promises.{paper}
+use Rattle.position.specs.declared.State.{State}
+use Rattle.position.specs.declared.Checked.{Checked}
 use Rattle.exchange_start.specs.Capture.{kindOn, mayCapture, uncrowded}
+use Rattle.exchange_start.specs.Answers.{behind}
 
 abbrev pub KindOn : List ℕ → ℕ → ℕ → Type 0
 KindOn board square r = r ≡ kindOn board square
@@ -13,3 +17,6 @@ MayCapture bitboards board side from to r = r ≡ mayCapture bitboards board sid
 
 abbrev pub Uncrowded : List ℕ → Bool → Type 0
 Uncrowded bitboards r = r ≡ uncrowded bitboards
+
+abbrev pub BeginsExchange : List ℕ → List ℕ → List ℕ → State → ℕ → ℕ → Checked → Type 0
+BeginsExchange kinds bitboards board state from to r = paper r ≡ behind kinds bitboards board state from to tt

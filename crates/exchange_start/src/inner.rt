@@ -1,8 +1,8 @@
-// The tests of MOVE and CROWD, for the crates above, on a position that their own doors have found consistent: total, no door.
+// The tests that come before an exchange, for the crates above; those of MOVE and CROWD on a position that is consistent: total, no door.
 ghost use mathlib.Core.Path.{_≡_};
 ghost use Rattle.bits.specs.Bitboard.{has};
 ghost use Rattle.position_boards.specs.Sound.{on};
-ghost use Rattle.exchange_start.specs.Promises.{KindOn, MayCapture, Uncrowded};
+ghost use Rattle.exchange_start.specs.Promises.{KindOn, MayCapture, Uncrowded, BeginsExchange};
 use attack::inner::attacks_from;
 use attack::inner::occupied;
 use attack::inner::other;
@@ -12,6 +12,11 @@ use chess::color::BLACK;
 use chess::color::WHITE;
 use chess::inner::index;
 use chess::kind::KING;
+use chess::kind::Kind;
+use exchange_order::inner::each_once;
+use position::Checked;
+use position::State;
+use refusal::Refusal;
 
 // Whether a square stands in b; none above 63 does.
 fn holds(b: u64, square: u8) -> bool
@@ -66,4 +71,36 @@ pub fn uncrowded(bitboards: &[u64]) -> bool
         return false;
     }
     bits::count(standing(bitboards, KING, BLACK)) <= 1
+}
+
+// Whether a capture may start an exchange: SHAPE, OVERLAP, UNION, BYTEBOARD, SQUARE, ORDER, MOVE, CROWD.
+pub fn begins(
+    bitboards: &[u64],
+    board: &[u8],
+    state: State,
+    order: &[u8; Kind::COUNT],
+    from: u8,
+    to: u8,
+) -> Checked
+    ensures { λ r. ⌜ BeginsExchange (now (order .entry)) (now (bitboards .entry)) (now (board .entry)) state from to r ⌝ }
+{
+    if let Checked::Refused(refusal) = position::check(bitboards, board, state) {
+        return Checked::Refused(refusal);
+    }
+    if from > chess::square::LAST {
+        return Checked::Refused(Refusal::Square);
+    }
+    if to > chess::square::LAST {
+        return Checked::Refused(Refusal::Square);
+    }
+    if !each_once(order) {
+        return Checked::Refused(Refusal::Order);
+    }
+    if !may_capture(bitboards, board, state.side, from, to) {
+        return Checked::Refused(Refusal::Move);
+    }
+    if !uncrowded(bitboards) {
+        return Checked::Refused(Refusal::Crowd);
+    }
+    Checked::Fit
 }

@@ -6,5 +6,5 @@ use lib.IntN.{ℤ}
 use Rattle.refusal.proofs.Paper.{one}
 use Rattle.exchange_value.specs.Promises.{Settles}
 
-pub settle : (taken : List ℕ) (r s : ℤ) → Settles taken r → Settles taken s → r ≡ s
-settle taken r s = one
+pub settle : (values : List ℕ) (r s : ℤ) → Settles values r → Settles values s → r ≡ s
+settle values r s = one

@@ -80,50 +80,47 @@ module _ {A : Type 0} (bbs bytes : List ℕ) (state : State) (rest : Answer A) w
           refused-one (o .refusal) q
           (sym (o .refuses (refusedAs (R.Byteboard 64))) ∙ sym (ap (λ (t : Bool). orRefuse t R.Shape (orOdds bbs bytes (refusedAs (R.Byteboard 64)))) (sized-too s)) ∙ sym p)
 
--- an answer was given: the position has its shape, and the answer is the rest's
-pub rest-given : {A : Type 0} (bbs bytes : List ℕ) (state : State) (rest : Answer A) (a : A) → checked bbs bytes state rest ≡ given a
-    → (shaped bbs bytes state ≡ true) × (rest ≡ given a)
-unfolding checked
-rest-given bbs bytes state rest a e = go (shaped bbs bytes state) (consistent bbs bytes) refl e
-  where
-    go : (s t : Bool) → consistent bbs bytes ≡ t → orRefuse s R.Shape (orOdds bbs bytes rest) ≡ given a → (s ≡ true) × (rest ≡ given a)
-    go true true c p = (refl, sym (goes-on bbs bytes rest c) ∙ p)
-    go true false c p = given-not (sym p ∙ at-odds bbs bytes c .refuses rest)
-    go false t c p = given-not (sym p)
+module _ {A : Type 0} (bbs bytes : List ℕ) (state : State) (rest : Answer A) where
+  -- an answer was given: no test refused it, and the answer is the rest's
+  pub through : (a : A) → checked bbs bytes state rest ≡ given a → (shaped bbs bytes state ≡ true) × (consistent bbs bytes ≡ true) × (rest ≡ given a)
+  unfolding checked
+  through a e = go (shaped bbs bytes state) (consistent bbs bytes) refl e
+    where
+      go : (s t : Bool) → consistent bbs bytes ≡ t → orRefuse s R.Shape (orOdds bbs bytes rest) ≡ given a → (s ≡ true) × (t ≡ true) × (rest ≡ given a)
+      go true true c p = (refl, refl, sym (goes-on bbs bytes rest c) ∙ p)
+      go true false c p = given-not (sym p ∙ at-odds bbs bytes c .refuses rest)
+      go false t c p = given-not (sym p)
+
+  -- what refuses one question refuses every other whose rest it would refuse
+  pub refused-too : {B : Type 0} (q : Refusal) (other : Answer B) → refusalOf q ≡ checked bbs bytes state rest → (refusalOf q ≡ rest → refusalOf q ≡ other)
+      → refusalOf q ≡ checked bbs bytes state other
+  unfolding checked
+  refused-too {B} q other e f = go (shaped bbs bytes state) (consistent bbs bytes) refl e
+    where
+      go : (s t : Bool) → consistent bbs bytes ≡ t → refusalOf q ≡ orRefuse s R.Shape (orOdds bbs bytes rest) → refusalOf q ≡ orRefuse s R.Shape (orOdds bbs bytes other)
+      go true true c p = f (p ∙ goes-on bbs bytes rest c) ∙ sym (goes-on bbs bytes other c)
+      go true false c p =
+          let o = at-odds bbs bytes c in
+          let both : refusalOf {A = A} q ≡ refusalOf (o .refusal) = p ∙ o .refuses rest in
+          let same : refusalOf {A = B} q ≡ refusalOf (o .refusal) = cc in
+          same ∙ sym (o .refuses other)
+      go false t c p = cc
 
 -- ---- after a call of `check`
 abbrev done : Answer (Unit {0})
 done = given tt
 
 module _ (bbs bytes : List ℕ) (state : State) (r : Checked) (promise : Checks bbs bytes state r) where
-  fit-both : r ≡ Fit → (shaped bbs bytes state ≡ true) × (consistent bbs bytes ≡ true)
-  unfolding checked
-  fit-both e = go (shaped bbs bytes state) (consistent bbs bytes) refl (sym (ap paper e) ∙ promise)
-    where
-      go : (s t : Bool) → consistent bbs bytes ≡ t → done ≡ orRefuse s R.Shape (orOdds bbs bytes done) → (s ≡ true) × (t ≡ true)
-      go true true q p = (refl, refl)
-      go true false q p = given-not (p ∙ at-odds bbs bytes q .refuses done)
-      go false t q p = given-not p
-
   -- it fits: the position has its shape and is consistent, and the rest of the definition is the answer
   pub fit-shaped : r ≡ Fit → shaped bbs bytes state ≡ true
-  fit-shaped e = fit-both e .0
+  fit-shaped e = through bbs bytes state done tt (sym (sym (ap paper e) ∙ promise)) .0
 
   pub fit-consistent : r ≡ Fit → consistent bbs bytes ≡ true
-  fit-consistent e = fit-both e .1
+  fit-consistent e = through bbs bytes state done tt (sym (sym (ap paper e) ∙ promise)) .1
 
   pub fit-rest : {A : Type 0} (rest : Answer A) → r ≡ Fit → rest ≡ checked bbs bytes state rest
   fit-rest rest e = sound bbs bytes state rest (fit-shaped e) (fit-consistent e)
 
   -- it is refused: so is every call on the position
   pub pass-on : {A : Type 0} (rest : Answer A) (q : Refusal) → r ≡ Refused q → refusalOf q ≡ checked bbs bytes state rest
-  unfolding checked
-  pass-on {A} rest q e = go (shaped bbs bytes state) (consistent bbs bytes) refl (sym (ap paper e) ∙ promise)
-    where
-      go : (s t : Bool) → consistent bbs bytes ≡ t → refusalOf q ≡ orRefuse s R.Shape (orOdds bbs bytes done) → refusalOf q ≡ orRefuse s R.Shape (orOdds bbs bytes rest)
-      go true true c p = given-not (sym (p ∙ goes-on bbs bytes done c))
-      go true false c p =
-          let o = at-odds bbs bytes c in
-          let both : refusalOf {A = Unit {0}} q ≡ refusalOf (o .refusal) = p ∙ o .refuses done in
-          ap (λ (x : Refusal). refusalOf x) (refused-one q (o .refusal) both) ∙ sym (o .refuses rest)
-      go false t c p = cc
+  pass-on rest q e = refused-too bbs bytes state done q rest (sym (ap paper e) ∙ promise) (λ p. given-not (sym p))

@@ -6,6 +6,7 @@ use attack::Found;
 use attack_to::Told;
 use chess::piece::Piece;
 use exchange_least::Least;
+use exchange_order::ORDER;
 use position::State;
 use replay_question::NUMBERS;
 use text_in::inner::is;
@@ -27,7 +28,8 @@ pub(crate) fn answer(
         return told(attack_to::is_check(bitboards, board, state, byte(n[0])));
     }
     if is(word, b"lvp") {
-        return least(exchange_least::lvp(bitboards, board, state, byte(n[0]), n[1], n[2]));
+        let order = ORDER;
+        return least(exchange_least::lvp(bitboards, board, state, &order, byte(n[0]), n[1], n[2]));
     }
     of_piece(word, byte(n[0]), byte(n[1]), n[2])
 }
@@ -71,7 +73,7 @@ fn told(told: Told) -> Reply {
 
 fn least(least: Least) -> Reply {
     match least {
-        Least::At(square) => Reply::Natural(square as u64),
+        Least::At(square, _) => Reply::Natural(square as u64),
         Least::Nobody => Reply::Nobody,
         Least::Refused(r) => Reply::Refused(r),
     }

@@ -3,6 +3,7 @@ use crate::reply::Reply;
 use chess::piece::Piece;
 use chess::square::Square;
 use exchange::Exchanged;
+use exchange_order::ORDER;
 use line_parse::Read;
 use position::State;
 use replay_question::NUMBERS;
@@ -44,10 +45,12 @@ fn answer(question: &[u8]) -> Reply {
         return bent(numbers, bitboards, board, state);
     }
     if is(word, b"see") {
+        let order = ORDER;
         return worth(exchange::see(
             &bitboards,
             &board,
             state,
+            &order,
             byte(numbers[0]),
             byte(numbers[1]),
         ));

@@ -1,7 +1,8 @@
 -- `abi::exchanges::chess_lvp` meets its contract. Assumes nothing.
 use mathlib.Core.Path.{refl}
 use Rattle.exchange_least.specs.Answers.{least}
-use Rattle.abi_codes.proofs.Passed.{met, doors-passed}
+use Rattle.abi_codes.proofs.Passed.{met}
+use Rattle.abi.proofs.Least.{least-passed}
 use borrow.Author.Needs.{needs}
 use Rattle.abi.proofs.exchanges.chess_lvp.Statement.{statement}
 use Rattle.abi.proofs.exchanges.chess_lvp.Tie as tie
@@ -24,17 +25,17 @@ enum-known-answer-2 c = search needs
 returns : tie.Need-returns
 returns c =
     let k = c .before .before .before .before in
-    doors-passed (met least (k .lvp .ensures) (c .before .before .answer .given .1)) (c .refused .ensures) refl refl
+    least-passed (met least (k .lvp .ensures) (c .before .before .answer .given .1)) (c .refused .ensures) refl refl refl
 
 returns-2 : tie.Need-returns-2
 returns-2 c =
     let k = c .before .before in
-    doors-passed (met least (k .lvp .ensures) (c .enum-told .given .1)) refl refl refl
+    least-passed (met least (k .lvp .ensures) (c .enum-told .given .1)) refl refl refl refl
 
 returns-3 : tie.Need-returns-3
 returns-3 c =
     let k = c .before .before .before in
-    doors-passed (met least (k .lvp .ensures) (c .before .answer2 .given .1)) refl refl refl
+    least-passed (met least (k .lvp .ensures) (c .before .answer2 .given .1)) refl refl refl refl
 
 pub chess-lvp-spec : {M : Type 1} → statement M
 chess-lvp-spec =

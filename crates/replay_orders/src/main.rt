@@ -1,0 +1,102 @@
+// Answers the oracle's questions with an order of the kinds on standard input, one a line: the file stdout holds what the reference answered (oracle/README.md).
+use crate::reply::Reply;
+use chess::kind::Kind;
+use exchange::Exchanged;
+use exchange_least::Least;
+use line_parse::Read;
+use position::State;
+use text_in::inner::is;
+use text_in::inner::past;
+use text_in::inner::text_before;
+
+mod reply;
+
+// More than the recorded questions take. One that did not fit would have no answer, and the run would fail.
+const ROOM: usize = 0x24000;
+
+fn main() {
+    let mut questions = [0u8; ROOM];
+    let n = io::read_full(libc::STDIN_FILENO, &mut questions);
+    answer_all(&questions[..n]);
+}
+
+fn answer_all(questions: &[u8]) {
+    let mut rest = questions;
+    while rest.len() > 0 {
+        reply::print(answer(text_before(rest, b'\n')));
+        let next = past(rest, b'\n');
+        rest = &rest[next..];
+    }
+}
+
+fn answer(question: &[u8]) -> Reply {
+    let word = replay_question::word(question);
+    let n = replay_question::numbers(question);
+    let loaded = line::inner::read(replay_question::position(question));
+    let bitboards = loaded.bitboards;
+    let board = loaded.board;
+    let read = loaded.answer;
+    let state = state(read);
+    let order = order(n[0]);
+    if is(word, b"see_by") {
+        return worth(exchange::see(&bitboards, &board, state, &order, byte(n[1]), byte(n[2])));
+    }
+    if is(word, b"lvp_by") {
+        return least(exchange_least::lvp(
+            &bitboards,
+            &board,
+            state,
+            &order,
+            byte(n[1]),
+            n[2],
+            n[3],
+        ));
+    }
+    Reply::Nothing
+}
+
+fn state(read: Read) -> State {
+    match read {
+        Read::Position(state, _) => state,
+        Read::Refused(_) => State { side: 0 },
+    }
+}
+
+// The number as a byte; 255 where it is larger.
+fn byte(n: u64) -> u8 {
+    if n > 255 {
+        return 255;
+    }
+    n as u8
+}
+
+// The six digits of an order, one a kind.
+fn order(n: u64) -> [u8; Kind::COUNT] {
+    [
+        digit(n / 100000),
+        digit(n / 10000),
+        digit(n / 1000),
+        digit(n / 100),
+        digit(n / 10),
+        digit(n),
+    ]
+}
+
+fn digit(n: u64) -> u8 {
+    byte(n % 10)
+}
+
+fn worth(worth: Exchanged) -> Reply {
+    match worth {
+        Exchanged::Worth(value) => Reply::Score(value),
+        Exchanged::Refused(r) => Reply::Refused(r),
+    }
+}
+
+fn least(least: Least) -> Reply {
+    match least {
+        Least::At(square, kind) => Reply::Attacker(square, kind),
+        Least::Nobody => Reply::Nobody,
+        Least::Refused(r) => Reply::Refused(r),
+    }
+}

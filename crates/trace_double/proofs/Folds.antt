@@ -19,7 +19,7 @@ use Rattle.trace_double.proofs.Marks.{marks-lt, marks-none, marks-high,
 use Rattle.trace_counts.proofs.Held.{read}
 
 -- ---- a walk over the digits of a mask: from one to the next nothing changes, and after the last nothing does up to n
-module _ (F : ℕ → Float) where
+module _ {X : Type 0} (F : ℕ → X) where
   unfoldable pub Skips : ℕ → ℕ → List ℕ → Type 0
   Skips at n [] = F at ≡ F n
   Skips at n (s ∷ ss) = (F at ≡ F s) × (s < n) × Skips (suc s) n ss
@@ -55,14 +55,14 @@ module _ (F : ℕ → Float) where
     skips h = skips-from 64 0 refl (omega arith) h
 
   -- where the loop stands: what is passed, and what is left
-  pub record Walk (n : ℕ) (score : Float) (rest : ℕ) : Type 0 where
+  pub record Walk (n : ℕ) (score : X) (rest : ℕ) : Type 0 where
     pub at : ℕ
     pub now : score ≡ F at
     pub left : Skips at n (squares rest)
     pub fits : rest < 2 ^ 64
 
   -- at the first digit of a mask of n numbers below 2, where a number that is 0 changes nothing
-  pub begun : (n : ℕ) (start : Float) (f : ℕ → ℕ) (mask : ℕ) → mask ≡ marks f n → start ≡ F 0 → n ≤ 64 → ((j : ℕ) → j < n → f j < 2)
+  pub begun : (n : ℕ) (start : X) (f : ℕ → ℕ) (mask : ℕ) → mask ≡ marks f n → start ≡ F 0 → n ≤ 64 → ((j : ℕ) → j < n → f j < 2)
       → ((j : ℕ) → j < n → f j ≡ 0 → F j ≡ F (suc j)) → Walk n start mask
   begun n start f mask e s h small still =
       record {
@@ -74,11 +74,11 @@ module _ (F : ℕ → Float) where
         fits = omega (arith, e, marks-lt f n);
       }
 
-  pub walk-end : (n : ℕ) (score : Float) (rest : ℕ) → Walk n score rest → squares rest ≡ [] → score ≡ F n
+  pub walk-end : (n : ℕ) (score : X) (rest : ℕ) → Walk n score rest → squares rest ≡ [] → score ≡ F n
   unfolding Skips
   walk-end n score rest w e = w .now ∙ subst (Skips (w .at) n) e (w .left)
 
-  module _ (n : ℕ) (score : Float) (rest s r : ℕ) (w : Walk n score rest) (e : squares rest ≡ s ∷ squares r) where
+  module _ (n : ℕ) (score : X) (rest s r : ℕ) (w : Walk n score rest) (e : squares rest ≡ s ∷ squares r) where
     there : Skips (w .at) n (s ∷ squares r)
     there = subst (Skips (w .at) n) e (w .left)
 
@@ -90,7 +90,7 @@ module _ (F : ℕ → Float) where
     unfolding Skips
     walk-below = there .1
 
-    pub walk-on : (more : Float) → r < 2 ^ 64 → more ≡ F (suc s) → Walk n more r
+    pub walk-on : (more : X) → r < 2 ^ 64 → more ≡ F (suc s) → Walk n more r
     unfolding Skips
     walk-on more f q = record { at = suc s; now = q; left = there .2; fits = f }
 

@@ -1,6 +1,7 @@
 """The refusals of document 01, "Numbers given back instead", and those of 02 that have landed."""
 
 SHAPE, BOARD, SCORE, SQUARE, MOVE, CROWD, TRACE, LONG, BYTE, FIELD, PLACE, SIDE, RESULT = range(1, 14)
+ENTRY = 21
 MANY = 22
 ITERATION = 23
 

@@ -3,7 +3,7 @@ use crate::attack::Attack;
 use crate::drawn::{self, Position};
 use crate::eval::Eval;
 use crate::game::Game;
-use crate::ours::{self, Counts};
+use crate::ours::{self, Counts, List};
 use crate::piece_move::PieceMove;
 use crate::placement;
 use crate::tune::{self, Trace};
@@ -13,7 +13,8 @@ use std::time::Instant;
 /// Few enough to stay in the nearest memory, so that the functions are measured and not the memory.
 const BLOCK: usize = 64;
 
-const NAMES: [&str; 6] = ["eval", "eval_material", "is_check", "compute_trace", "Trace::eval", "see"];
+/// The last two give a trace as a list, and its double from it, against the original's flat ones.
+const NAMES: [&str; 8] = ["eval", "eval_material", "is_check", "compute_trace", "Trace::eval", "see", "compute_list", "eval_list"];
 
 #[derive(Clone, Copy)]
 struct Best {
@@ -53,12 +54,14 @@ fn each<T: Copy + Default>(games: &[Game], ask: impl Fn(usize, &Game) -> T) -> [
 }
 
 /// How many functions answered a block differently.
-fn block(games: &[Game], positions: &[Position], first: bool, best: &mut [Best; 6]) -> usize {
+fn block(games: &[Game], positions: &[Position], first: bool, best: &mut [Best; 8]) -> usize {
     let weights = tune::Tuner::new().params;
     let mut traces: Vec<Trace> = games.iter().map(tune::traced).collect();
     let counted: Vec<Counts> = traces.iter().map(Counts::of).collect();
     let mut counts = vec![Counts::default(); BLOCK];
     let mut entries = vec![0; 768];
+    let lists: Vec<List> = traces.iter().zip(&counted).map(|(trace, counts)| List::of(counts, trace.pst.as_flattened().as_flattened())).collect();
+    let mut made = vec![List::default(); BLOCK];
     let alike = [
         best[0].turn(first, || each(games, |_, game| game.eval() as i64), || each(games, |_, game| ours::eval(game))),
         best[1].turn(first, || each(games, |_, game| game.eval_material(game.side()) as i64), || each(games, |_, game| ours::eval_material(game))),
@@ -80,6 +83,17 @@ fn block(games: &[Game], positions: &[Position], first: bool, best: &mut [Best; 
             || each(games, |place, game| game.see(PieceMove::capture(positions[place].from, positions[place].to)) as i64),
             || each(games, |place, game| ours::see(game, positions[place].from, positions[place].to)),
         ),
+        best[6].turn(
+            first,
+            || games.iter().zip(&mut traces).for_each(|(game, trace)| *trace = tune::traced(black_box(game))),
+            || games.iter().zip(counts.iter_mut().zip(&mut made)).for_each(|(game, (counts, list))| ours::compute_list(black_box(game), counts, list)),
+        ),
+        best[7].turn(
+            first,
+            || each(games, |place, _| traces[place].eval(&weights)),
+            || each(games, |place, _| ours::list_eval(&counted[place], &lists[place], &weights)),
+        ),
+        made == lists,
         counts == counted,
         games.iter().zip(&traces).all(|(game, trace)| {
             ours::compute_trace(game, &mut Counts::default(), &mut entries).number == 0 && trace.pst.as_flattened().as_flattened() == entries
@@ -91,7 +105,7 @@ fn block(games: &[Game], positions: &[Position], first: bool, best: &mut [Best; 
 pub fn measure(count: usize, rounds: usize) {
     let positions = drawn::drawn(count.div_ceil(BLOCK) * BLOCK);
     let mut games: Vec<Game> = (0..BLOCK).map(|_| Game::new()).collect();
-    let mut best = vec![[Best { theirs: f64::MAX, ours: f64::MAX }; 6]; positions.len() / BLOCK];
+    let mut best = vec![[Best { theirs: f64::MAX, ours: f64::MAX }; 8]; positions.len() / BLOCK];
     let mut differing = 0;
     for round in 0..rounds {
         for (place, positions) in positions.chunks(BLOCK).enumerate() {

@@ -77,6 +77,57 @@ pub fn trace_eval(counts: &Counts, entries: &[i32], weights: &[f64; tune::WEIGHT
     value
 }
 
+/// A trace's list, without its counts.
+#[derive(Clone, Copy, PartialEq)]
+pub struct List {
+    used: u8,
+    entries: [u8; 192],
+}
+
+impl Default for List {
+    fn default() -> List {
+        List { used: 0, entries: [0; 192] }
+    }
+}
+
+impl List {
+    pub fn of(counts: &Counts, entries: &[i32]) -> List {
+        let mut list = List::default();
+        let code = unsafe {
+            chess_list_of(counts.counts.as_ptr(), counts.mobility.as_ptr(), counts.sign, counts.pieces, entries.as_ptr(), entries.len(), &mut list.used,
+                list.entries.as_mut_ptr())
+        };
+        assert!(code.number == 0, "a trace is refused");
+        list
+    }
+}
+
+pub fn compute_list(game: &Game, counts: &mut Counts, list: &mut List) {
+    let code = unsafe {
+        chess_compute_list(game.bitboards.as_ptr(), 14, game.board.as_ptr(), 64, game.side(), counts.counts.as_mut_ptr(), counts.mobility.as_mut_ptr(),
+            &mut counts.sign, &mut counts.pieces, &mut list.used, list.entries.as_mut_ptr())
+    };
+    assert!(code.number == 0, "a position is refused");
+}
+
+pub fn list_eval(counts: &Counts, list: &List, weights: &[f64; tune::WEIGHTS]) -> f64 {
+    let (mut value, (named, squares)) = (0.0, weights.split_at(11));
+    let code = unsafe {
+        chess_list_eval(counts.counts.as_ptr(), counts.mobility.as_ptr(), counts.sign, counts.pieces, list.used, list.entries.as_ptr(), named.as_ptr(),
+            squares.as_ptr(), squares.len(), &mut value)
+    };
+    assert!(code.number == 0, "a list is refused");
+    value
+}
+
+pub fn list_add(counts: &Counts, list: &List, coefficient: f64, gradient: &mut [f64]) {
+    let code = unsafe {
+        chess_list_add(counts.counts.as_ptr(), counts.mobility.as_ptr(), counts.sign, counts.pieces, list.used, list.entries.as_ptr(), coefficient,
+            gradient.as_mut_ptr(), gradient.len())
+    };
+    assert!(code.number == 0, "a line is refused");
+}
+
 pub fn gradient_add(counts: &Counts, entries: &[i32], coefficient: f64, gradient: &mut [f64]) {
     let code = unsafe {
         chess_gradient_add(counts.counts.as_ptr(), counts.mobility.as_ptr(), counts.sign, counts.pieces, entries.as_ptr(), entries.len(), coefficient,

@@ -21,7 +21,7 @@
 extern "C" {
 #endif
 
-enum { CHESS_BITBOARDS = 14, CHESS_SQUARES = 64, CHESS_COUNTS = 12, CHESS_NAMED_WEIGHTS = 11, CHESS_ENTRIES = 768, CHESS_SQUARE_WEIGHTS = 768, CHESS_WEIGHTS = 779 };
+enum { CHESS_BITBOARDS = 14, CHESS_SQUARES = 64, CHESS_COUNTS = 12, CHESS_NAMED_WEIGHTS = 11, CHESS_ENTRIES = 768, CHESS_SQUARE_WEIGHTS = 768, CHESS_WEIGHTS = 779, CHESS_LIST = 192 };
 
 enum { CHESS_WHITE = 0, CHESS_BLACK = 1 };
 
@@ -34,7 +34,7 @@ typedef struct {
 enum { CHESS_NO_SQUARE = 255 };
 
 /* Refusals. 2 was CHESS_BOARD: 14 to 16 come where it came, with a square, and nothing has its number again.
- * Of those from 17 on ORDER, MANY and ITERATION alone are given yet. */
+ * Of those from 17 on ORDER, ENTRY, MANY and ITERATION alone are given yet. */
 enum {
     CHESS_SHAPE = 1,      /* a length, a side, a colour or a piece code that none has */
     CHESS_SCORE = 3,      /* a number leaves 16 bits on the way to the score */
@@ -171,6 +171,34 @@ chess_code chess_gradient_add(const int32_t counts[CHESS_COUNTS], const int32_t 
  * from 1; before the first both moments are zeros. SHAPE, ITERATION. */
 chess_code chess_adam_step(const double *gradient, size_t gradient_length, double *first_moments, size_t first_length, double *second_moments,
                         size_t second_length, double *weights, size_t weights_length, uint64_t iteration, double rate);
+
+/* ---- a trace's list, beside its counts
+ *
+ * In the place of the 768 entries at most 64 of three bytes: list[3 * i] is the kind, list[3 * i + 1] the square (Black's xor 56) and list[3 * i + 2] the
+ * colour of entry i, sorted by those three, one for each piece; `used` says how many there are, and every byte after them is 0. A list that is not so is
+ * ENTRY. 192 bytes, one more for `used`, and the counts as before. */
+
+/* The trace of a position as a list. SHAPE, OVERLAP, UNION, BYTEBOARD. */
+chess_code chess_compute_list(const uint64_t *bitboards, size_t bitboards_length, const uint8_t *board, size_t board_length, uint8_t side,
+                              int32_t counts[CHESS_COUNTS], int32_t mobility[CHESS_COUNTS], int32_t *sign, int32_t *piece_count, uint8_t *used,
+                              uint8_t list[CHESS_LIST]);
+
+/* The list of a flat trace. SHAPE, TRACE, ENTRY (more than 64 ones). */
+chess_code chess_list_of(const int32_t counts[CHESS_COUNTS], const int32_t mobility[CHESS_COUNTS], int32_t sign, int32_t piece_count,
+                         const int32_t *entries, size_t entries_length, uint8_t *used, uint8_t list[CHESS_LIST]);
+
+/* The 768 entries of a list. SHAPE, TRACE, ENTRY. */
+chess_code chess_flat_of(const int32_t counts[CHESS_COUNTS], const int32_t mobility[CHESS_COUNTS], int32_t sign, int32_t piece_count, uint8_t used,
+                         const uint8_t list[CHESS_LIST], int32_t *entries, size_t entries_length);
+
+/* The double of a trace from its list: the same bits as chess_trace_eval's, or both NaN. SHAPE, TRACE, ENTRY. */
+chess_code chess_list_eval(const int32_t counts[CHESS_COUNTS], const int32_t mobility[CHESS_COUNTS], int32_t sign, int32_t piece_count, uint8_t used,
+                           const uint8_t list[CHESS_LIST], const double weights[CHESS_NAMED_WEIGHTS], const double *squares,
+                           size_t squares_length, double *value);
+
+/* Adds a line's part from its list: what chess_gradient_add adds, bit for bit. SHAPE, TRACE, ENTRY. */
+chess_code chess_list_add(const int32_t counts[CHESS_COUNTS], const int32_t mobility[CHESS_COUNTS], int32_t sign, int32_t piece_count, uint8_t used,
+                          const uint8_t list[CHESS_LIST], double coefficient, double *gradient, size_t gradient_length);
 
 /* ---- the ledger of a collection, fed in pieces of any size
  *

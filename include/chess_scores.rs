@@ -35,6 +35,11 @@ pub(crate) mod doors {
         pub fn chess_trace_eval(counts: *const i32, mobility: *const i32, sign: i32, pieces: i32, entries: *const i32, e: usize, weights: *const f64, squares: *const f64, w: usize, value: *mut f64) -> Code;
         pub fn chess_gradient_add(counts: *const i32, mobility: *const i32, sign: i32, pieces: i32, entries: *const i32, e: usize, coefficient: f64, gradient: *mut f64, g: usize) -> Code;
         pub fn chess_adam_step(gradient: *const f64, g: usize, m: *mut f64, f: usize, v: *mut f64, s: usize, weights: *mut f64, w: usize, iteration: u64, rate: f64) -> Code;
+        pub fn chess_compute_list(bitboards: *const u64, b: usize, board: *const u8, s: usize, side: u8, counts: *mut i32, mobility: *mut i32, sign: *mut i32, pieces: *mut i32, used: *mut u8, list: *mut u8) -> Code;
+        pub fn chess_list_of(counts: *const i32, mobility: *const i32, sign: i32, pieces: i32, entries: *const i32, e: usize, used: *mut u8, list: *mut u8) -> Code;
+        pub fn chess_flat_of(counts: *const i32, mobility: *const i32, sign: i32, pieces: i32, used: u8, list: *const u8, entries: *mut i32, e: usize) -> Code;
+        pub fn chess_list_eval(counts: *const i32, mobility: *const i32, sign: i32, pieces: i32, used: u8, list: *const u8, weights: *const f64, squares: *const f64, w: usize, value: *mut f64) -> Code;
+        pub fn chess_list_add(counts: *const i32, mobility: *const i32, sign: i32, pieces: i32, used: u8, list: *const u8, coefficient: f64, gradient: *mut f64, g: usize) -> Code;
         pub fn chess_shipped_weights(weights: *mut f64, squares: *mut f64, w: usize) -> Code;
         pub fn chess_ledger_feed(state: *mut u64, line: *mut u8, l: usize, piece: *const u8, p: usize, out: *mut u8, o: usize, wrote: *mut usize) -> Code;
         pub fn chess_ledger_finish(state: *const u64, line: *const u8, l: usize, out: *mut u8, o: usize, wrote: *mut usize) -> Code;
@@ -58,7 +63,7 @@ pub const QUEEN: u8 = 12;
 pub const ORDER: [u8; 6] = [0, 1, 2, 3, 4, 5];
 
 /// Why a call is refused: the table of documents 01 and 02, with the square that some name. 2 was BOARD: 14 to 16 come where it came, and
-/// nothing has its number again. Of those from `Room` on `Order`, `Many` and `Iteration` alone are given by a call yet.
+/// nothing has its number again. Of those from `Room` on `Order`, `Entry`, `Many` and `Iteration` alone are given by a call yet.
 #[derive(Clone, Copy, Debug, PartialEq, Eq)]
 pub enum Refusal {
     /// A length, a side, a colour or a piece code that none has.
@@ -433,6 +438,93 @@ impl Trace {
                 coefficient, gradient.as_mut_ptr(), WEIGHTS)
         };
         given(code, ())
+    }
+}
+
+/// A trace as a short list: at most 64 entries in the place of 768, and 193 bytes beside the counts.
+///
+/// ```
+/// # use chess_scores::{read_line, Refusal, Weights};
+/// let (position, _) = read_line(b"4k3/8/8/8/8/8/4P3/4K3 w;1-0")?;
+/// let list = position.trace_list()?;
+/// assert_eq!(list.used, 3);
+/// assert_eq!(list.entries[..3], [[0, 12, 0], [5, 4, 0], [5, 4, 1]]); // the pawn on e2, both kings as their own side sees them
+/// assert_eq!(list.flat()?, position.trace()?);
+/// assert_eq!(list.eval(&Weights::shipped())?, position.trace()?.eval(&Weights::shipped())?);
+/// # Ok::<(), Refusal>(())
+/// ```
+#[derive(Clone, Debug, PartialEq, Eq)]
+pub struct TraceList {
+    /// As a [`Trace`] has them.
+    pub counts: [i32; 12],
+    pub mobility: [i32; 12],
+    pub sign: i32,
+    pub piece_count: i32,
+    /// How many entries are used.
+    pub used: u8,
+    /// Kind, square (Black's xor 56) and colour, sorted by those three; zeros after those that are used.
+    pub entries: [[u8; 3]; 64],
+}
+
+impl TraceList {
+    /// Its 768 entries. TRACE, ENTRY.
+    pub fn flat(&self) -> Result<Trace, Refusal> {
+        let TraceList { counts, mobility, sign, piece_count, .. } = *self;
+        let mut trace = Trace { counts, mobility, sign, piece_count, entries: [0; 768] };
+        // SAFETY: the pointers are those of the arrays of a reference and of a local, with their lengths.
+        let code = unsafe {
+            doors::chess_flat_of(self.counts.as_ptr(), self.mobility.as_ptr(), sign, piece_count, self.used, self.entries.as_ptr().cast(),
+                trace.entries.as_mut_ptr(), 768)
+        };
+        given(code, trace)
+    }
+
+    /// The double, the same bits as the flat trace's or both NaN. TRACE, ENTRY.
+    pub fn eval(&self, weights: &Weights) -> Result<f64, Refusal> {
+        let mut value = 0.0;
+        // SAFETY: the pointers are those of the arrays of two references and of a local, with their lengths.
+        let code = unsafe {
+            doors::chess_list_eval(self.counts.as_ptr(), self.mobility.as_ptr(), self.sign, self.piece_count, self.used, self.entries.as_ptr().cast(),
+                weights.named.as_ptr(), weights.squares.as_ptr(), 768, &mut value)
+        };
+        given(code, value)
+    }
+
+    /// Adds the line's part to the sums of a gradient, bit for bit as the flat trace does. TRACE, ENTRY, and then nothing is added.
+    pub fn add_gradient(&self, coefficient: f64, gradient: &mut [f64; WEIGHTS]) -> Result<(), Refusal> {
+        // SAFETY: the pointers are those of the arrays of two references, with their lengths.
+        let code = unsafe {
+            doors::chess_list_add(self.counts.as_ptr(), self.mobility.as_ptr(), self.sign, self.piece_count, self.used, self.entries.as_ptr().cast(),
+                coefficient, gradient.as_mut_ptr(), WEIGHTS)
+        };
+        given(code, ())
+    }
+}
+
+impl Trace {
+    /// As a list. TRACE, and ENTRY for more than 64 ones.
+    pub fn list(&self) -> Result<TraceList, Refusal> {
+        let Trace { counts, mobility, sign, piece_count, .. } = *self;
+        let mut list = TraceList { counts, mobility, sign, piece_count, used: 0, entries: [[0; 3]; 64] };
+        // SAFETY: the pointers are those of the arrays of a reference and of a local, with their lengths.
+        let code = unsafe {
+            doors::chess_list_of(self.counts.as_ptr(), self.mobility.as_ptr(), sign, piece_count, self.entries.as_ptr(), 768, &mut list.used,
+                list.entries.as_mut_ptr().cast())
+        };
+        given(code, list)
+    }
+}
+
+impl Position {
+    /// Its trace as a list. SHAPE, OVERLAP, UNION, BYTEBOARD.
+    pub fn trace_list(&self) -> Result<TraceList, Refusal> {
+        let mut list = TraceList { counts: [0; 12], mobility: [0; 12], sign: 0, piece_count: 0, used: 0, entries: [[0; 3]; 64] };
+        // SAFETY: the pointers are those of the arrays of a reference and of a local, with their lengths.
+        let code = unsafe {
+            doors::chess_compute_list(self.bitboards.as_ptr(), 14, self.board.as_ptr(), 64, self.side, list.counts.as_mut_ptr(), list.mobility.as_mut_ptr(),
+                &mut list.sign, &mut list.piece_count, &mut list.used, list.entries.as_mut_ptr().cast())
+        };
+        given(code, list)
     }
 }
 

@@ -69,7 +69,7 @@ fn refusals_of_a_position() {
     bent.bitboards[1] ^= 1 << 63;
     assert_eq!(bent.eval(), Err(Refusal::Union(63)));
     bent.bitboards[0] ^= 1 << 20;
-    assert_eq!(bent.see(0, 1), Err(Refusal::Union(20)));
+    assert_eq!(bent.see(&ORDER, 0, 1), Err(Refusal::Union(20)));
     bent.bitboards[12] ^= 1 << 50;
     assert_eq!(bent.eval_material(WHITE), Err(Refusal::Overlap(50)));
     // Codes 2 and 4 at 50 and 12 and 13 at 2: the lowest square, whichever codes they are.
@@ -192,6 +192,47 @@ fn gradients() {
             short.as_mut_ptr(), short.len())
     };
     assert_eq!((code.number, short), (1, [0.0; WEIGHTS - 1]));
+}
+
+#[test]
+fn lists() {
+    let (flat, list) = (position(START).trace().unwrap(), position(START).trace_list().unwrap());
+    assert_eq!((list.used, list.entries[0], list.entries[1], list.entries[31]), (32, [0, 8, 0], [0, 8, 1], [5, 4, 1]));
+    assert_eq!((list.flat(), flat.list()), (Ok(flat.clone()), Ok(list.clone())));
+    let mut weights = Weights::shipped();
+    for (place, weight) in weights.squares.iter_mut().enumerate() {
+        *weight /= (place + 3) as f64;
+    }
+    assert_eq!(list.eval(&weights).unwrap().to_bits(), flat.eval(&weights).unwrap().to_bits());
+    let (mut one, mut other) = ([0.1; WEIGHTS], [0.1; WEIGHTS]);
+    assert_eq!((list.add_gradient(0.3, &mut one), flat.add_gradient(0.3, &mut other)), (Ok(()), Ok(())));
+    assert_eq!(one, other);
+    // out of order, a repeat, a square past 63, an unused place that is not zero, 65 entries; and TRACE before them
+    let spoilt = |spoil: &dyn Fn(&mut TraceList)| {
+        let (mut odd, mut sums) = (list.clone(), [0.5; WEIGHTS]);
+        spoil(&mut odd);
+        let refused = odd.add_gradient(1.0, &mut sums).unwrap_err();
+        assert_eq!(sums, [0.5; WEIGHTS]);
+        assert_eq!((odd.flat().err(), odd.eval(&weights).err()), (Some(refused), Some(refused)));
+        refused
+    };
+    assert_eq!(spoilt(&|odd| odd.entries.swap(0, 1)), Refusal::Entry);
+    assert_eq!(spoilt(&|odd| odd.entries[1] = odd.entries[0]), Refusal::Entry);
+    assert_eq!(spoilt(&|odd| odd.entries[15][1] = 64), Refusal::Entry);
+    assert_eq!(spoilt(&|odd| odd.entries[63][2] = 1), Refusal::Entry);
+    assert_eq!(spoilt(&|odd| odd.used = 31), Refusal::Entry);
+    assert_eq!(spoilt(&|odd| odd.used = 65), Refusal::Entry);
+    assert_eq!(spoilt(&|odd| (odd.used, odd.sign) = (65, 0)), Refusal::Trace);
+    let mut crowded = flat.clone();
+    crowded.entries[..65].fill(1);
+    crowded.entries[65..].fill(0);
+    assert_eq!(crowded.list(), Err(Refusal::Entry));
+    assert!(crowded.eval(&weights).is_ok());
+    crowded.entries[64] = 0;
+    assert_eq!(crowded.list().map(|list| list.used), Ok(64));
+    let mut bent = position(START);
+    bent.board[0] = 0;
+    assert_eq!(bent.trace_list(), Err(Refusal::Byteboard(0)));
 }
 
 #[test]

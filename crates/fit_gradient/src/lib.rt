@@ -1,22 +1,29 @@
 // One line's part of the gradient, as `compute_gradient` has it, added to 779 sums that are lent: one rounding for each operation.
 ghost use mathlib.Core.Path.{_≡_};
 ghost use mathlib.Core.Bool.{true};
+ghost use lib.Dec.{T};
 ghost use lib.IntN.{pos};
 ghost use lib.ListN.{length, getD};
 ghost use Prim.Native.Nat.{_+_, _*_, _<_};
+ghost use Rattle.trace_list.specs.Ones.{over};
+ghost use Rattle.trace_list.specs.Form.{isList, listPlaces};
 ghost use Rattle.fit_gradient.specs.Gradient.{countPart, mobilityPart, namedParts, firstRaised};
 ghost use Rattle.fit_gradient.specs.Marks.{partsOf, bothRaised, colourPart, markedBy, entryBy, squaresBy};
 ghost use Rattle.trace_counts.specs.Ranges.{areEntries};
 ghost use Rattle.trace_marks.specs.Marks.{groupsOf, foldFrom};
 ghost use Rattle.fit_gradient.specs.Promises.{AddsTrace};
+ghost use Rattle.fit_gradient.specs.Lists.{markOne, AddsList};
 use bits::Lowest;
 use chess::color::Color;
+use chess::inner::index;
 use chess::piece::Piece;
 use places::entry::Entry;
 use places::weight::SquareWeight;
 use places::weight::Weight;
 use refusal::Refusal;
 use trace_counts::Trace;
+use trace_list::BYTES;
+use trace_list::PER_ENTRY;
 use trace_marks::GROUP;
 
 // The kinds whose attacked squares are weighed.
@@ -188,6 +195,46 @@ pub fn add(trace: Trace, entries: &[i32], coefficient: f64, gradient: &mut [f64]
         named_added(&named, gradient);
         squares_added(gradient, squares, entries, seen.groups);
         return Added::Done;
+    }
+    Added::Refused(Refusal::Trace)
+}
+
+// The entries of a list, one after the other.
+fn list_added(gradient: &mut [f64], parts: Parts, used: usize, bytes: &[u8; BYTES])
+    requires { ⌜ (length (now gradient) ≡ 779) × T (isList used (now bytes)) ⌝ }
+    ensures { λ _. ⌜ now (gradient .exit) ≡ over (markOne parts) (now (gradient .entry)) (listPlaces (now (bytes .entry)) used) ⌝ }
+{
+    let mut i: usize = 0;
+    while i < used {
+        let at = PER_ENTRY * i;
+        let k = places::inner::entry(bytes[at], bytes[at + 1], bytes[at + 2]);
+        mark(gradient, parts, k, 1);
+        i += 1;
+    }
+}
+
+// The same from a list: the list and the 779 sums are lent. SHAPE, TRACE, then ENTRY.
+pub fn add_list(
+    trace: Trace,
+    used: u8,
+    bytes: &[u8; BYTES],
+    coefficient: f64,
+    gradient: &mut [f64],
+) -> Added
+    ensures { λ r. ⌜ AddsList trace used (now (bytes .entry)) coefficient (now (gradient .entry)) r (now (gradient .exit)) ⌝ }
+{
+    if gradient.len() != Weight::COUNT {
+        return Added::Refused(Refusal::Shape);
+    }
+    if trace.in_ranges() {
+        if trace_list::is_list(used, bytes) {
+            let named = named_parts(trace, coefficient);
+            let squares = square_parts(coefficient, trace.piece_count as f64);
+            named_added(&named, gradient);
+            list_added(gradient, squares, index(used), bytes);
+            return Added::Done;
+        }
+        return Added::Refused(Refusal::Entry);
     }
     Added::Refused(Refusal::Trace)
 }

@@ -13,6 +13,7 @@ use Rattle.position.specs.declared.Checked.{Checked}
 use Rattle.position.specs.declared.Checked.the-variants.{Fit, Refused}
 use Rattle.trace_counts.specs.declared.Trace.{Trace}
 use Rattle.trace.specs.Trace.{traceOf, entriesOf, noTrace}
+use Rattle.trace.specs.PrivateMarked.{traceWith}
 use Rattle.trace.specs.declared.Traced.{Traced}
 
 -- "trace ..: 1, 2": SHAPE, also if "not .. 768 trace entries", then OVERLAP, UNION, BYTEBOARD
@@ -43,3 +44,7 @@ Traces bitboards board state before r after =
     (paper r ≡ tracedOf bitboards board state before)
     × (r .trace ≡ traceFrom (tracedOf bitboards board state before))
     × (after ≡ entriesAfter (tracedOf bitboards board state before) bitboards before)
+
+-- what stands beside the entries, with any mobility
+abbrev pub GathersTrace : List ℕ → ℕ → List ℤ → Trace → Type 0
+GathersTrace bitboards side mobility r = r ≡ traceWith bitboards side mobility

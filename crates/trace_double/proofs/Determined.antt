@@ -15,9 +15,9 @@ paper-back : (r : Doubled) → readBack D.Is D.Refused (paper r) ≡ r
 paper-back (D.Is x) = refl
 paper-back (D.Refused q) = ap D.Refused (number-back q)
 
-pub paper-one : (r s : Doubled) → paper r ≡ paper s → r ≡ s
-paper-one = retract paper (readBack D.Is D.Refused) paper-back
+pub doubled-one : (r s : Doubled) → paper r ≡ paper s → r ≡ s
+doubled-one = retract paper (readBack D.Is D.Refused) paper-back
 
 -- ---- the function
 pub eval : (t : Trace) (entries : List ℤ) (w : Weights) (squares : List Float) (r s : Doubled) → Doubles t entries w squares r → Doubles t entries w squares s → r ≡ s
-eval t entries w squares r s p q = paper-one r s (one p q)
+eval t entries w squares r s p q = doubled-one r s (one p q)

@@ -1,0 +1,10 @@
+pub mod Ones
+pub mod Rising
+pub mod Tests
+pub mod There
+pub mod Flat
+pub mod Folds
+pub mod Bytes
+pub mod Back
+pub mod Determined
+pub mod Examples

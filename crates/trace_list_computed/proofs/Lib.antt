@@ -1,0 +1,5 @@
+pub mod Flipped
+pub mod Squares
+pub mod Sums
+pub mod Doors
+pub mod Determined

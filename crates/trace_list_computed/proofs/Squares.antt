@@ -1,0 +1,147 @@
+-- A position's list, square by square: each square of a kind has two places in the trace, White's and then Black's, and where neither piece
+-- stands nothing is added. So the walk over the squares of either leaves out nothing. Assumes nothing.
+use mathlib.Core.Path.{_≡_, refl, sym, ap, ap₂, _∙_}
+use mathlib.Core.Bool.{Bool, true, false, _||_}
+use mathlib.Core.List.{List, []}
+use Prim.Native.Nat.{ℕ, suc, _+_, _*_, _^_, _<_}
+use native.Mathlib.Omega.{arith}
+use lib.Bits.{bitOr, or-lt}
+use lib.IntN.{pos}
+use lib.Signed.{ltZ}
+use lib.ListN.{length}
+use Rattle.laws.proofs.Tables.{entry}
+use Rattle.bits.specs.Bitboard.{has, digit}
+use Rattle.bits.proofs.Digits.{has-or}
+use Rattle.places.specs.Places.{entryPlace, kindAt, squareAt, colourAt}
+use Rattle.chess.specs.Squares.{flipOf}
+use Rattle.attack.specs.Attacks.{standing}
+use Rattle.trace.specs.Trace.{entryAt, entriesOf}
+use Rattle.trace_exact.proofs.Entries.{entry-at}
+use Rattle.trace_marks.proofs.Walk as walk
+use Rattle.trace_list.specs.Ones.{ones}
+use Rattle.trace_list.specs.Form.{isOne, onesIn, listBytes}
+use Rattle.trace_list.proofs.Ones.{ones-zero, ones-no}
+use Rattle.trace_list_turn.proofs.Ways.{room, length-yes, length-no, bytes-yes, bytes-no}
+use Rattle.trace_list_computed.specs.PrivateWalk.{Few, onesBefore, entryPut, putWhere, turnedOver}
+use Rattle.trace_list_computed.proofs.Flipped.{has-turned}
+
+-- ---- what stands at a place
+above : (t : Bool) → ltZ (pos 0) (pos (digit t)) ≡ t
+above true = refl
+above false = refl
+
+module _ (bbs : List ℕ) (kind s : ℕ) (hk : kind < 6) (hs : s < 64) where
+  there : (colour : ℕ) → colour < 2 → isOne (entriesOf bbs) (entryPlace kind s colour) ≡ has (standing bbs kind colour) (flipOf s colour)
+  unfolding entriesOf
+  there colour hc =
+      ap (ltZ (pos 0)) (entry 768 (λ i. pos (entryAt bbs i)) (pos 0) (entryPlace kind s colour) (omega arith))
+      ∙ ap (λ (n : ℕ). ltZ (pos 0) (pos n)) (entry-at bbs kind s colour hs hc) ∙ above (has (standing bbs kind colour) (flipOf s colour))
+
+  pub white-one : isOne (entriesOf bbs) (128 * kind + 2 * s) ≡ has (standing bbs kind 0) s
+  white-one = let e : 128 * kind + 2 * s ≡ entryPlace kind s 0 = omega arith in ap (isOne (entriesOf bbs)) e ∙ there 0 (omega arith)
+
+  pub black-one : isOne (entriesOf bbs) (128 * kind + 2 * s + 1) ≡ has (turnedOver (standing bbs kind 1)) s
+  black-one = there 1 (omega arith) ∙ sym (has-turned (standing bbs kind 1) s hs)
+
+-- ---- one place on
+module _ (bbs : List ℕ) (n k : ℕ) (bytes : List ℕ) (q : n ≡ length (onesBefore bbs k)) (b : bytes ≡ listBytes (onesBefore bbs k)) where
+  place-yes : (kind square colour : ℕ) → kind ≡ kindAt k → square ≡ squareAt k → colour ≡ colourAt k → isOne (entriesOf bbs) k ≡ true → n < 64
+      → (n + 1 ≡ length (onesBefore bbs (k + 1))) × (entryPut kind square colour n bytes ≡ listBytes (onesBefore bbs (k + 1)))
+  unfolding onesBefore
+  place-yes kind square colour ek es ec e l =
+      (length-yes (entriesOf bbs) k e q, rw (ek, es, ec) (bytes-yes (entriesOf bbs) k e q l b))
+
+  place-no : isOne (entriesOf bbs) k ≡ false → (n + 0 ≡ length (onesBefore bbs (k + 1))) × (bytes ≡ listBytes (onesBefore bbs (k + 1)))
+  unfolding onesBefore
+  place-no e = (let z : n + 0 ≡ n = omega arith in z ∙ length-no (entriesOf bbs) k e q, bytes-no (entriesOf bbs) k e b)
+
+  pub place-on : (kind square colour : ℕ) → kind ≡ kindAt k → square ≡ squareAt k → colour ≡ colourAt k → (t : Bool) → isOne (entriesOf bbs) k ≡ t → (t ≡ true → n < 64)
+      → (n + digit t ≡ length (onesBefore bbs (k + 1))) × (putWhere t kind square colour n bytes ≡ listBytes (onesBefore bbs (k + 1)))
+  place-on kind square colour ek es ec true e l = place-yes kind square colour ek es ec e (l refl)
+  place-on kind square colour ek es ec false e l = place-no e
+
+  pub has-room : k < 768 → Few bbs → {t : Bool} → isOne (entriesOf bbs) k ≡ t → t ≡ true → n < 64
+  unfolding onesBefore
+  has-room l few e u = room (isOne (entriesOf bbs)) k l (e ∙ u) (few .few) q
+
+-- ---- a square on: how many entries there are, and the bytes
+abbrev pub Made : Type 0
+Made = ℕ × List ℕ
+
+abbrev pub madeTo : List ℕ → ℕ → ℕ → Made
+madeTo bbs kind s = (length (onesBefore bbs (128 * kind + 2 * s)), listBytes (onesBefore bbs (128 * kind + 2 * s)))
+
+neither : (a b : Bool) → (a || b) ≡ false → (a ≡ false) × (b ≡ false)
+neither true b e = absurd (let z : _≡_ {A = ℕ} 0 1 = cc in omega arith)
+neither false b e = (refl, e)
+
+pub still : (bbs : List ℕ) (kind s w b : ℕ) → kind < 6 → s < 64 → w ≡ standing bbs kind 0 → b ≡ turnedOver (standing bbs kind 1) → has (bitOr w b) s ≡ false
+    → madeTo bbs kind s ≡ madeTo bbs kind (suc s)
+unfolding onesBefore
+still bbs kind s w b hk hs ew eb e =
+    let k : ℕ = 128 * kind + 2 * s in
+    let f : ℕ → Bool = isOne (entriesOf bbs) in
+    let both = neither (has w s) (has b s) (sym (has-or w b s) ∙ e) in
+    let a : f k ≡ false = white-one bbs kind s hk hs ∙ ap (λ (x : ℕ). has x s) (sym ew) ∙ both .0 in
+    let c : f (suc k) ≡ false = ap f (let z : suc k ≡ k + 1 = omega arith in z) ∙ black-one bbs kind s hk hs ∙ ap (λ (x : ℕ). has x s) (sym eb) ∙ both .1 in
+    let on : ones f (128 * kind + 2 * suc s) ≡ ones f k = ap (ones f) (let z : 128 * kind + 2 * suc s ≡ suc (suc k) = omega arith in z) ∙ ones-no f (suc k) c ∙ ones-no f k a in
+    ap (λ (ks : List ℕ). (length ks, listBytes ks)) (sym on)
+
+-- where a loop stands at a square s of the two boards, with so many entries made: White's piece, then Black's
+module _ (bbs : List ℕ) (kind s w b : ℕ) (hk : kind < 6) (hs : s < 64) (ew : w ≡ standing bbs kind 0) (eb : b ≡ turnedOver (standing bbs kind 1)) (few : Few bbs)
+    (n : ℕ) (bytes : List ℕ) (e : (n, bytes) ≡ madeTo bbs kind s) (tw : Bool) (qw : tw ≡ has w s) where
+  is-white : isOne (entriesOf bbs) (128 * kind + 2 * s) ≡ tw
+  is-white = white-one bbs kind s hk hs ∙ ap (λ (x : ℕ). has x s) (sym ew) ∙ sym qw
+
+  many : n ≡ length (onesBefore bbs (128 * kind + 2 * s))
+  many = ap (λ (x : Made). x .0) e
+
+  those-bytes : bytes ≡ listBytes (onesBefore bbs (128 * kind + 2 * s))
+  those-bytes = ap (λ (x : Made). x .1) e
+
+  pub white-room : tw ≡ true → n < 64
+  white-room u = has-room bbs n (128 * kind + 2 * s) bytes many those-bytes (omega arith) few is-white u
+
+  module _ (m : ℕ) (mid : List ℕ) (em : m ≡ n + digit tw) (emid : mid ≡ putWhere tw kind s 0 n bytes) (tb : Bool) (qb : tb ≡ has b s) where
+    is-black : isOne (entriesOf bbs) (128 * kind + 2 * s + 1) ≡ tb
+    is-black = black-one bbs kind s hk hs ∙ ap (λ (x : ℕ). has x s) (sym eb) ∙ sym qb
+
+    half : (m ≡ length (onesBefore bbs (128 * kind + 2 * s + 1))) × (mid ≡ listBytes (onesBefore bbs (128 * kind + 2 * s + 1)))
+    half =
+        let one = place-on bbs n (128 * kind + 2 * s) bytes many those-bytes kind s 0 (omega arith) (omega arith) (omega arith) tw is-white white-room in
+        (em ∙ one .0, emid ∙ one .1)
+
+    pub black-room : tb ≡ true → m < 64
+    black-room u = has-room bbs m (128 * kind + 2 * s + 1) mid (half .0) (half .1) (omega arith) few is-black u
+
+    pub square-on : (r : ℕ) (last : List ℕ) → r ≡ m + digit tb → last ≡ putWhere tb kind s 1 m mid → (r, last) ≡ madeTo bbs kind (suc s)
+    square-on r last er elast =
+        let two = place-on bbs m (128 * kind + 2 * s + 1) mid (half .0) (half .1) kind s 1 (omega arith) (omega arith) (omega arith) tb is-black black-room in
+        let z : 128 * kind + 2 * s + 1 + 1 ≡ 128 * kind + 2 * suc s = omega arith in
+        ap₂ (λ (x : ℕ) (y : List ℕ). (x, y)) (er ∙ two .0) (elast ∙ two .1) ∙ ap (λ (i : ℕ). (length (onesBefore bbs i), listBytes (onesBefore bbs i))) z
+
+-- the walk begins
+pub begun : (bbs : List ℕ) (kind w b n : ℕ) (bytes : List ℕ) → kind < 6 → w < 2 ^ 64 → w ≡ standing bbs kind 0 → b < 2 ^ 64 → b ≡ turnedOver (standing bbs kind 1)
+    → n ≡ length (onesBefore bbs (128 * kind)) → bytes ≡ listBytes (onesBefore bbs (128 * kind)) → walk.Walk (madeTo bbs kind) 64 (n, bytes) (bitOr w b)
+begun bbs kind w b n bytes hk lw ew lb eb en ebs =
+    let z : 128 * kind ≡ 128 * kind + 2 * 0 = omega arith in
+    record {
+      at = 0;
+      now = ap₂ (λ (x : ℕ) (y : List ℕ). (x, y)) en ebs ∙ ap (λ (i : ℕ). (length (onesBefore bbs i), listBytes (onesBefore bbs i))) z;
+      left = walk.skips (madeTo bbs kind) (bitOr w b) 64 (λ i l h. absurd (omega arith)) (λ i l e. still bbs kind i w b hk l ew eb e) (omega arith);
+      fits = or-lt 64 w b lw lb;
+    }
+
+-- and ends
+pub ended : (bbs : List ℕ) (kind n : ℕ) (bytes : List ℕ) → (n, bytes) ≡ madeTo bbs kind 64
+    → (n ≡ length (onesBefore bbs (128 * kind + 128))) × (bytes ≡ listBytes (onesBefore bbs (128 * kind + 128)))
+ended bbs kind n bytes e = (ap (λ (x : Made). x .0) e, ap (λ (x : Made). x .1) e)
+
+-- ---- all kinds
+pub none-before : (bbs : List ℕ) {bytes : List ℕ} → bytes ≡ listBytes [] → (0 ≡ length (onesBefore bbs (128 * 0))) × (bytes ≡ listBytes (onesBefore bbs (128 * 0)))
+unfolding onesBefore
+none-before bbs e = (ap length (sym (ones-zero (isOne (entriesOf bbs)))), e ∙ ap listBytes (sym (ones-zero (isOne (entriesOf bbs)))))
+
+pub all-before : (bbs : List ℕ) → onesBefore bbs 768 ≡ onesIn (entriesOf bbs)
+unfolding onesBefore onesIn
+all-before bbs = refl

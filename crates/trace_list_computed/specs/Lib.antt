@@ -1,0 +1,2 @@
+pub mod PrivateWalk
+pub mod Promises

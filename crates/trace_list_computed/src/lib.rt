@@ -1,0 +1,207 @@
+// The trace of a position as a list, straight from the bitboards: its counts by value, its entries lent.
+ghost use mathlib.Core.Path.{_≡_};
+ghost use mathlib.Core.Bool.{true};
+ghost use mathlib.Core.List.{[]};
+ghost use Prim.Native.Nat.{_+_, _*_, _<_, _≤_};
+ghost use lib.Dec.{T};
+ghost use lib.ListN.{length};
+ghost use Rattle.bits.specs.Bitboard.{has, digit, those};
+ghost use Rattle.attack.specs.Attacks.{attacks};
+ghost use Rattle.attack_rays.specs.PrivateMirror.{partner, paired};
+ghost use Rattle.score_tally.specs.Mobility.{attackedFrom};
+ghost use Rattle.trace.specs.Trace.{mobilityOf, entriesOf};
+ghost use Rattle.trace_list.specs.Form.{onesIn, listBytes};
+ghost use Rattle.trace_list_computed.specs.PrivateWalk.{Few, onesBefore, entryPut, putWhere, turnedOver, refusedList};
+ghost use Rattle.trace_list_computed.specs.Promises.{ComputesList};
+use attack::inner::attacks_from;
+use attack::inner::occupied;
+use attack::inner::standing;
+use bits::Lowest;
+use chess::color::BLACK;
+use chess::color::WHITE;
+use chess::inner::index;
+use chess::kind::KINDS;
+use chess::piece::PIECES;
+use chess::piece::Piece;
+use position::Checked;
+use position::State;
+use refusal::Refusal;
+use trace_counts::Trace;
+use trace_list::BYTES;
+use trace_list::PER_ENTRY;
+
+// A trace, how many entries its list has, and whether the position passed its test: beside a refusal stand a trace of zeros and none.
+pub struct ListTraced {
+    pub checked: Checked,
+    pub trace: Trace,
+    pub used: u8,
+}
+
+// How many squares the pieces of a kind and a colour attack.
+fn attacked(pieces: u64, kind: u8, color: u8, occupied: u64) -> u32
+    ensures { λ r. ⌜ (r ≡ attackedFrom (λ s. attacks kind color s occupied) pieces) × (r ≤ 4096) ⌝ }
+{
+    let mut rest = pieces;
+    let mut sum: u32 = 0;
+    loop {
+        let n = bits::next(rest);
+        let Lowest::At(s, r) = n else {
+            return sum;
+        };
+        sum += bits::count(attacks_from(kind, color, s, occupied));
+        rest = r;
+    }
+}
+
+fn mobility(bitboards: &[u64]) -> [i32; Piece::COUNT]
+    ensures { λ r. ⌜ r ≡ mobilityOf (now (bitboards .entry)) ⌝ }
+{
+    let occupied = occupied(bitboards);
+    let mut mobility: [i32; Piece::COUNT] = [0; Piece::COUNT];
+    let mut n: u8 = 0;
+    while n < PIECES {
+        let kind = n / 2;
+        let color = n % 2;
+        let sum = attacked(standing(bitboards, kind, color), kind, color, occupied);
+        mobility[index(n)] = sum as i32;
+        n += 1;
+    }
+    mobility
+}
+
+// Each square of x changed with its partner n above or below: m has the lower of each two.
+fn swapped(x: u64, n: u64, m: u64) -> u64
+    requires { ⌜ (n < 64) × T (paired n m) ⌝ }
+    ensures { λ r. ⌜ r ≡ those 64 (λ k. has x (partner n m k)) ⌝ }
+{
+    ((x >> n) & m) | ((x & m) << n)
+}
+
+// The board as Black sees it: a rank changes places with the one across.
+fn turned(x: u64) -> u64
+    ensures { λ r. ⌜ r ≡ turnedOver x ⌝ }
+{
+    let a = swapped(x, 8, 0x00ff_00ff_00ff_00ff);
+    let b = swapped(a, 16, 0x0000_ffff_0000_ffff);
+    swapped(b, 32, 0x0000_0000_ffff_ffff)
+}
+
+fn stands(pieces: u64, square: u8) -> bool
+    requires { ⌜ square < 64 ⌝ }
+    ensures { λ r. ⌜ r ≡ has pieces square ⌝ }
+{
+    (pieces >> square) & 1 != 0
+}
+
+fn put(bytes: &mut [u8; BYTES], n: usize, kind: u8, square: u8, color: u8)
+    requires { ⌜ n < 64 ⌝ }
+    ensures { λ _. ⌜ now (bytes .exit) ≡ entryPut kind square color n (now (bytes .entry)) ⌝ }
+{
+    let at = PER_ENTRY * n;
+    bytes[at] = kind;
+    bytes[at + 1] = square;
+    bytes[at + 2] = color;
+}
+
+// The same where such a piece stands: how many entries there are then.
+fn put_where(
+    there: bool,
+    bytes: &mut [u8; BYTES],
+    n: usize,
+    kind: u8,
+    square: u8,
+    color: u8,
+) -> usize
+    requires { ⌜ (there ≡ true → n < 64) ⌝ }
+    ensures { λ r. ⌜ (r ≡ n + digit there) × (now (bytes .exit) ≡ putWhere there kind square color n (now (bytes .entry))) ⌝ }
+{
+    if there {
+        put(bytes, n, kind, square, color);
+        return n + 1;
+    }
+    n
+}
+
+// The pieces of a kind, square by square as the trace has them, White's before Black's: from so many entries on, how many there are then.
+fn kind_listed(bitboards: &[u64], kind: u8, used: usize, bytes: &mut [u8; BYTES]) -> usize
+    requires { ⌜ (kind < 6) × Few (now bitboards) × (used ≡ length (onesBefore (now bitboards) (128 * kind))) × (now bytes ≡ listBytes (onesBefore (now bitboards) (128 * kind))) ⌝ }
+    ensures { λ r. ⌜ (r ≡ length (onesBefore (now (bitboards .entry)) (128 * kind + 128))) × (now (bytes .exit) ≡ listBytes (onesBefore (now (bitboards .entry)) (128 * kind + 128))) ⌝ }
+{
+    let white = standing(bitboards, kind, WHITE);
+    let black = turned(standing(bitboards, kind, BLACK));
+    let mut n = used;
+    let mut rest = white | black;
+    loop {
+        let next = bits::next(rest);
+        let Lowest::At(s, r) = next else {
+            return n;
+        };
+        let m = put_where(stands(white, s), bytes, n, kind, s, WHITE);
+        n = put_where(stands(black, s), bytes, m, kind, s, BLACK);
+        rest = r;
+    }
+}
+
+fn clear(bytes: &mut [u8; BYTES])
+    ensures { λ _. ⌜ now (bytes .exit) ≡ listBytes [] ⌝ }
+{
+    *bytes = [0; BYTES];
+}
+
+fn listed(bitboards: &[u64], bytes: &mut [u8; BYTES]) -> usize
+    requires { ⌜ Few (now bitboards) × (now bytes ≡ listBytes []) ⌝ }
+    ensures { λ r. ⌜ (r ≡ length (onesIn (entriesOf (now (bitboards .entry))))) × (now (bytes .exit) ≡ listBytes (onesIn (entriesOf (now (bitboards .entry))))) ⌝ }
+{
+    let mut used: usize = 0;
+    let mut kind: u8 = 0;
+    while kind < KINDS {
+        used = kind_listed(bitboards, kind, used, bytes);
+        kind += 1;
+    }
+    used
+}
+
+// What stands beside a refusal: a trace of zeros, and no entry.
+fn refused(refusal: Refusal) -> ListTraced
+    ensures { λ r. ⌜ r ≡ refusedList refusal ⌝ }
+{
+    ListTraced {
+        checked: Checked::Refused(refusal),
+        trace: Trace {
+            pawns: [0, 0],
+            knights: [0, 0],
+            bishops: [0, 0],
+            rooks: [0, 0],
+            queens: [0, 0],
+            bishop_pair: [0, 0],
+            mobility: [0; Piece::COUNT],
+            side: 0,
+            piece_count: 0,
+        },
+        used: 0,
+    }
+}
+
+// SHAPE, then OVERLAP, UNION, BYTEBOARD. The list's bytes are lent.
+pub fn compute_list(
+    bitboards: &[u64],
+    board: &[u8],
+    state: State,
+    bytes: &mut [u8; BYTES],
+) -> ListTraced
+    ensures { λ r. ⌜ ComputesList (now (bitboards .entry)) (now (board .entry)) state (now (bytes .entry)) r (now (bytes .exit)) ⌝ }
+{
+    if let Checked::Refused(refusal) = position::check(bitboards, board, state) {
+        return refused(refusal);
+    }
+    let mobility = mobility(bitboards);
+    let trace = trace::inner::gathered(bitboards, state.side, mobility);
+    clear(bytes);
+    let entries = listed(bitboards, bytes);
+    let used = entries as u8;
+    ListTraced {
+        checked: Checked::Fit,
+        trace,
+        used,
+    }
+}

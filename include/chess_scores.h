@@ -1,6 +1,6 @@
 /* Chess scores, exchanges and traces, every one proved: the doors for C.
  *
- * Every function but chess_position_field returns the number 0 where it has an answer, and the answer's numbers then stand where the last
+ * Every function but chess_position_field and chess_expected returns the number 0 where it has an answer, and the answer's numbers then stand where the last
  * pointers point; or it returns a refusal, the first in the order that is named with the function, and has written nothing.
  *
  * A slice is a pointer and a length. A length that is not the one asked for is refused (SHAPE); what C must see to itself is that the
@@ -220,6 +220,28 @@ chess_code chess_ledger_feed(uint64_t state[CHESS_LEDGER_STATE], uint8_t *line, 
  * written). */
 chess_code chess_ledger_finish(const uint64_t state[CHESS_LEDGER_STATE], const uint8_t *line, size_t line_length, uint8_t *out,
                                size_t out_length, size_t *wrote);
+
+/* ---- expected results, and how far a collection's results lie from them */
+
+/* The expected result of a score for White, in millionths of a point: a million times 1/(1 + 10^(-score/400)), cut to a whole number, of
+ * the multiple of four at or below the score; beyond 1600 and -1600 it is the end's. */
+uint32_t chess_expected(int16_t score);
+
+/* Totals are three numbers, all 0 before any line: lines with a score, lines apart (with a verdict or `over`), and the sum of the squared
+ * distances of the former from their expected results, in millionths of millionths. */
+enum { CHESS_ERROR_TOTALS = 3, CHESS_ERROR_STATE = 7 };
+
+/* A line more, by its side to move, whether it has some score, the score for that side (not looked at where it has none), and the half points for White.
+ * SHAPE (the side), RESULT (the half points), MANY (the 1,000,001st line of its kind, or a sum past 64 bits). */
+chess_code chess_error_add(uint64_t totals[CHESS_ERROR_TOTALS], uint8_t side, bool some, int16_t score, uint8_t half_points);
+
+/* The lines of a collection that end in a piece of any size. The caller keeps the state, seven numbers that are all 0 before the first piece,
+ * and the line buffer of 256 bytes. SHAPE (a line buffer that has not 256 bytes). */
+chess_code chess_error_feed(uint64_t state[CHESS_ERROR_STATE], uint8_t *line, size_t line_length, const uint8_t *piece, size_t piece_length);
+
+/* The end of the input, which ends a last line that has no LF: the totals, and in `lines` how many were refused. SHAPE, MANY. */
+chess_code chess_error_end(const uint64_t state[CHESS_ERROR_STATE], const uint8_t *line, size_t line_length,
+                           uint64_t totals[CHESS_ERROR_TOTALS], uint64_t *lines);
 
 #ifdef __cplusplus
 }

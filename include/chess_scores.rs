@@ -43,6 +43,10 @@ pub(crate) mod doors {
         pub fn chess_shipped_weights(weights: *mut f64, squares: *mut f64, w: usize) -> Code;
         pub fn chess_ledger_feed(state: *mut u64, line: *mut u8, l: usize, piece: *const u8, p: usize, out: *mut u8, o: usize, wrote: *mut usize) -> Code;
         pub fn chess_ledger_finish(state: *const u64, line: *const u8, l: usize, out: *mut u8, o: usize, wrote: *mut usize) -> Code;
+        pub fn chess_expected(score: i16) -> u32;
+        pub fn chess_error_add(totals: *mut u64, side: u8, some: bool, score: i16, half_points: u8) -> Code;
+        pub fn chess_error_feed(state: *mut u64, line: *mut u8, l: usize, piece: *const u8, p: usize) -> Code;
+        pub fn chess_error_end(state: *const u64, line: *const u8, l: usize, totals: *mut u64, lines: *mut u64) -> Code;
     }
 }
 
@@ -628,6 +632,86 @@ impl Ledger {
             // SAFETY: as in `feed`.
             unsafe { doors::chess_ledger_finish(self.state.as_ptr(), self.line.as_ptr(), 256, out.as_mut_ptr(), out.len(), wrote) }
         });
+    }
+}
+
+/// The expected result of a score for White, in millionths of a point; in steps of four, and beyond 1600 and -1600 that of the end.
+///
+/// ```
+/// assert_eq!(chess_scores::expected(0), 500_000);
+/// assert_eq!(chess_scores::expected(-1), chess_scores::expected(-4));
+/// ```
+pub fn expected(score: i16) -> u32 {
+    // SAFETY: nothing is lent.
+    unsafe { doors::chess_expected(score) }
+}
+
+/// How far results lie from what scores let expect, line by line.
+#[derive(Clone, Copy, Debug, Default, PartialEq, Eq)]
+pub struct Totals {
+    /// Lines with a score.
+    pub scored: u64,
+    /// Lines with a verdict, or whose score is refused as `Refusal::Score`.
+    pub apart: u64,
+    /// The squared distances of the former from their expected results, in millionths of millionths.
+    pub sum: u64,
+}
+
+impl Totals {
+    /// A line more, by its side to move, what [`Position::eval`] says of it (a score for that side, or none) and the half points for White.
+    /// SHAPE (the side), RESULT (the half points), MANY (the 1,000,001st line of its kind, or a sum past 64 bits).
+    pub fn add(&mut self, side: u8, score: Option<i16>, half_points: u8) -> Result<(), Refusal> {
+        let mut numbers = [self.scored, self.apart, self.sum];
+        // SAFETY: the pointer is that of an array of three numbers.
+        let code = unsafe { doors::chess_error_add(numbers.as_mut_ptr(), side, score.is_some(), score.unwrap_or(0), half_points) };
+        given(code, ())?;
+        [self.scored, self.apart, self.sum] = numbers;
+        Ok(())
+    }
+}
+
+/// The totals of a collection, fed in pieces of any size.
+///
+/// ```
+/// let mut error = chess_scores::CollectionError::new();
+/// error.feed(b"4k3/8/8/8/8/8/4P3/4K3 w;1-0\n4k3/8/8/8/8/8/4P3/4K3 b;1/");
+/// error.feed(b"2-1/2\n8/8/8/8/8/8/8/8 w;0-1\n4k3/8/8/8/8/8/4P3/4K3 b;1/2");
+/// let (totals, refused) = error.end()?;
+/// assert_eq!((totals.scored, totals.apart, totals.sum, refused), (2, 1, 131_662_932_545, 1));
+/// # Ok::<(), chess_scores::Refusal>(())
+/// ```
+pub struct CollectionError {
+    state: [u64; 7],
+    line: [u8; 256],
+}
+
+impl Default for CollectionError {
+    fn default() -> CollectionError {
+        CollectionError::new()
+    }
+}
+
+impl CollectionError {
+    /// Before anything was read.
+    pub fn new() -> CollectionError {
+        CollectionError { state: [0; 7], line: [0; 256] }
+    }
+
+    /// The lines that end in a piece.
+    pub fn feed(&mut self, piece: &[u8]) {
+        // SAFETY: the pointers are those of arrays and of a slice, with their lengths, and none overlap.
+        let code = unsafe { doors::chess_error_feed(self.state.as_mut_ptr(), self.line.as_mut_ptr(), 256, piece.as_ptr(), piece.len()) };
+        assert_eq!(code.number, 0, "the line buffer has 256 bytes");
+    }
+
+    /// The end of the input, which ends a last line that has no LF: the totals, and how many lines were refused. MANY.
+    pub fn end(self) -> Result<(Totals, u64), Refusal> {
+        let (mut numbers, mut refused) = ([0; 3], 0);
+        // SAFETY: as in `feed`.
+        let code = unsafe { doors::chess_error_end(self.state.as_ptr(), self.line.as_ptr(), 256, numbers.as_mut_ptr(), &mut refused) };
+        given(code, ())?;
+        let [scored, apart, sum] = numbers;
+        Ok((Totals { scored, apart, sum }, refused))
     }
 }
 

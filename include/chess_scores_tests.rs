@@ -265,3 +265,59 @@ fn steps() {
         assert_eq!(code.number, 1);
     }
 }
+
+#[test]
+fn expected_results() {
+    assert_eq!([0, 3, 4, -1, -4].map(expected), [500_000, 500_000, 505_756, 494_243, 494_243]);
+    assert_eq!([-1600, -1601, i16::MIN].map(expected), [99; 3]);
+    assert_eq!([1600, 1601, i16::MAX].map(expected), [999_900; 3]);
+}
+
+#[test]
+fn totals() {
+    let mut totals = Totals::default();
+    assert_eq!(totals.add(WHITE, Some(117), 2), Ok(()));
+    let won = (1_000_000 - expected(116) as u64).pow(2);
+    assert_eq!(totals, Totals { scored: 1, apart: 0, sum: won });
+    // turned to White's side before it is taken down to a multiple of four
+    assert_eq!(totals.add(BLACK, Some(3), 0), Ok(()));
+    assert_eq!(totals, Totals { scored: 2, apart: 0, sum: won + (expected(-4) as u64).pow(2) });
+    assert_eq!(totals.add(WHITE, None, 1), Ok(()));
+    assert_eq!((totals.scored, totals.apart), (2, 1));
+    let before = totals;
+    assert_eq!(totals.add(2, Some(0), 3), Err(Refusal::Shape));
+    assert_eq!(totals.add(BLACK, Some(0), 3), Err(Refusal::Result));
+    assert_eq!(totals, before);
+    // each kind is full by itself, and a sum past 64 bits is one line too many
+    let mut full = Totals { scored: 1_000_000, apart: 999_999, sum: 0 };
+    assert_eq!(full.add(WHITE, Some(0), 1), Err(Refusal::Many));
+    assert_eq!(full.add(WHITE, None, 1), Ok(()));
+    assert_eq!(full.add(WHITE, None, 1), Err(Refusal::Many));
+    assert_eq!(full, Totals { scored: 1_000_000, apart: 1_000_000, sum: 0 });
+    let mut large = Totals { scored: 1, apart: 0, sum: u64::MAX };
+    assert_eq!(large.add(WHITE, Some(0), 2), Err(Refusal::Many));
+    assert_eq!(large.add(WHITE, Some(0), 1), Ok(()));
+}
+
+#[test]
+fn collections() {
+    let collection = b"4k3/8/8/8/8/8/4P3/4K3 w - - 0 1;1-0\n8/8/8/8/8/8/8/8 w;1/2-1/2\n4k3/8/8/8/8/8/4P3/4K3 b;1/2-1/2\r\n4k3/8/8/8/8/8/4P3/4K3 b;1/2";
+    for cut in 0..=collection.len() {
+        let mut error = CollectionError::new();
+        error.feed(&collection[..cut]);
+        error.feed(&collection[cut..]);
+        assert_eq!(error.end(), Ok((Totals { scored: 2, apart: 1, sum: 131_662_932_545 }, 1)));
+    }
+    // a state that says that a line found no room, and line buffers of other lengths: nothing is written
+    let (mut state, mut line, mut numbers, mut lines) = ([0, 0, 0, 0, 0, 0, 1], [7; 256], [8; 3], 9);
+    // SAFETY: the pointers are those of arrays that are at least as long.
+    let codes = unsafe {
+        [
+            doors::chess_error_end(state.as_ptr(), line.as_ptr(), 256, numbers.as_mut_ptr(), &mut lines),
+            doors::chess_error_end(state.as_ptr(), line.as_ptr(), 255, numbers.as_mut_ptr(), &mut lines),
+            doors::chess_error_feed(state.as_mut_ptr(), line.as_mut_ptr(), 255, collection.as_ptr(), collection.len()),
+        ]
+    };
+    assert_eq!(codes.map(|code| code.number), [22, 1, 1]);
+    assert_eq!((state, line, numbers, lines), ([0, 0, 0, 0, 0, 0, 1], [7; 256], [8; 3], 9));
+}

@@ -1,5 +1,5 @@
-/* A line of a collection on the command line, what the library says of it: the position field, verdict or score, the double of its trace, and what
- * one step of a fit would make of the tempo's weight if the side to move were worth more. */
+/* A line of a collection on the command line, what the library says of it: the position field, verdict or score with the expected result, the
+ * double of its trace, and what one step of a fit would make of the tempo's weight if the side to move were worth more. */
 #include "chess_scores.h"
 #include <stdio.h>
 #include <string.h>
@@ -21,6 +21,13 @@ static int refused(const char *what, chess_code code)
     return 1;
 }
 
+static unsigned expected_for_white(const position *p, int16_t score)
+{
+    /* 32768 is no int16_t, and is expected to bring what 32767 is */
+    int turned = p->side == CHESS_WHITE ? score : -score;
+    return (unsigned)chess_expected(turned > INT16_MAX ? INT16_MAX : (int16_t)turned);
+}
+
 static int print_score(const position *p)
 {
     uint8_t verdict;
@@ -31,7 +38,7 @@ static int print_score(const position *p)
     if (verdict != CHESS_NONE)
         printf("%s\n", VERDICTS[verdict]);
     else
-        printf("score %d\n", score);
+        printf("score %d, expected %u millionths for White\n", score, expected_for_white(p, score));
     return 0;
 }
 

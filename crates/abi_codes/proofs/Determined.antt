@@ -1,14 +1,19 @@
--- The function is determined by its promise, and so is a door by what passes it: two results that are allowed are equal. Assumes nothing.
+-- Each function is determined by its promise, and so is a door by what passes it: two results that are allowed are equal. Assumes nothing.
 use mathlib.Core.Path.{_≡_}
+use mathlib.Core.Bool.{Bool}
+use Prim.Native.Nat.{ℕ}
 use Rattle.refusal.specs.Answer.{Answer}
 use Rattle.refusal.specs.declared.Refusal.{Refusal}
 use Rattle.refusal.proofs.Paper.{one}
 use Rattle.abi_codes.specs.Codes.{Door, Doors}
-use Rattle.abi_codes.specs.Promises.{GivesCode}
+use Rattle.abi_codes.specs.Promises.{GivesCode, GivesFlag}
 use Rattle.abi_codes.specs.declared.Code.{Code}
 
 pub refused : (refusal : Refusal) (r s : Code) → GivesCode refusal r → GivesCode refusal s → r ≡ s
 refused refusal r s p q = one p q
+
+pub flag : (holds : Bool) (r s : ℕ) → GivesFlag holds r → GivesFlag holds s → r ≡ s
+flag holds r s p q = one p q
 
 -- ---- a door that lends one number, and one that lends two
 pub door : {A B : Type 0} {a : Answer A} {part : A → B} {old : B} {r s : Code} {new new′ : B} → Door a part old r new → Door a part old s new′ → (r ≡ s) × (new ≡ new′)

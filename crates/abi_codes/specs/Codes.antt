@@ -1,5 +1,6 @@
 -- How an answer passes a door of C: a number comes back with a square beside it, and the answer's own numbers stand in lent memory. Definitions only.
 use mathlib.Core.Path.{_≡_}
+use mathlib.Core.Bool.{Bool, cond}
 use mathlib.Core.List.{List, [], _∷_}
 use Prim.Native.Nat.{ℕ}
 use Rattle.refusal.specs.Answer.{Answer, given, refused}
@@ -39,6 +40,10 @@ pub record Doors {A B C : Type 0} (a : Answer A) (first : A → B) (second : A �
   pub code : r ≡ answerNumber a
   pub lent : new ≡ lentAfter first old a
   pub lent2 : new2 ≡ lentAfter second old2 a
+
+-- whether something is so, as a number: 1, or 0 where it is not
+abbrev pub flagOf : Bool → ℕ
+flagOf b = cond b 1 0
 
 -- a number that passes as it is
 abbrev pub asItIs : {A : Type 0} → A → A

@@ -1,5 +1,5 @@
-// What a door for C gives back: 0, or a refusal's number with the square that it names.
-ghost use Rattle.abi_codes.specs.Promises.{GivesCode};
+// What a door for C gives back: 0, or a refusal's number with the square that it names; and a flag as a number that C lends.
+ghost use Rattle.abi_codes.specs.Promises.{GivesCode, GivesFlag};
 use refusal::Beside;
 use refusal::Refusal;
 
@@ -30,4 +30,11 @@ pub fn refused(refusal: Refusal) -> Code
         },
         Beside::Square(square) => Code { number, square },
     }
+}
+
+// Whether something is so, as it stands among numbers that are lent.
+pub fn flag(holds: bool) -> u64
+    ensures { λ r. ⌜ GivesFlag holds r ⌝ }
+{
+    if holds { 1 } else { 0 }
 }

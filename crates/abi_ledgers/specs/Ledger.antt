@@ -1,16 +1,13 @@
 -- The ledger's state as four numbers, and what a call comes to as one. Definitions only.
-use mathlib.Core.Bool.{Bool, cond, not}
+use mathlib.Core.Bool.{not}
 use mathlib.Core.List.{List, [], _∷_}
 use Prim.Native.Nat.{ℕ}
 use lib.Dec.{eqb}
 use lib.ListN.{getD}
 use Rattle.ledger_feed.specs.Promises.{Came, turned, many, full, came}
 use Rattle.ledger_feed.specs.declared.SoFar.{SoFar}
-use Rattle.abi_codes.specs.Codes.{code}
+use Rattle.abi_codes.specs.Codes.{code, flagOf}
 use Rattle.abi_codes.specs.declared.Code.{Code}
-
-abbrev pub flagOf : Bool → ℕ
-flagOf b = cond b 1 0
 
 abbrev pub stateFrom : List ℕ → SoFar
 stateFrom l = record { held = getD l 0 0; cr = not (eqb (getD l 1 0) 0); loaded = getD l 2 0; refused = getD l 3 0 }

@@ -1,10 +1,11 @@
 // The ledger of a collection, fed in pieces of any size. Its state is lent as four numbers, all 0 before anything was read.
 ghost use mathlib.Core.Path.{_≡_};
-ghost use Rattle.abi_ledgers.specs.Ledger.{stateFrom, stateNumbers, flagOf};
+ghost use Rattle.abi_ledgers.specs.Ledger.{stateFrom, stateNumbers};
 ghost use Rattle.abi_ledgers.specs.Promises.{FeedsLedger, FinishesLedger};
 use abi_codes::Code;
 use abi_codes::GIVEN;
 use abi_codes::NO_SQUARE;
+use abi_codes::flag;
 use abi_codes::refused;
 use ledger_feed::Fed;
 use ledger_feed::SoFar;
@@ -37,12 +38,6 @@ fn state_of(numbers: &[u64; NUMBERS]) -> SoFar
         loaded: numbers[2],
         refused: numbers[3],
     }
-}
-
-fn flag(holds: bool) -> u64
-    ensures { λ r. ⌜ r ≡ flagOf holds ⌝ }
-{
-    if holds { 1 } else { 0 }
 }
 
 fn numbers_of(state: SoFar) -> [u64; NUMBERS]

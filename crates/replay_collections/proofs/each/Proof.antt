@@ -7,10 +7,10 @@ use Rattle.replay_collections.proofs.each.Statement.{statement}
 use Rattle.replay_collections.proofs.each.Tie as tie
 
 abbrev Inv-loop : tie.InvT-loop
-Inv-loop line₀ bytes now₀ i₀ line now i = (i ≤ length bytes) × (length line ≡ length line₀)
+Inv-loop line₀ other₀ bytes now₀ i₀ line other now i = (i ≤ length bytes) × (length line ≡ length line₀) × (length other ≡ length other₀)
 
 abbrev μ-loop : tie.MeasureT-loop
-μ-loop line₀ bytes now₀ i₀ line now i = length bytes - i
+μ-loop line₀ other₀ bytes now₀ i₀ line other now i = length bytes - i
 
 loop-holds : tie.Need-loop-holds Inv-loop μ-loop
 loop-holds c = search needs
@@ -33,6 +33,9 @@ loop-again c = search needs
 same-length : tie.Need-same-length Inv-loop μ-loop
 same-length c = search needs
 
+same-length-2 : tie.Need-same-length-2 Inv-loop μ-loop
+same-length-2 c = search needs
+
 returns : tie.Need-returns Inv-loop μ-loop
 returns c = search needs
 
@@ -49,4 +52,5 @@ each-spec =
     loop-less
     loop-again
     same-length
+    same-length-2
     returns)

@@ -7,10 +7,10 @@ use Rattle.replay_collections.proofs.spaces.Statement.{statement}
 use Rattle.replay_collections.proofs.spaces.Tie as tie
 
 abbrev Inv-loop : tie.InvT-loop
-Inv-loop line₀ blank now₀ k₀ line now k = (k ≤ 1000) × (length line ≡ length line₀)
+Inv-loop line₀ other₀ blank now₀ k₀ line other now k = (k ≤ 1000) × (length line ≡ length line₀) × (length other ≡ length other₀)
 
 abbrev μ-loop : tie.MeasureT-loop
-μ-loop line₀ blank now₀ k₀ line now k = 1000 - k
+μ-loop line₀ other₀ blank now₀ k₀ line other now k = 1000 - k
 
 loop-holds : tie.Need-loop-holds Inv-loop μ-loop
 loop-holds c = search needs
@@ -33,6 +33,9 @@ loop-again c = search needs
 same-length : tie.Need-same-length Inv-loop μ-loop
 same-length c = search needs
 
+same-length-2 : tie.Need-same-length-2 Inv-loop μ-loop
+same-length-2 c = search needs
+
 returns : tie.Need-returns Inv-loop μ-loop
 returns c = search needs
 
@@ -49,4 +52,5 @@ spaces-spec =
     loop-less
     loop-again
     same-length
+    same-length-2
     returns)

@@ -1,18 +1,18 @@
--- `replay_collections::write_ledgers` is safe and ends: the reads are counted. Assumes nothing.
+-- `replay_collections::write_all` is safe and ends: the reads are counted. Assumes nothing.
 use mathlib.Core.Path.{_≡_}
 use Prim.Native.Nat.{_≤_, _-_}
 use native.Mathlib.Omega.{arith}
 use lib.ListN.{length}
 use borrow.Author.Needs.{needs}
 use borrow.Author.Tests.{ltb-true}
-use Rattle.replay_collections.proofs.write_ledgers.Statement.{statement}
-use Rattle.replay_collections.proofs.write_ledgers.Tie as tie
+use Rattle.replay_collections.proofs.write_all.Statement.{statement}
+use Rattle.replay_collections.proofs.write_all.Tie as tie
 
 abbrev Inv-loop : tie.InvT-loop
-Inv-loop chunk₀ line₀ state₀ more₀ reads₀ chunk line state more reads = (reads ≤ 1000000) × (length chunk ≡ length chunk₀) × (length line ≡ 256)
+Inv-loop chunk₀ line₀ other₀ state₀ more₀ reads₀ chunk line other state more reads = (reads ≤ 1000000) × (length chunk ≡ length chunk₀) × (length line ≡ 256) × (length other ≡ 256)
 
 abbrev μ-loop : tie.MeasureT-loop
-μ-loop chunk₀ line₀ state₀ more₀ reads₀ chunk line state more reads = 1000000 - reads
+μ-loop chunk₀ line₀ other₀ state₀ more₀ reads₀ chunk line other state more reads = 1000000 - reads
 
 start-requires : tie.Need-start-requires Inv-loop μ-loop
 start-requires c κs = search needs
@@ -32,11 +32,14 @@ count-requires c κs = search needs
 slice-aggregate-each : tie.Need-slice-aggregate-each Inv-loop μ-loop
 slice-aggregate-each c = search needs
 
+slice-aggregate-each-2 : tie.Need-slice-aggregate-each-2 Inv-loop μ-loop
+slice-aggregate-each-2 c = search needs
+
 slice-reshare-prefix-each : tie.Need-slice-reshare-prefix-each Inv-loop μ-loop
 slice-reshare-prefix-each c = search needs
 
-slice-aggregate-each-2 : tie.Need-slice-aggregate-each-2 Inv-loop μ-loop
-slice-aggregate-each-2 c = search needs
+slice-aggregate-each-3 : tie.Need-slice-aggregate-each-3 Inv-loop μ-loop
+slice-aggregate-each-3 c = search needs
 
 each-requires : tie.Need-each-requires Inv-loop μ-loop
 each-requires c κs = search needs
@@ -59,8 +62,8 @@ same-length-2 c = search needs
 returns-2 : tie.Need-returns-2 Inv-loop μ-loop
 returns-2 c = search needs
 
-pub write-ledgers-spec : {M : Type 1} → statement M
-write-ledgers-spec =
+pub write-all-spec : {M : Type 1} → statement M
+write-all-spec =
     tie.close
     (tie.spec
     Inv-loop
@@ -71,8 +74,9 @@ write-ledgers-spec =
     read-requires
     count-requires
     slice-aggregate-each
-    slice-reshare-prefix-each
     slice-aggregate-each-2
+    slice-reshare-prefix-each
+    slice-aggregate-each-3
     each-requires
     loop-less
     loop-again

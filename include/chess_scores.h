@@ -139,6 +139,15 @@ chess_code chess_lvp(const uint64_t *bitboards, size_t bitboards_length, const u
 chess_code chess_see(const uint64_t *bitboards, size_t bitboards_length, const uint8_t *board, size_t board_length, uint8_t side,
                      const uint8_t order[CHESS_KINDS], uint8_t from, uint8_t to, int16_t *worth);
 
+/* The captures of that exchange in order, at most 31: of each the square that it is made from, the kind that makes it and the value that it
+ * takes, with zeros after them; how many they are; and before which of them, counted from 0, the exchange stops, or how many they are where
+ * it is played out. What the captures before that take, with alternating signs, is what the exchange is worth. SHAPE, OVERLAP, UNION, BYTEBOARD, SQUARE,
+ * ORDER, MOVE, CROWD. */
+enum { CHESS_CAPTURES = 32 };
+chess_code chess_captures(const uint64_t *bitboards, size_t bitboards_length, const uint8_t *board, size_t board_length, uint8_t side,
+                          const uint8_t order[CHESS_KINDS], uint8_t from, uint8_t to, uint8_t squares[CHESS_CAPTURES],
+                          uint8_t kinds[CHESS_CAPTURES], uint16_t taken[CHESS_CAPTURES], size_t *count, size_t *stop);
+
 /* ---- traces
  *
  * Kinds run 0 to 5: pawn, knight, bishop, rook, queen, king. counts[2 * kind + colour] counts the pieces of the first five kinds, and

@@ -31,6 +31,7 @@ pub(crate) mod doors {
         pub fn chess_is_check(bitboards: *const u64, b: usize, board: *const u8, s: usize, side: u8, color: u8, check: *mut bool) -> Code;
         pub fn chess_lvp(bitboards: *const u64, b: usize, board: *const u8, s: usize, side: u8, order: *const u8, color: u8, attacks: u64, occupied: u64, found: *mut bool, square: *mut u8, kind: *mut u8) -> Code;
         pub fn chess_see(bitboards: *const u64, b: usize, board: *const u8, s: usize, side: u8, order: *const u8, from: u8, to: u8, worth: *mut i16) -> Code;
+        pub fn chess_captures(bitboards: *const u64, b: usize, board: *const u8, s: usize, side: u8, order: *const u8, from: u8, to: u8, squares: *mut u8, kinds: *mut u8, taken: *mut u16, count: *mut usize, stop: *mut usize) -> Code;
         pub fn chess_compute_trace(bitboards: *const u64, b: usize, board: *const u8, s: usize, side: u8, counts: *mut i32, mobility: *mut i32, sign: *mut i32, pieces: *mut i32, entries: *mut i32, e: usize) -> Code;
         pub fn chess_trace_eval(counts: *const i32, mobility: *const i32, sign: i32, pieces: i32, entries: *const i32, e: usize, weights: *const f64, squares: *const f64, w: usize, value: *mut f64) -> Code;
         pub fn chess_gradient_add(counts: *const i32, mobility: *const i32, sign: i32, pieces: i32, entries: *const i32, e: usize, coefficient: f64, gradient: *mut f64, g: usize) -> Code;
@@ -308,6 +309,21 @@ pub fn piece_attacks(piece: u8, square: u8, occupied: u64) -> Result<u64, Refusa
 
 // SAFETY, of every call below: the pointers are those of the position's arrays, of slices and of locals, with their lengths, and none of
 // those written through overlaps another.
+/// A capture: the square that it is made from, the kind that makes it, the value that it takes.
+#[derive(Clone, Copy, Debug, PartialEq, Eq)]
+pub struct Capture {
+    pub from: u8,
+    pub kind: u8,
+    pub taken: u16,
+}
+
+/// The captures of an exchange, and before which of them, counted from 0, it stops; none where it is played out.
+#[derive(Clone, Debug, PartialEq, Eq)]
+pub struct Captures {
+    pub captures: Vec<Capture>,
+    pub stop: Option<usize>,
+}
+
 impl Position {
     /// The verdict, or none. SHAPE, OVERLAP, UNION, BYTEBOARD.
     pub fn eval_ending(&self) -> Result<Option<Verdict>, Refusal> {
@@ -365,6 +381,18 @@ impl Position {
         let mut worth = 0;
         let code = unsafe { doors::chess_see(self.bitboards.as_ptr(), 14, self.board.as_ptr(), 64, self.side, order.as_ptr(), from, to, &mut worth) };
         given(code, worth)
+    }
+
+    /// The captures of that exchange in order, those after the stopping point too, and before which of them it stops, if it does. SHAPE, OVERLAP, UNION, BYTEBOARD, SQUARE, ORDER, MOVE, CROWD.
+    pub fn captures(&self, order: &[u8; 6], from: u8, to: u8) -> Result<Captures, Refusal> {
+        let (mut squares, mut kinds, mut taken, mut count, mut stop) = ([0; 32], [0; 32], [0; 32], 0, 0);
+        let code = unsafe {
+            doors::chess_captures(
+                self.bitboards.as_ptr(), 14, self.board.as_ptr(), 64, self.side, order.as_ptr(), from, to, squares.as_mut_ptr(), kinds.as_mut_ptr(), taken.as_mut_ptr(), &mut count, &mut stop,
+            )
+        };
+        let captures = (0..count).map(|i| Capture { from: squares[i], kind: kinds[i], taken: taken[i] }).collect();
+        given(code, Captures { captures, stop: (stop < count).then_some(stop) })
     }
 
     /// The position's trace. SHAPE, OVERLAP, UNION, BYTEBOARD.

@@ -46,6 +46,20 @@ fn orders_of_capture() {
 }
 
 #[test]
+fn captures_told() {
+    let rooks = position("4r3/8/8/4p3/8/8/4R3/4R3 w").captures(&ORDER, 12, 36).unwrap();
+    let capture = |from, kind, taken| Capture { from, kind, taken };
+    assert_eq!(rooks, Captures { captures: vec![capture(12, 3, 100), capture(60, 3, 487), capture(4, 3, 487)], stop: Some(1) });
+    let queens = position("6k1/1b6/5n2/3p4/4P3/8/8/3Q2K1 w");
+    let told = queens.captures(&[0, 2, 1, 3, 4, 5], 3, 35).unwrap();
+    assert_eq!(told.captures, [capture(3, 4, 100), capture(49, 2, 1013), capture(28, 0, 292), capture(45, 1, 100)]);
+    assert_eq!(told.stop, None);
+    let sum: i32 = told.captures.iter().enumerate().map(|(i, c)| if i % 2 == 0 { c.taken as i32 } else { -(c.taken as i32) }).sum();
+    assert_eq!(queens.see(&[0, 2, 1, 3, 4, 5], 3, 35).map(i32::from), Ok(sum));
+    assert_eq!(queens.captures(&[0; 6], 3, 35), Err(Refusal::Order));
+}
+
+#[test]
 fn attacks() {
     let start = position(START);
     assert_eq!(piece_attacks(KNIGHT, 0, 0), Ok(1 << 10 | 1 << 17));

@@ -109,6 +109,11 @@ fn of_position(asked: &Question, position: Position) -> Answer {
             let found = position.lvp(&order(asked.bitboard(0)), asked.byte(1), asked.bitboard(2), asked.bitboard(3))?;
             found.map_or("none".to_string(), |(square, kind)| format!("{square} {kind}"))
         }
+        "captures" => {
+            let told = position.captures(&order(asked.bitboard(0)), asked.byte(1), asked.byte(2))?;
+            let listed: Vec<String> = told.captures.iter().map(|c| format!(" {} {} {}", c.from, c.kind, c.taken)).collect();
+            format!("{}{} {}", listed.len(), listed.concat(), told.stop.map_or("out".to_string(), |stop| stop.to_string()))
+        }
         "see_by" => position.see(&order(asked.bitboard(0)), asked.byte(1), asked.byte(2))?.to_string(),
         "trace" => trace(&position.trace()?),
         "double" => return double(asked.byte(0), asked.bitboard(1), &position.trace()?),

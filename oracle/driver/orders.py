@@ -1,4 +1,4 @@
-"""Questions with an order of the kinds (02, W-206): every one of the 720, and what is no order."""
+"""Questions with an order of the kinds (02, W-206, W-207): every one of the 720, and what is no order."""
 
 from itertools import permutations
 
@@ -47,6 +47,19 @@ def of_least_attackers():
         yield f"lvp_by {text(order)} {place % 2} {attacks} {position.occupied() & ~gone} {WHITE_TAKES}"
 
 
+def of_captures():
+    """Every fourth order on either side's captures; the longest exchange; exchanges that stop at once, at zero, and never."""
+    for place, order in enumerate(ORDERS[::4]):
+        starts, position = ((WHITE_STARTS, WHITE_TAKES), (BLACK_STARTS, BLACK_TAKES))[place % 2]
+        yield f"captures {text(order)} {starts[place % 5]} {E5} {position}"
+    for order in ("012345", "021345", "543210"):
+        yield f"captures {order} 11 28 {THIRTY_TWO}"
+        yield f"captures {order} 3 35 {QUEENS}"
+        yield f"captures {order} 27 {E5} 4r3/4q3/8/4n3/3P4/8/8/4R3 w;1-0"
+        yield f"captures {order} 12 {E5} 4r3/8/8/4p3/8/8/4R3/4R3 w;1-0"
+        yield f"captures {order} 4 {E5} 4k3/8/8/4p3/8/8/8/4R3 w;1-0"
+
+
 def of_no_orders():
     """ORDER: after SHAPE and SQUARE, before MOVE and CROWD."""
     for order in NO_ORDERS:
@@ -56,11 +69,14 @@ def of_no_orders():
         yield f"see_by {order} 0 {E5} {WHITE_TAKES}"
         yield f"see_by {order} 4 {E5} {TWO_KINGS}"
         yield f"see_by {order} 11 28 {THIRTY_THREE}"
+        yield f"captures {order} 27 {E5} {WHITE_TAKES}"
+        yield f"captures {order} 64 {E5} {WHITE_TAKES}"
         yield f"lvp_by {order} 0 0 0 {KINGS_AND_PAWN}"
         yield f"lvp_by {order} 2 0 0 {KINGS_AND_PAWN}"
     for start, position in ((0, WHITE_TAKES), (4, TWO_KINGS)):
         yield f"see_by 543210 {start} {E5} {position}"
+        yield f"captures 543210 {start} {E5} {position}"
 
 
 def questions():
-    return [*of_exchanges(), *of_least_attackers(), *of_no_orders()]
+    return [*of_exchanges(), *of_least_attackers(), *of_captures(), *of_no_orders()]

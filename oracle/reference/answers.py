@@ -41,6 +41,12 @@ def least(found, shown):
     return "none" if found is None else numbers(found[:shown])
 
 
+def told(captures, stop):
+    """How many captures; square, kind and value taken of each; and the number of the one it stops before, or `out`."""
+    listed = [number for capture in captures for number in capture]
+    return numbers([len(captures), *listed, "out" if stop is None else stop])
+
+
 def numbers(listed):
     return " ".join(map(str, listed))
 
@@ -121,6 +127,7 @@ WORDS = {
     "see": lambda start, target, position: exchange.see(position, start, target),
     "lvp": lambda colour, attacks, occupied, position: least(exchange.lvp(position, colour, attacks, occupied), 1),
     "see_by": lambda order, start, target, position: exchange.see(position, start, target, kinds_of(order)),
+    "captures": lambda order, start, target, position: told(*exchange.told(position, start, target, kinds_of(order))),
     "lvp_by": lambda order, colour, attacks, occupied, position: least(
         exchange.lvp(position, colour, attacks, occupied, kinds_of(order)), 2),
     "check": lambda colour, position: int(attack.is_check(position, colour)),

@@ -41,18 +41,22 @@ def crowded(position):
     return count(position.occupied()) > 32 or several
 
 
-def values_taken(position, start, target, order=KINDS):
-    """What each capture takes: v0 the target, v1 the first capturer, and so on."""
-    values = []
+def capture_list(position, start, target, order=KINDS):
+    """Each capture's square, kind and the value that it takes: v0 the target, v1 the first capturer, and so on."""
+    captures = []
     standing, capturer = position.board[target], (start, KIND_OF_CODE[position.board[start]])
     side, occupied = position.side, position.occupied()
     while capturer is not None:
-        values.append(value_of(standing))
+        captures.append((*capturer, value_of(standing)))
         standing = position.board[capturer[0]]
         occupied &= ~(1 << capturer[0])
         side = 1 - side
         capturer = least(position, side, attackers(position, target, occupied), occupied, order)
-    return values
+    return captures
+
+
+def values_taken(position, start, target, order=KINDS):
+    return [taken for _, _, taken in capture_list(position, start, target, order)]
 
 
 def settled(values):
@@ -63,10 +67,26 @@ def settled(values):
     return s
 
 
-def see(position, start, target, order=KINDS):
+def begins(position, start, target, order):
     tested(position)
     refuse_unless(0 <= start <= 63 and 0 <= target <= 63, SQUARE)
     refuse_unless(is_order(order), ORDER)
     refuse_unless(may_capture(position, start, target), MOVE)
     refuse_unless(not crowded(position), CROWD)
+
+
+def see(position, start, target, order=KINDS):
+    begins(position, start, target, order)
     return settled(values_taken(position, start, target, order))
+
+
+def stop(values):
+    """The earliest capture after the first whose S is not above zero, or None (02, W-207)."""
+    return next((place for place in range(1, len(values)) if settled(values[place:]) <= 0), None)
+
+
+def told(position, start, target, order=KINDS):
+    """All captures, and where the exchange stops; what is taken before that adds up to the value."""
+    begins(position, start, target, order)
+    captures = capture_list(position, start, target, order)
+    return captures, stop([taken for _, _, taken in captures])

@@ -1,6 +1,6 @@
 -- Exchanges, their captures, refusals and the least attacker, by computation. Assumes nothing.
 use mathlib.Core.Path.{_≡_, refl}
-use mathlib.Core.List.{List, [], _∷_}
+use mathlib.Core.List.{List, [], _∷_, map}
 use Prim.Native.Nat.{ℕ}
 use lib.IntN.{ℤ, pos, negsuc}
 use lib.ListN.{length}
@@ -20,13 +20,14 @@ use Rattle.exchange_order.specs.Orders.{order, eachOnce}
 use Rattle.exchange_least.specs.Least.{Attacker, nobody, attacker, leastOf}
 use Rattle.exchange_least.specs.Answers.{lvpOf}
 use Rattle.exchange_start.specs.Capture.{mayCapture, uncrowded}
+use Rattle.exchange_value.specs.Stop.{Stop, playedOut, before, stopOf, carriedOut, alternating}
 use Rattle.exchange.specs.Exchange.{Capture, capturesOf, exchangeOf}
 use Rattle.exchange.specs.PrivateSource.{sourceSee}
 use Rattle.exchange.specs.Answers.{seeOf}
 
 -- the door's answer with White to move, refusals and all, for any six kinds; and for document 01's order
 unfoldable answeredBy : List ℕ → List Placed → ℕ → ℕ → Answer ℤ
-unfolding bytesOf bitboardsOf tabulate those has some howMany allBelow boardsWith ofColour consistent checked eachOnce mayCapture uncrowded exchangeOf
+unfolding bytesOf bitboardsOf tabulate those has some howMany allBelow boardsWith ofColour orOdds checked eachOnce mayCapture uncrowded exchangeOf
 answeredBy kinds ps from to = let bytes : List ℕ = bytesOf ps in let bbs : List ℕ = bitboardsOf bytes in seeOf kinds bbs bytes (ofSide 0) from to
 
 unfoldable answered : List Placed → ℕ → ℕ → Answer ℤ
@@ -65,6 +66,56 @@ orders : answeredBy (0 ∷ 2 ∷ 1 ∷ 3 ∷ 4 ∷ 5 ∷ []) queenCase 3 35
 unfolding answeredBy
 orders = refl
 
+-- ---- where exchanges stop (document 02, W-207), and what the captures before that add up to
+unfoldable stops : List ℕ → Stop
+unfolding stopOf
+stops vs = stopOf vs
+
+unfoldable sums : List ℕ → ℤ
+unfolding stopOf alternating
+sums vs = alternating (carriedOut (stopOf vs) vs)
+
+abbrev taken : List Capture → List ℕ
+taken cs = map (λ c. c .taken) cs
+
+unfoldable told : List ℕ → List Placed → ℕ → ℕ → List Capture
+unfolding bytesOf bitboardsOf tabulate those capturesOf
+told kinds ps from to = let bytes : List ℕ = bytesOf ps in let bbs : List ℕ = bitboardsOf bytes in capturesOf kinds bbs bytes 0 from to
+
+-- at once after the first: pawn d4 takes knight e5, which queen e7 and rook e8 defend, rook e1 behind; 304, 100, 1013, 487: S(3) is 487, S(2) 526, S(1) -426
+pawnCase : told order (putOn 2 27 ∷ putOn 5 36 ∷ putOn 13 52 ∷ putOn 11 60 ∷ putOn 10 4 ∷ []) 27 36
+    ≡ capture 27 0 304 ∷ capture 52 4 100 ∷ capture 4 3 1013 ∷ capture 60 3 487 ∷ []
+unfolding told
+pawnCase = refl
+
+-- at zero: rooks e1, e2 against rook e8, e2 takes pawn e5; 100, 487, 487: S(1) is 0, "not above zero"
+rookCase : told order (putOn 10 4 ∷ putOn 10 12 ∷ putOn 11 60 ∷ putOn 3 36 ∷ []) 12 36 ≡ capture 12 3 100 ∷ capture 60 3 487 ∷ capture 4 3 487 ∷ []
+unfolding told
+rookCase = refl
+
+-- played out: the queen's
+stops-are : stops (304 ∷ 100 ∷ 1013 ∷ 487 ∷ []) ∷ stops (100 ∷ 487 ∷ 487 ∷ []) ∷ stops (100 ∷ 1013 ∷ 304 ∷ 100 ∷ []) ∷ [] ≡ before 1 ∷ before 1 ∷ playedOut ∷ []
+unfolding stops
+stops-are = refl
+
+sums-are : sums (304 ∷ 100 ∷ 1013 ∷ 487 ∷ []) ∷ sums (100 ∷ 487 ∷ 487 ∷ []) ∷ sums (100 ∷ 1013 ∷ 304 ∷ 100 ∷ []) ∷ [] ≡ pos 304 ∷ pos 100 ∷ negsuc 708 ∷ []
+unfolding sums
+sums-are = refl
+
+-- two orders stop at different points: each side attacks e5 by all six kinds, and knight f3 takes a knight there
+abbrev allKinds : List Placed
+allKinds =
+    putOn 11 60 ∷ putOn 9 50 ∷ putOn 13 52 ∷ putOn 5 42 ∷ putOn 3 45 ∷ putOn 6 35 ∷ putOn 5 36 ∷ putOn 7 37
+    ∷ putOn 2 27 ∷ putOn 4 21 ∷ putOn 8 22 ∷ putOn 12 12 ∷ putOn 10 4 ∷ []
+
+unfoldable allKindsStop : List ℕ → Stop
+unfolding told stops
+allKindsStop kinds = stops (taken (told kinds allKinds 21 36))
+
+two-orders : allKindsStop order ∷ allKindsStop (0 ∷ 2 ∷ 1 ∷ 3 ∷ 4 ∷ 5 ∷ []) ∷ [] ≡ before 6 ∷ before 2 ∷ []
+unfolding allKindsStop
+two-orders = refl
+
 -- what the source folds back
 unfoldable queensBySource : ℤ
 unfolding bytesOf bitboardsOf tabulate those sourceSee
@@ -94,6 +145,15 @@ longestList = let bytes : List ℕ = bytesOf thirtyTwo in let bbs : List ℕ = b
 longest-has : longestList ≡ 31
 unfolding longestList
 longest-has = refl
+
+-- it stops before the third capture: 1013 - 304 is 709
+unfoldable longestStop : Stop
+unfolding told stops
+longestStop = stops (taken (told order thirtyTwo 11 28))
+
+longest-stops : longestStop ≡ before 2
+unfolding longestStop
+longest-stops = refl
 
 -- ---- refusals: CROWD of a 33rd piece (a7), and of a second white king (a1), not of one king a colour; MOVE before CROWD
 crowds : answered (putOn 3 48 ∷ thirtyTwo) 11 28 ∷ answered (putOn 6 0 ∷ queenCase) 3 35 ∷ answered (putOn 6 0 ∷ queenCase) 3 36 ∷ [] ≡ refused 6 [] ∷ refused 6 [] ∷ refused 5 [] ∷ []

@@ -1,2 +1,4 @@
 pub mod Backward
+pub mod Earliest
+pub mod Stopping
 pub mod Determined

@@ -3,7 +3,9 @@ use crate::reply::Reply;
 use chess::kind::Kind;
 use exchange::Exchanged;
 use exchange_least::Least;
+use exchange_told::Told;
 use line_parse::Read;
+use position::Checked;
 use position::State;
 use text_in::inner::is;
 use text_in::inner::past;
@@ -12,7 +14,7 @@ use text_in::inner::text_before;
 mod reply;
 
 // More than the recorded questions take. One that did not fit would have no answer, and the run would fail.
-const ROOM: usize = 0x24000;
+const ROOM: usize = 0x28000;
 
 fn main() {
     let mut questions = [0u8; ROOM];
@@ -40,6 +42,16 @@ fn answer(question: &[u8]) -> Reply {
     let order = order(n[0]);
     if is(word, b"see_by") {
         return worth(exchange::see(&bitboards, &board, state, &order, byte(n[1]), byte(n[2])));
+    }
+    if is(word, b"captures") {
+        return told(exchange_told::captures(
+            &bitboards,
+            &board,
+            state,
+            &order,
+            byte(n[1]),
+            byte(n[2]),
+        ));
     }
     if is(word, b"lvp_by") {
         return least(exchange_least::lvp(
@@ -91,6 +103,22 @@ fn worth(worth: Exchanged) -> Reply {
         Exchanged::Worth(value) => Reply::Score(value),
         Exchanged::Refused(r) => Reply::Refused(r),
     }
+}
+
+// The captures are written here: an answer that holds lists is not to be had.
+fn told(told: Told) -> Reply {
+    let checked = told.checked;
+    if let Checked::Refused(r) = checked {
+        return Reply::Refused(r);
+    }
+    let listed = told.listed;
+    let squares = listed.from;
+    let kinds = listed.kind;
+    let taken = listed.taken;
+    reply::captures(&squares, &kinds, &taken, listed.count);
+    let stop = told.stop;
+    reply::stop(stop);
+    Reply::Nothing
 }
 
 fn least(least: Least) -> Reply {

@@ -1,4 +1,6 @@
 // What there is to say to a question, and how it is written.
+use exchange::inner::MOST;
+use exchange_value::inner::Stopped;
 use refusal::Refusal;
 
 pub(crate) enum Reply {
@@ -42,6 +44,39 @@ fn attacker(square: u8, kind: u8) {
     natural(square as u64);
     write(b" ");
     natural(kind as u64);
+}
+
+fn wide(n: u16) -> u64 {
+    n as u64
+}
+
+// How many, then three numbers each.
+pub(crate) fn captures(
+    squares: &[u8; MOST],
+    kinds: &[u8; MOST],
+    taken: &[u16; MOST],
+    count: usize,
+) {
+    natural(count as u64);
+    let mut i: usize = 0;
+    while i < MOST {
+        if i < count {
+            write(b" ");
+            attacker(squares[i], kinds[i]);
+            write(b" ");
+            natural(wide(taken[i]));
+        }
+        i += 1;
+    }
+    write(b" ");
+}
+
+// Where the exchange stops.
+pub(crate) fn stop(stop: Stopped) {
+    match stop {
+        Stopped::PlayedOut => write(b"out"),
+        Stopped::Before(k) => natural(k as u64),
+    }
 }
 
 fn refused(refusal: Refusal) {

@@ -1,0 +1,3 @@
+pub mod Behind
+pub mod Why
+pub mod Determined

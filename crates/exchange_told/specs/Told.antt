@@ -1,0 +1,25 @@
+-- What is told of an exchange (document 02, W-207). Definitions only.
+use mathlib.Core.List.{List, [], map}
+use Prim.Native.Nat.{ℕ}
+use Rattle.refusal.specs.Answer.{Answer, given, refused}
+use Rattle.position.specs.declared.State.{State}
+use Rattle.exchange_start.specs.Answers.{behind}
+use Rattle.exchange_value.specs.Stop.{Stop, stopOf}
+use Rattle.exchange.specs.Exchange.{Capture, capturesOf}
+
+-- "It takes any order of W-206, with that request's refusals"
+unfoldable pub toldOf : List ℕ → List ℕ → List ℕ → State → ℕ → ℕ → Answer (List Capture)
+toldOf kinds bbs bytes state from to = behind kinds bbs bytes state from to (capturesOf kinds bbs bytes (state .side) from to)
+
+-- "the captures of an exchange in order": none beside a refusal
+abbrev pub theCaptures : Answer (List Capture) → List Capture
+theCaptures (given cs) = cs
+theCaptures (refused number beside) = []
+
+-- what they take
+abbrev pub valuesTaken : List Capture → List ℕ
+valuesTaken cs = map (λ c. c .taken) cs
+
+-- "then the stopping point"
+abbrev pub theStop : List Capture → Stop
+theStop cs = stopOf (valuesTaken cs)

@@ -1,18 +1,15 @@
-// Answers the oracle's questions of traces and doubles on standard input, one a line, in both forms of a trace, flat and as a list: the file
-// stdout holds what the Rust answered, a double as its bits (oracle/README.md).
+// Answers the oracle's questions of traces and doubles on standard input, one a line: the file stdout holds what the Rust answered,
+// a double as its bits (oracle/README.md).
 use line_parse::Read;
 use places::entry::Entry;
 use places::weight::SquareWeight;
 use position::State;
-use refusal::Refusal;
 use text_in::inner::is;
 use text_in::inner::past;
 use text_in::inner::text_before;
 use trace_counts::Trace;
-use trace_counts::Weights;
 use trace_double::Doubled;
 
-mod lists;
 mod prints;
 mod seeds;
 
@@ -64,14 +61,10 @@ fn of_position(word: &[u8], kind: u64, seed: u64, text: &[u8]) {
     let board = loaded.board;
     let read = loaded.answer;
     let mut entries = [0i32; Entry::COUNT];
-    let state = state(read);
-    let traced = trace::compute_trace(&bitboards, &board, state, &mut entries);
+    let traced = trace::compute_trace(&bitboards, &board, state(read), &mut entries);
     let t = traced.trace;
     if is(word, b"trace") {
-        if lists::of_position(&bitboards, &board, state, t, &mut entries) {
-            return prints::trace(t, &entries);
-        }
-        return prints::doubled(Doubled::Refused(Refusal::Entry));
+        return prints::trace(t, &entries);
     }
     prints::doubled(doubled(t, &entries, kind, seed))
 }
@@ -89,13 +82,8 @@ fn doubled(t: Trace, entries: &[i32], kind: u64, seed: u64) -> Doubled {
     let mut squares = [0.0f64; SquareWeight::COUNT];
     if kind == 0 {
         trace_shipped::square_weights(&mut squares);
-        return both(t, entries, trace_shipped::weights(), &squares);
+        return trace_double::eval(t, entries, trace_shipped::weights(), &squares);
     }
     seeds::squares(kind, seeds::after_named(seed), &mut squares);
-    both(t, entries, seeds::weights(kind, seed), &squares)
-}
-
-fn both(t: Trace, entries: &[i32], weights: Weights, squares: &[f64]) -> Doubled {
-    let flat = trace_double::eval(t, entries, weights, squares);
-    lists::beside(flat, t, entries, weights, squares)
+    trace_double::eval(t, entries, seeds::weights(kind, seed), &squares)
 }

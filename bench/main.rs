@@ -34,6 +34,7 @@ mod random;
 mod chess_scores;
 #[path = "positions.rs"]
 mod drawn;
+mod errors;
 mod fits;
 mod functions;
 mod ledger;
@@ -80,6 +81,7 @@ fn usage() -> ! {
     eprintln!("rays ROUNDS               a queen's attacks on boards from empty to crowded");
     eprintln!("fits ROUNDS               gradients and steps over 40 and 500 positions");
     eprintln!("ledgers MOST ROUNDS       both ledgers over 10,000 lines, ten times as many, .. up to MOST");
+    eprintln!("errors LINES ROUNDS       the sum of errors over so many lines, beside their ledger");
     eprintln!("lines COUNT               a collection of so many lines on standard output");
     eprintln!("ours, theirs              a ledger of standard input; the peak of memory on standard error");
     std::process::exit(2)
@@ -98,6 +100,7 @@ fn main() -> io::Result<()> {
         ["fits", rounds] => fits::table(number(rounds)),
         ["rays", rounds] => rays::measure(number(rounds)),
         ["ledgers", most, rounds] => ledgers(number(most), number(rounds)),
+        ["errors", count, rounds] => errors::table(&drawn::lines(number(count)), number(count), number(rounds)),
         ["lines", count] => io::stdout().write_all(&drawn::lines(number(count)))?,
         ["ours"] => ledger::ours(io::stdin().lock(), output)?,
         ["theirs"] => ledger::theirs(BufReader::new(io::stdin().lock()), output)?,

@@ -6,14 +6,11 @@ use native.Mathlib.Omega.{arith}
 use borrow.Author.Tests.{eq-eqb, ne-eqb}
 use lib.IntN.{pos}
 use lib.ListN.{getD}
-use lib.Ieee.{Float, nan, binary64, ofInt, ofBits}
+use lib.Ieee.{Float, nan, ofInt, ofBits}
 use Rattle.places.specs.Places.{entryPlace, weightPlace, kindAt, squareAt, colourAt}
-use Rattle.doubles.specs.Doubles.{_⊕_, _⊖_, _⊗_, dbl}
+use Rattle.doubles.specs.Doubles.{_⊕_, _⊖_, _⊗_, dbl, d1}
 use Rattle.trace_double.specs.Double.{weightAt, between, entryAdded}
 use Rattle.trace_list_double.specs.Promises.{weighed}
-
-abbrev pub d1 : Float
-d1 = ofBits binary64 0x3ff0_0000_0000_0000
 
 one-is : dbl (pos 1) ≡ d1
 unfolding ofInt ofBits

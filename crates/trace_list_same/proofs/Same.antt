@@ -15,7 +15,6 @@ use Rattle.refusal.specs.Answer.{Answer, given, orRefuse}
 use Rattle.refusal.specs.declared.Refusal.the-variants as R
 use Rattle.refusal.proofs.Answers.{passed}
 use Rattle.laws.proofs.Truth.{true-T, T-true, and-l, and-r}
-use Rattle.laws.proofs.Tables.{tabulate-length}
 use Rattle.places.specs.Places.{entryPlace}
 use Rattle.position_consistent.specs.Consistent.{consistent}
 use Rattle.position.specs.Checked.{checked}
@@ -26,7 +25,8 @@ use Rattle.score.specs.Score.{evalOf, scoreOf, score}
 use Rattle.trace_counts.specs.Ranges.{inRanges, areEntries}
 use Rattle.trace_counts.specs.declared.Trace.{Trace}
 use Rattle.trace_double.specs.Double.{double}
-use Rattle.trace.specs.Trace.{traceOf, entriesOf, entryAt}
+use Rattle.trace.specs.Trace.{traceOf, entriesOf}
+use Rattle.trace.proofs.Planes.{entries-length}
 use Rattle.trace_exact.specs.Exact.{shippedWhole, exactSum, turnedForBlack}
 use Rattle.trace_exact.proofs.Ranges.{in-ranges, are-entries, pieces-few}
 use Rattle.claims.proofs.Agreed.{agreement}
@@ -147,17 +147,13 @@ same-line t used list entries flat c g e =
 was-consistent : {A : Type 0} (bbs board : List ℕ) (state : State) (a : A) (rest : Answer A) → checked bbs board state rest ≡ given a → (consistent bbs board ≡ true) × (rest ≡ given a)
 was-consistent bbs board state a rest e = let w = through bbs board state rest a e in (w .1, w .2)
 
-entries-long : (bbs : List ℕ) → length (entriesOf bbs) ≡ 768
-unfolding entriesOf
-entries-long bbs = tabulate-length 768 (λ i. pos (entryAt bbs i))
-
 few-ones : (bbs board : List ℕ) → consistent bbs board ≡ true → length (onesIn (entriesOf bbs)) ≤ 64
 few-ones bbs board e = subst (λ (m : ℕ). m ≤ 64) (sym (ones-are-pieces bbs board e)) (pieces-few bbs)
 
 listed-position : (bbs board : List ℕ) (side : ℕ) → consistent bbs board ≡ true → listedOf (traceOf bbs side) (entriesOf bbs) ≡ given (pieces bbs)
 listed-position bbs board side e =
     let n : length (onesIn (entriesOf bbs)) ≡ pieces bbs = ones-are-pieces bbs board e in
-    simp (eq-eqb (length (entriesOf bbs)) 768 (entries-long bbs), in-ranges bbs side, are-entries bbs, n, le-leb (pieces bbs) 64 (pieces-few bbs))
+    simp (eq-eqb (length (entriesOf bbs)) 768 (entries-length bbs), in-ranges bbs side, are-entries bbs, n, le-leb (pieces bbs) 64 (pieces-few bbs))
 
 pub of-positions : OfPositions
 of-positions bbs board lent state t e =
@@ -170,7 +166,7 @@ of-positions bbs board lent state t e =
 position-flat : (bbs board : List ℕ) → consistent bbs board ≡ true → flatOf (listPlaces (listBytes (onesIn (entriesOf bbs))) (pieces bbs)) ≡ entriesOf bbs
 position-flat bbs board e =
     ap (λ (m : ℕ). flatOf (listPlaces (listBytes (onesIn (entriesOf bbs))) m)) (sym (ones-are-pieces bbs board e))
-    ∙ flat-again (entriesOf bbs) (entries-long bbs) (true-T (are-entries bbs)) (few-ones bbs board e)
+    ∙ flat-again (entriesOf bbs) (entries-length bbs) (true-T (are-entries bbs)) (few-ones bbs board e)
 
 scored-consistent : (bbs board : List ℕ) (state : State) (s : ℤ) → evalOf bbs board state ≡ given (score s) → consistent bbs board ≡ true
 unfolding evalOf

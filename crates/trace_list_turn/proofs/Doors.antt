@@ -20,9 +20,6 @@ pub counted : (entries : List ℤ) {n : ℕ} → n ≡ howMany 768 (isOne entrie
 unfolding onesIn
 counted entries e = e ∙ sym (ones-count (isOne entries) 768)
 
-pub tested : (t : Trace) (es : List ℤ) {a b u : Bool} → a ≡ inRanges t → b ≡ areEntries es → (a && b) ≡ u → (inRanges t && areEntries es) ≡ u
-tested t es p q e = rw (sym p, sym q) e
-
 module _ (t : Trace) (es : List ℤ) (bytes : List ℕ) where
   pub unlike : (length es ≡ 768 → ⊥) → ListsTrace t es bytes (L.Refused R.Shape) bytes
   unlike n = record { answer = rw (ne-eqb (length es) 768 n); lent = rw (ne-eqb (length es) 768 n) }

@@ -1,7 +1,8 @@
 -- `trace_list_turn::list_of` meets its contract. Assumes nothing.
 use mathlib.Core.Path.{subst}
 use Prim.Native.Nat.{ℕ, _<_}
-use Rattle.trace_list_turn.proofs.Doors.{unlike, no-trace, too-many, made, counted, tested}
+use Rattle.trace_marks.proofs.Tested.{tested-both}
+use Rattle.trace_list_turn.proofs.Doors.{unlike, no-trace, too-many, made, counted}
 use borrow.Author.Needs.{needs}
 use Rattle.trace_list_turn.proofs.list_of.Statement.{statement}
 use Rattle.trace_list_turn.proofs.list_of.Tie as tie
@@ -24,7 +25,7 @@ returns-2 c =
     let w = n .before .before in
     let k = w .before .before in
     let s = k .before in
-    too-many (s .args .trace) (s .args .entries .now) (s .args .bytes .now) (k .if1 .left) (tested (s .args .trace) (s .args .entries .now) (w .before .in-ranges .ensures) (w .are-entries .ensures) (n .before .if2 .taken))
+    too-many (s .args .trace) (s .args .entries .now) (s .args .bytes .now) (k .if1 .left) (tested-both (s .args .trace) (s .args .entries .now) (w .before .in-ranges .ensures) (w .are-entries .ensures) (n .before .if2 .taken))
     (subst (λ (m : ℕ). 64 < m) (counted (s .args .entries .now) (n .number .ensures .0)) (c .if3 .taken))
 
 clear-requires : tie.Need-clear-requires
@@ -43,7 +44,7 @@ returns-3 c =
     let w = n .before .before in
     let k = w .before .before in
     let s = k .before in
-    made (s .args .trace) (s .args .entries .now) (s .args .bytes .now) (k .if1 .left) (tested (s .args .trace) (s .args .entries .now) (w .before .in-ranges .ensures) (w .are-entries .ensures) (n .before .if2 .taken))
+    made (s .args .trace) (s .args .entries .now) (s .args .bytes .now) (k .if1 .left) (tested-both (s .args .trace) (s .args .entries .now) (w .before .in-ranges .ensures) (w .are-entries .ensures) (n .before .if2 .taken))
     (counted (s .args .entries .now) (n .number .ensures .0)) (f .if3 .left) (c .fill .ensures)
 
 returns-4 : tie.Need-returns-4
@@ -51,7 +52,7 @@ returns-4 c =
     let w = c .before in
     let k = w .before .before in
     let s = k .before in
-    no-trace (s .args .trace) (s .args .entries .now) (s .args .bytes .now) (k .if1 .left) (tested (s .args .trace) (s .args .entries .now) (w .before .in-ranges .ensures) (w .are-entries .ensures) (c .if2 .left))
+    no-trace (s .args .trace) (s .args .entries .now) (s .args .bytes .now) (k .if1 .left) (tested-both (s .args .trace) (s .args .entries .now) (w .before .in-ranges .ensures) (w .are-entries .ensures) (c .if2 .left))
 
 pub list-of-spec : {M : Type 1} → statement M
 list-of-spec =

@@ -3,8 +3,6 @@ pub mod United
 pub mod Crowded
 pub mod Tested
 pub mod Wrong
-pub mod Places
-pub mod Planes
 pub mod Copied
 pub mod Made
 pub mod Determined

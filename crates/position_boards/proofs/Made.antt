@@ -18,8 +18,9 @@ use Rattle.bits.proofs.Some.{some-same}
 use Rattle.bits.proofs.Those.{has-those, those-same, those-or, those-none}
 use Rattle.position_boards.specs.Sound.{ofColour}
 use Rattle.position_boards.specs.Boards.{isByte, coded, standsOn, bitboardsOf}
-use Rattle.position_boards.specs.PrivateTested.{tablePlace, colourSquares, sortedBy, boardsBy}
-use Rattle.position_boards.proofs.Places.{by-place, no-piece}
+use Rattle.position_planes.specs.Sorted.{tablePlace, sortedBy}
+use Rattle.position_planes.proofs.Places.{by-place, no-piece}
+use Rattle.position_boards.specs.PrivateTested.{colourSquares, boardsBy}
 
 -- ---- where a byte is sorted, and where it stands
 pub on-its-board : (byte board : ℕ) → 2 ≤ board → board < 14 → eqb (tablePlace byte) board ≡ standsOn byte board

@@ -3,4 +3,3 @@ pub mod Wrong
 pub mod Boards
 pub mod Promises
 pub mod PrivateTested
-pub mod Planes

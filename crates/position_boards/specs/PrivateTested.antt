@@ -2,7 +2,7 @@
 use mathlib.Core.Bool.{cond}
 use mathlib.Core.List.{List}
 use Prim.Native.Nat.{ℕ}
-use lib.Dec.{eqb, leb, ltb}
+use lib.Dec.{leb, ltb}
 use lib.ListN.{getD}
 use Rattle.laws.specs.Tables.{tabulate}
 use Rattle.bits.specs.Bitboard.{those}
@@ -15,14 +15,6 @@ sharedBy bbs many = those 64 (λ k. leb many (boardsWith bbs k))
 -- the squares of a colour's piece boards
 abbrev pub colourSquares : List ℕ → ℕ → ℕ
 colourSquares bbs colour = those 64 (ofColour bbs colour)
-
--- where a table of 15 has a byte: any byte past the codes is at 14
-abbrev pub tablePlace : ℕ → ℕ
-tablePlace byte = cond (ltb byte 14) byte 14
-
--- the squares of each place of a byte
-unfoldable pub sortedBy : List ℕ → List ℕ
-sortedBy bytes = tabulate 15 (λ place. those 64 (λ k. eqb (tablePlace (getD bytes k 0)) place))
 
 -- the boards of the sorted bytes
 unfoldable pub boardsBy : List ℕ → List ℕ

@@ -22,9 +22,9 @@ use Rattle.position_boards.specs.Sound.{on, boardsWith, apart, ofColour, united
 use Rattle.position_consistent.specs.Consistent.{agrees, consistent}
 use Rattle.position_boards.specs.Boards.{isByte, coded, standsOn, bitboardsOf}
 use Rattle.position_boards.specs.Promises.{Makes}
-use Rattle.position_boards.specs.PrivateTested.{tablePlace}
+use Rattle.position_planes.specs.Sorted.{tablePlace}
 use Rattle.position_boards.specs.declared.Boards.{Boards}
-use Rattle.position_boards.proofs.Places.{by-place, no-piece}
+use Rattle.position_planes.proofs.Places.{by-place, no-piece}
 use Rattle.position_boards.proofs.Made.{on-its-board, on-its-colour}
 use Rattle.position_boards.proofs.Apart.{code-from, code-to, code-is}
 use Rattle.position_boards.proofs.United.{united-white, united-black, united-at}

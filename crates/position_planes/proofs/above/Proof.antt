@@ -1,8 +1,8 @@
--- `position_boards::above` meets its contract. Assumes nothing.
+-- `position_planes::above` meets its contract. Assumes nothing.
 use borrow.Author.Needs.{needs}
-use Rattle.position_boards.proofs.Planes.{none-beyond}
-use Rattle.position_boards.proofs.above.Statement.{statement}
-use Rattle.position_boards.proofs.above.Tie as tie
+use Rattle.position_planes.proofs.Planes.{none-beyond}
+use Rattle.position_planes.proofs.above.Statement.{statement}
+use Rattle.position_planes.proofs.above.Tie as tie
 
 returns : tie.Need-returns
 returns c =

@@ -1,13 +1,13 @@
--- `position_boards::word` meets its contract. The loop's invariant: the bytes of the files passed are in. Assumes nothing.
+-- `position_planes::word` meets its contract. The loop's invariant: the bytes of the files passed are in. Assumes nothing.
 use mathlib.Core.Path.{_≡_, ap, subst, _∙_}
 use Prim.Native.Nat.{_+_, _*_, _-_, _≤_}
 use native.Mathlib.Omega.{arith}
 use borrow.Author.Needs.{needs}
 use lib.ListN.{getD}
-use Rattle.position_boards.specs.Planes.{Row, stack}
-use Rattle.position_boards.proofs.Planes.{stack-none, stack-next, row-none, row-next}
-use Rattle.position_boards.proofs.word.Statement.{statement}
-use Rattle.position_boards.proofs.word.Tie as tie
+use Rattle.position_planes.specs.PrivatePlanes.{Row, stack}
+use Rattle.position_planes.proofs.Planes.{stack-none, stack-next, row-none, row-next}
+use Rattle.position_planes.proofs.word.Statement.{statement}
+use Rattle.position_planes.proofs.word.Tie as tie
 
 abbrev Inv-loop : tie.InvT-loop
 Inv-loop board rank word₀ file₀ word file = (file ≤ 8) × (word ≡ stack (λ j. getD board (8 * rank + j) 0) file) × Row board rank file

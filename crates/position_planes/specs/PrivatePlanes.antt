@@ -8,7 +8,7 @@ use lib.Dec.{eqb}
 use lib.ListN.{getD}
 use Rattle.laws.specs.Tables.{tabulate}
 use Rattle.bits.specs.Bitboard.{has, those, digit}
-use Rattle.position_boards.specs.PrivateTested.{tablePlace}
+use Rattle.position_planes.specs.Sorted.{tablePlace}
 
 -- the first n bytes of a rank are bytes
 pub record Row (bytes : List ℕ) (rank n : ℕ) : Type 0 where

@@ -1,9 +1,9 @@
--- `position_boards::words` meets its contract. Assumes nothing.
+-- `position_planes::words` meets its contract. Assumes nothing.
 use borrow.Author.Needs.{needs}
-use Rattle.position_boards.specs.Planes.{rankWord}
-use Rattle.position_boards.proofs.Planes.{rows-8, words-8}
-use Rattle.position_boards.proofs.words.Statement.{statement}
-use Rattle.position_boards.proofs.words.Tie as tie
+use Rattle.position_planes.specs.PrivatePlanes.{rankWord}
+use Rattle.position_planes.proofs.Planes.{rows-8, words-8}
+use Rattle.position_planes.proofs.words.Statement.{statement}
+use Rattle.position_planes.proofs.words.Tie as tie
 
 word-requires : tie.Need-word-requires
 word-requires c κs = search needs

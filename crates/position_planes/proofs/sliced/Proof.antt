@@ -1,13 +1,13 @@
--- `position_boards::sliced` meets its contract. The loop's invariant: the ranks passed are in. Assumes nothing.
+-- `position_planes::sliced` meets its contract. The loop's invariant: the ranks passed are in. Assumes nothing.
 use mathlib.Core.Path.{_≡_, subst}
 use Prim.Native.Nat.{ℕ, _-_, _≤_}
 use native.Mathlib.Omega.{arith}
 use borrow.Author.Needs.{needs}
 use lib.ListN.{getD}
-use Rattle.position_boards.specs.Planes.{Sliced}
-use Rattle.position_boards.proofs.Planes.{sliced-none, sliced-next}
-use Rattle.position_boards.proofs.sliced.Statement.{statement}
-use Rattle.position_boards.proofs.sliced.Tie as tie
+use Rattle.position_planes.specs.PrivatePlanes.{Sliced}
+use Rattle.position_planes.proofs.Planes.{sliced-none, sliced-next}
+use Rattle.position_planes.proofs.sliced.Statement.{statement}
+use Rattle.position_planes.proofs.sliced.Tie as tie
 
 abbrev Inv-loop : tie.InvT-loop
 Inv-loop words a₀ b₀ c₀ d₀ all₀ rank₀ a b c d all rank = (rank ≤ 8) × Sliced (λ i. getD words i 0) rank a b c d all

@@ -1,7 +1,7 @@
--- `position_boards::parted` meets its contract. Assumes nothing.
-use Rattle.position_boards.proofs.Planes.{all-places}
-use Rattle.position_boards.proofs.parted.Statement.{statement}
-use Rattle.position_boards.proofs.parted.Tie as tie
+-- `position_planes::parted` meets its contract. Assumes nothing.
+use Rattle.position_planes.proofs.Planes.{all-places}
+use Rattle.position_planes.proofs.parted.Statement.{statement}
+use Rattle.position_planes.proofs.parted.Tie as tie
 
 returns : tie.Need-returns
 returns c =

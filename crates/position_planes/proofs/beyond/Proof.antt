@@ -1,12 +1,12 @@
--- `position_boards::beyond` meets its contract. The loop's invariant: the digits of the ranks passed are in. Assumes nothing.
+-- `position_planes::beyond` meets its contract. The loop's invariant: the digits of the ranks passed are in. Assumes nothing.
 use mathlib.Core.Path.{_≡_, ap, _∙_}
 use Prim.Native.Nat.{ℕ, _-_, _≤_}
 use native.Mathlib.Omega.{arith}
 use borrow.Author.Needs.{needs}
-use Rattle.position_boards.specs.Planes.{stack, rankWord, digitsOf, highOf}
-use Rattle.position_boards.proofs.Planes.{stack-none, stack-next}
-use Rattle.position_boards.proofs.beyond.Statement.{statement}
-use Rattle.position_boards.proofs.beyond.Tie as tie
+use Rattle.position_planes.specs.PrivatePlanes.{stack, rankWord, digitsOf, highOf}
+use Rattle.position_planes.proofs.Planes.{stack-none, stack-next}
+use Rattle.position_planes.proofs.beyond.Statement.{statement}
+use Rattle.position_planes.proofs.beyond.Tie as tie
 
 abbrev Inv-loop : tie.InvT-loop
 Inv-loop board plane₀ rank₀ plane rank = (rank ≤ 8) × (plane ≡ stack (λ r. digitsOf (highOf (rankWord board r)) 4) rank)

@@ -1,8 +1,8 @@
--- `position_boards::gathered` meets its contract. Assumes nothing.
-use Rattle.position_boards.proofs.Planes.{gather}
+-- `position_planes::gathered` meets its contract. Assumes nothing.
+use Rattle.position_planes.proofs.Planes.{gather}
 use borrow.Author.Needs.{needs}
-use Rattle.position_boards.proofs.gathered.Statement.{statement}
-use Rattle.position_boards.proofs.gathered.Tie as tie
+use Rattle.position_planes.proofs.gathered.Statement.{statement}
+use Rattle.position_planes.proofs.gathered.Tie as tie
 
 shr-apart : tie.Need-shr-apart
 shr-apart c = search needs

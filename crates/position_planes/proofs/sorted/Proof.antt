@@ -1,14 +1,14 @@
--- `position_boards::sorted` meets its contract. Assumes nothing.
+-- `position_planes::sorted` meets its contract. Assumes nothing.
 use mathlib.Core.Path.{ap, _∙_}
 use mathlib.Core.List.{List}
 use Prim.Native.Nat.{ℕ}
 use lib.ListN.{getD}
 use borrow.Author.Needs.{needs}
 use Rattle.laws.proofs.Tables.{entry}
-use Rattle.position_boards.specs.Planes.{Sliced, rankWord}
-use Rattle.position_boards.proofs.Planes.{sliced-same, sorted-from}
-use Rattle.position_boards.proofs.sorted.Statement.{statement}
-use Rattle.position_boards.proofs.sorted.Tie as tie
+use Rattle.position_planes.specs.PrivatePlanes.{Sliced, rankWord}
+use Rattle.position_planes.proofs.Planes.{sliced-same, sorted-from}
+use Rattle.position_planes.proofs.sorted.Statement.{statement}
+use Rattle.position_planes.proofs.sorted.Tie as tie
 
 words-requires : tie.Need-words-requires
 words-requires c κs = search needs

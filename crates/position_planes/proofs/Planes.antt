@@ -18,8 +18,8 @@ use Rattle.laws.proofs.Truth.{T-true, and-l, and-r, is-beq}
 use Rattle.bits.specs.Bitboard.{has, those, digit}
 use Rattle.bits.proofs.Digits.{has-or, has-and, has-not, has-shl, has-shr, has-zero, has-high, ext}
 use Rattle.bits.proofs.Those.{those-lt, has-those, is-those, those-same}
-use Rattle.position_boards.specs.PrivateTested.{tablePlace, sortedBy}
-use Rattle.position_boards.specs.Planes.{Row, Rows, Covers, Sliced, stack, rankWord, digitsOf, digitPlane, highOf, beyondOf, placeBy, placesBy}
+use Rattle.position_planes.specs.Sorted.{tablePlace, sortedBy}
+use Rattle.position_planes.specs.PrivatePlanes.{Row, Rows, Covers, Sliced, stack, rankWord, digitsOf, digitPlane, highOf, beyondOf, placeBy, placesBy}
 
 -- ---- numbers of eight digits, one above the other
 pub stack-none : (f : ℕ → ℕ) → 0 ≡ stack f 0

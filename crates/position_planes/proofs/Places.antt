@@ -6,7 +6,7 @@ use native.Mathlib.Omega.{arith}
 use lib.Dec.{leb, ltb}
 use borrow.Author.Tests.{lt-leb, ltb-true, ltb-false}
 use Rattle.chess.specs.Codes.{isPiece}
-use Rattle.position_boards.specs.PrivateTested.{tablePlace}
+use Rattle.position_planes.specs.Sorted.{tablePlace}
 
 -- ---- a byte is below 14, or it is no code
 pub by-place : (P : ℕ → ℕ → Type 0) → ((b : ℕ) → b < 14 → P b b) → ((b : ℕ) → 14 ≤ b → P b 14) → (byte : ℕ) → P byte (tablePlace byte)

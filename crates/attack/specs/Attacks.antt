@@ -6,6 +6,7 @@ use Prim.Native.Nat.{ℕ}
 use lib.Dec.{eqb}
 use lib.ListN.{getD}
 use Rattle.chess.specs.Codes.{codeOf}
+use Rattle.chess.specs.Named.{white, black}
 use Rattle.bits.specs.Bitboard.{has, those, board}
 use Rattle.attack_steps.specs.Steps.{reached, knightSteps, kingSteps, pawnSteps}
 use Rattle.attack_rays.specs.Rays.{seen, straight, slanted}
@@ -21,7 +22,7 @@ unfolding those has
 occupied bbs = those 64 (λ k. has (getD bbs 0 0) k || has (getD bbs 1 0) k)
 
 abbrev pub other : ℕ → ℕ
-other colour = cond (eqb colour 0) 1 0
+other colour = cond (eqb colour white) black white
 
 -- ---- what a piece attacks
 -- "Kinds run 0 to 5: pawn, knight, bishop, rook, queen, king": the squares that a kind attacks from s, given those that the steps of pawn, knight

@@ -6,6 +6,7 @@ use Prim.Native.Nat.{ℕ, _+_, _/_, _%_}
 use lib.Dec.{eqb, ltb}
 use lib.ListN.{getD}
 use Rattle.laws.specs.Tables.{tabulate}
+use Rattle.chess.specs.Named.{white}
 use Rattle.bits.specs.Bitboard.{those}
 
 -- so many files to the right or to the left, and so many ranks up or down
@@ -58,7 +59,7 @@ abbrev pub blackPawnSteps : List Step
 blackPawnSteps = sw 1 1 ∷ se 1 1 ∷ []
 
 abbrev pub pawnSteps : ℕ → List Step
-pawnSteps colour = cond (eqb colour 0) whitePawnSteps blackPawnSteps
+pawnSteps colour = cond (eqb colour white) whitePawnSteps blackPawnSteps
 
 -- ---- "the four fixed step tables of 64 entries", in the order white pawn, black pawn, knight, king
 unfoldable pub stepTable : List Step → List ℕ

@@ -5,6 +5,7 @@ use mathlib.Core.List.{List}
 use Prim.Native.Nat.{ℕ}
 use lib.Dec.{eqb}
 use lib.ListN.{getD}
+use Rattle.chess.specs.Named.{king}
 use Rattle.bits.specs.Bitboard.{has, those, some, lowestOf, board}
 use Rattle.position_boards.specs.Sound.{on}
 use Rattle.attack_steps.specs.Steps.{reached, knightSteps, kingSteps, whitePawnSteps, blackPawnSteps}
@@ -44,5 +45,5 @@ isAttacked bbs s colour = let by : ℕ = attackers bbs s (occupied bbs) in some 
 unfoldable pub isCheck : List ℕ → ℕ → Bool
 unfolding isAttacked lowestOf
 isCheck bbs colour =
-    let king : ℕ = standing bbs 5 colour in
-    cond (eqb king 0) true (isAttacked bbs (lowestOf king) colour)
+    let kings : ℕ = standing bbs king colour in
+    cond (eqb kings 0) true (isAttacked bbs (lowestOf kings) colour)

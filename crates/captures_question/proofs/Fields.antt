@@ -10,7 +10,8 @@ use borrow.Author.Tests.{le-leb, lt-leb, eq-eqb, ne-eqb}
 use Rattle.text_in.specs.Text.{text, before}
 use Rattle.text_in.proofs.Within.{before-within}
 use Rattle.exchange_order.specs.Orders.{order}
-use Rattle.captures_question.specs.Question.{squareOf, nthSquare, kindOfLetter, letterAt, orderOf, kindsIn}
+use Rattle.chess.specs.Named.{squareOf}
+use Rattle.captures_question.specs.Question.{nthSquare, kindOfLetter, letterAt, orderOf, kindsIn}
 
 -- ---- a square
 module _ (file rank : ℕ) where

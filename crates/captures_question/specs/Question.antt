@@ -1,11 +1,12 @@
 -- A question about an exchange (document 02, W-207): a line of a collection as it stands, then `;` and a move of two squares, then, if wanted, `;` and an order of
 -- the kinds as six letters: `6k1/8/8/4p3/8/8/8/4R1K1 w;1-0;e1e5;pbnrqk`. Definitions only.
-use mathlib.Core.Bool.{cond, _&&_}
+use mathlib.Core.Bool.{cond}
 use mathlib.Core.List.{List, [], _∷_}
-use Prim.Native.Nat.{ℕ, _+_, _*_, _-_}
-use lib.Dec.{eqb, leb}
+use Prim.Native.Nat.{ℕ, _+_}
+use lib.Dec.{eqb}
 use lib.ListN.{length, getD}
 use Rattle.refusal.specs.Answer.{Answer, given, refused}
+use Rattle.chess.specs.Named.{squareOf}
 use Rattle.position_boards.specs.Boards.{bitboardsOf}
 use Rattle.text_in.specs.Text.{text, semicolon, before, after, trim}
 use Rattle.line_parse.specs.Line.{Line, lineOf}
@@ -24,10 +25,6 @@ abbrev pub orderField : List ℕ → List ℕ
 orderField question = trim (before semicolon (after semicolon (afterResult question)))
 
 -- ---- what they say
--- a file's letter and a rank's digit; 64, which SQUARE refuses, where they are none
-abbrev pub squareOf : ℕ → ℕ → ℕ
-squareOf file rank = cond ((leb 97 file && leb file 104) && (leb 49 rank && leb rank 56)) (8 * (rank - 49) + (file - 97)) 64
-
 -- two squares side by side; else none, and SQUARE refuses it
 abbrev pub nthSquare : List ℕ → ℕ → ℕ
 nthSquare s at = cond (eqb (length s) 4) (squareOf (getD s at 0) (getD s (at + 1) 0)) 64

@@ -1,7 +1,8 @@
 // The move and the order that a question names, for the crates above: total, no door. What is no square is 64 and what is no kind 6, which the exchange refuses.
 ghost use mathlib.Core.Path.{_≡_};
 ghost use Prim.Native.Nat.{_≤_};
-ghost use Rattle.captures_question.specs.Question.{squareOf, nthSquare, kindOfLetter, orderOf, kindsIn};
+ghost use Rattle.chess.specs.Named.{squareOf};
+ghost use Rattle.captures_question.specs.Question.{nthSquare, kindOfLetter, orderOf, kindsIn};
 ghost use Rattle.captures_question.specs.Promises.{Asks};
 use chess::kind::Kind;
 use chess::square::Square;

@@ -14,6 +14,7 @@ use Rattle.attack.specs.Attacks.{attacks}
 use Rattle.attack_to.specs.Attackers.{attackers, isAttacked, isCheck}
 use Rattle.attack.specs.Answers.{pieceAttacksOf}
 use Rattle.attack_to.specs.Answers.{attacksToOf, isAttackedOf, isCheckOf}
+use Rattle.claims_examples.specs.Written.{boardsOf}
 
 -- r3k2r/p1ppqpb1/bn2pnp1/3PN3/1p2P3/2N2Q1p/PPPBBPPP/R3K2R
 abbrev middle : List ℕ
@@ -90,3 +91,11 @@ colour-refusals : isAttackedOf none bare (ofSide 0) 0 2 ∷ isAttackedOf none ba
     ≡ refused 1 [] ∷ refused 4 [] ∷ given false ∷ refused 1 [] ∷ given true ∷ []
 unfolding checked orOdds boardsWith ofColour howMany some has allBelow bare isAttacked isCheck
 colour-refusals = refl
+
+-- ---- the boards are those of the positions that they are called
+as-written : boardsOf "r3k2r/p1ppqpb1/bn2pnp1/3PN3/1p2P3/2N2Q1p/PPPBBPPP/R3K2R"
+    ∷ boardsOf "6rK/8/8/8/8/8/8/K7"
+    ∷ boardsOf "4k3/8/8/8/4R3/8/8/4K3" ∷ []
+    ≡ middle ∷ twoKings ∷ rookCheck ∷ []
+unfolding boardsOf
+as-written = refl

@@ -9,13 +9,15 @@ use Rattle.trace.specs.Trace.{traceOf, entryAt, entriesOf}
 use Rattle.trace_shipped.specs.Weights.{squareWeight, shipped, shippedSquares}
 use Rattle.trace_double.specs.Double.{double}
 use Rattle.trace_exact.specs.Exact.{shippedWhole, exactBy}
-use Rattle.claims_examples.proofs.Traces.{pawn}
+use Rattle.claims_examples.proofs.Traces.{pawnUp}
+use Rattle.claims_examples.specs.Written.{boardsOf}
+use Rattle.claims_examples.proofs.Bounds.{high}
 
 abbrev fitted : List ℕ → ℕ → Float
 fitted bbs side = double (traceOf bbs side) (entriesOf bbs) shipped shippedSquares
 
 -- kings e1, e8 and the pawn e2: 3517/30 with White to move and 2857/30 with Black
-pawn-fitted : fitted pawn 0 ∷ fitted pawn 1 ∷ [] ≡ fin false 4124781221214071 (negsuc 44) ∷ fin false 6701450070519535 (negsuc 45) ∷ []
+pawn-fitted : fitted pawnUp 0 ∷ fitted pawnUp 1 ∷ [] ≡ fin false 4124781221214071 (negsuc 44) ∷ fin false 6701450070519535 (negsuc 45) ∷ []
 unfolding double traceOf entriesOf shipped shippedSquares add sub mul div ofInt ofBits
 pawn-fitted = refl
 
@@ -48,10 +50,13 @@ full-above : pos 7379106574508587 *ℤ pos 30 -ℤ pos 1610702 *ℤ pos (2 ^ 37)
 full-above = refl
 
 -- k7/6bp/8/8/8/2n1p1qb/7K/3q4 w: its exact sum is -102265 (claims/proofs/Reached), and the double lies 10/(30·2^41) farther from zero
-abbrev pub high : List ℕ
-high =
-    0x8000 ∷ 0x1c0000000d40008 ∷ 0 ∷ 0x80000000100000 ∷ 0 ∷ 0x40000 ∷ 0x8000 ∷ 0x100000000000000 ∷ 0 ∷ 0x40000000800000 ∷ 0 ∷ 0 ∷ 0 ∷ 0x400008 ∷ []
-
 pub high-fitted : fitted high 0 ≡ fin true 7496103774300843 (negsuc 40)
 unfolding double traceOf entriesOf shipped shippedSquares add sub mul div ofInt ofBits
 high-fitted = refl
+
+-- ---- the boards are those of the positions that they are called
+as-written : boardsOf "8/8/8/KN6/8/7b/8/2k5"
+    ∷ boardsOf "BQQQQQQQ/QQQQQQBQ/QQQRNkQQ/KQBBQQRR/RQQRNQQB/NQQBQQQQ/QQQQRQQQ/QBQQQQQQ" ∷ []
+    ≡ half ∷ full ∷ []
+unfolding boardsOf
+as-written = refl

@@ -6,6 +6,7 @@ use lib.IntN.{pos, negsuc}
 use Rattle.trace.specs.Trace.{traceOf, entryAt}
 use Rattle.trace_shipped.specs.Weights.{squareWeight}
 use Rattle.trace_exact.specs.Exact.{shippedWhole, exactBy}
+use Rattle.claims_examples.specs.Written.{boardsOf}
 
 -- r3k3/ppq5/2n2b2/4b3/8/2N1B3/PPP1B3/R3K2Q: 17 pieces
 abbrev crowd : List ℕ
@@ -34,14 +35,14 @@ unfolding exactBy traceOf entryAt squareWeight
 crowd-exact = refl
 
 -- kings e1, e8 and the pawn e2, White to move: entries of the pawn at 24, of the kings at 648 and 649
-abbrev pub pawn : List ℕ
-pawn = 0x1010 ∷ 0x1000000000000000 ∷ 0x1000 ∷ 0 ∷ 0 ∷ 0 ∷ 0x10 ∷ 0x1000000000000000 ∷ 0 ∷ 0 ∷ 0 ∷ 0 ∷ 0 ∷ 0 ∷ []
+abbrev pub pawnUp : List ℕ
+pawnUp = 0x1010 ∷ 0x1000000000000000 ∷ 0x1000 ∷ 0 ∷ 0 ∷ 0 ∷ 0x10 ∷ 0x1000000000000000 ∷ 0 ∷ 0 ∷ 0 ∷ 0 ∷ 0 ∷ 0 ∷ []
 
-pawn-entries : entryAt pawn 24 ∷ entryAt pawn 648 ∷ entryAt pawn 649 ∷ entryAt pawn 25 ∷ entryAt pawn 104 ∷ entryAt pawn 761 ∷ [] ≡ 1 ∷ 1 ∷ 1 ∷ 0 ∷ 0 ∷ 0 ∷ []
+pawn-entries : entryAt pawnUp 24 ∷ entryAt pawnUp 648 ∷ entryAt pawnUp 649 ∷ entryAt pawnUp 25 ∷ entryAt pawnUp 104 ∷ entryAt pawnUp 761 ∷ [] ≡ 1 ∷ 1 ∷ 1 ∷ 0 ∷ 0 ∷ 0 ∷ []
 unfolding entryAt
 pawn-entries = refl
 
-pawn-exact : exactBy shippedWhole (traceOf pawn 0) (λ i. pos (entryAt pawn i)) ≡ pos 3517
+pawn-exact : exactBy shippedWhole (traceOf pawnUp 0) (λ i. pos (entryAt pawnUp i)) ≡ pos 3517
 unfolding exactBy traceOf entryAt squareWeight
 pawn-exact = refl
 
@@ -52,3 +53,11 @@ kings = 0x80010 ∷ 0x1000000000000000 ∷ 0 ∷ 0 ∷ 0 ∷ 0 ∷ 0x80010 ∷ 0
 kings-exact : exactBy shippedWhole (traceOf kings 0) (λ i. pos (entryAt kings i)) ≡ pos 1030
 unfolding exactBy traceOf entryAt squareWeight
 kings-exact = refl
+
+-- ---- the boards are those of the positions that they are called
+as-written : boardsOf "r3k3/ppq5/2n2b2/4b3/8/2N1B3/PPP1B3/R3K2Q"
+    ∷ boardsOf "4k3/8/8/8/8/8/4P3/4K3"
+    ∷ boardsOf "4k3/8/8/8/8/3K4/8/4K3" ∷ []
+    ≡ crowd ∷ pawnUp ∷ kings ∷ []
+unfolding boardsOf
+as-written = refl

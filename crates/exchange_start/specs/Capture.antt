@@ -5,6 +5,7 @@ use Prim.Native.Nat.{ℕ}
 use lib.Dec.{leb}
 use lib.ListN.{getD}
 use Rattle.chess.specs.Codes.{kindOf}
+use Rattle.chess.specs.Named.{white, black, king}
 use Rattle.bits.specs.Bitboard.{has, howMany}
 use Rattle.position_boards.specs.Sound.{on}
 use Rattle.attack.specs.Attacks.{standing, occupied, other, attacks}
@@ -24,4 +25,4 @@ unfoldable pub uncrowded : List ℕ → Bool
 unfolding has howMany occupied
 uncrowded bbs =
     leb (howMany 64 (has (occupied bbs))) 32
-    && leb (howMany 64 (has (standing bbs 5 0))) 1 && leb (howMany 64 (has (standing bbs 5 1))) 1
+    && leb (howMany 64 (has (standing bbs king white))) 1 && leb (howMany 64 (has (standing bbs king black))) 1

@@ -8,6 +8,10 @@ use lib.ListN.{set}
 use Rattle.text_in.specs.Text.{cr}
 use Rattle.line_cut.specs.Lines.{lf}
 
+-- "line over 256 bytes": as many are kept
+abbrev pub longest : ℕ
+longest = 256
+
 -- an unfinished line
 pub record Open : Type 0 where
   -- the line buffer, whole
@@ -17,13 +21,13 @@ pub record Open : Type 0 where
   -- its last byte is a CR
   pub cr : Bool
 
--- ---- a byte of a line: the first 256 are kept
+-- ---- a byte of a line
 abbrev pub keptByte : List ℕ → ℕ → ℕ → List ℕ
-keptByte line held byte = cond (ltb held 256) (set line held byte) line
+keptByte line held byte = cond (ltb held longest) (set line held byte) line
 
--- 258 is the fewest that tell a line of 257 bytes, a CR among them, from a longer one
+-- two more are the fewest that tell a line of 257 bytes, a CR among them, from a longer one
 abbrev pub oneMore : ℕ → ℕ
-oneMore held = cond (ltb held 258) (held + 1) held
+oneMore held = cond (ltb held (longest + 2)) (held + 1) held
 
 abbrev pub pushed : Open → ℕ → Open
 pushed o byte = record { line = keptByte (o .line) (o .held) byte; held = oneMore (o .held); cr = eqb byte cr }

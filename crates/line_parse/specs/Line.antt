@@ -9,6 +9,7 @@ use Rattle.refusal.specs.Answer.{Answer, given, orRefuse}
 use Rattle.refusal.specs.declared.Refusal.the-variants as R
 use Rattle.position.specs.declared.State.{State}
 use Rattle.text_in.specs.Text.{text, space, semicolon, isText, isSpace, every, holds, before, after, without, trim, placeIn}
+use Rattle.line_cut.specs.Cut.{longest}
 use Rattle.line_ranks.specs.Ranks.{areEightRanks, boardOf}
 
 -- ---- the parts of a line
@@ -67,7 +68,7 @@ fieldsSay field result =
 -- LONG "line over 256 bytes", BYTE "a byte other than 32..126, tab and CR", FIELD "no `;`", then its fields: "First in order wins."
 unfoldable pub lineOf : List ℕ → Answer Line
 lineOf line =
-    orRefuse (leb (length line) 256) R.Long
+    orRefuse (leb (length line) longest) R.Long
     (orRefuse (every isText line) R.Byte
     (orRefuse (holds semicolon line) R.Field
     (fieldsSay (positionField line) (resultField line))))

@@ -6,6 +6,7 @@ ghost use Rattle.line_parse.specs.Promises.{Says, Parses, Turned};
 use chess::color::Color;
 use chess::piece::Piece;
 use chess::square::Square;
+use line_cut::LINE;
 use line_ranks::inner::place;
 use position::State;
 use refusal::Refusal;
@@ -97,14 +98,11 @@ fn read_fields(field: &[u8], result: &[u8]) -> Parsed
     }
 }
 
-// The longest line that is read.
-const LONGEST: usize = 256;
-
 // LONG, BYTE, FIELD, and then what the two fields call for.
 pub fn parse(line: &[u8]) -> Parsed
     ensures { λ r. ⌜ Parses (now (line .entry)) r ⌝ }
 {
-    if line.len() > LONGEST {
+    if line.len() > LINE {
         return refused(Refusal::Long);
     }
     if !is_text(line) {

@@ -8,10 +8,11 @@ use lib.Dec.{ltb→lt}
 use lib.IntN.{ℤ, pos, negsuc, negℤ, natAbs, _-ℤ_, +ℤ-idl}
 use mir.Syntax.{w16, w32, w64}
 use mir.Val.{SFits, Fits}
+use Rattle.chess.specs.Named.{turnedForBlack}
 use Rattle.laws.proofs.Words.{held, held-is, widens, fits-abs, fits-near}
 use Rattle.refusal.specs.Answer.{given, refusalOf}
 use Rattle.refusal.specs.declared.Refusal.the-variants as R
-use Rattle.score_errors.specs.Errors.{turnedOf, apartBy, scoredOf, apartOf}
+use Rattle.score_errors.specs.Errors.{apartBy, scoredOf, apartOf}
 use Rattle.score_errors.specs.declared.Totals.{Totals}
 
 -- ---- counted or MANY
@@ -39,7 +40,7 @@ pub near : (half expected : ℕ) → half < 256 → expected < 4294967296 → ap
 near half expected h k = omega arith
 
 -- ---- turned to White's side
-pub for-white : (side : ℕ) (z : ℤ) → SFits w16 z → side ≡ 0 → held w32 (held w16 z) ≡ turnedOf side z
+pub for-white : (side : ℕ) (z : ℤ) → SFits w16 z → side ≡ 0 → held w32 (held w16 z) ≡ turnedForBlack side z
 for-white side z f e =
     ap (held w32) (held-is f refl) ∙ held-is (widens {w = w16} w32 tt f) (simp (eq-eqb side 0 e))
 
@@ -57,5 +58,5 @@ minus-small z f = fits-abs {w = w32} {z = negℤ z} 32768 tt (rw (abs-neg z) (fi
 pub minus-fits : (z : ℤ) → SFits w16 z → SFits w32 (pos 0 -ℤ held w32 (held w16 z))
 minus-fits z f = rw (minus z f) (minus-small z f)
 
-pub for-black : (side : ℕ) (z : ℤ) → SFits w16 z → (side ≡ 0 → ⊥) → held w32 (pos 0 -ℤ held w32 (held w16 z)) ≡ turnedOf side z
+pub for-black : (side : ℕ) (z : ℤ) → SFits w16 z → (side ≡ 0 → ⊥) → held w32 (pos 0 -ℤ held w32 (held w16 z)) ≡ turnedForBlack side z
 for-black side z f n = ap (held w32) (minus z f) ∙ held-is (minus-small z f) (simp (ne-eqb side 0 n))

@@ -9,13 +9,14 @@ use native.Mathlib.Omega.{arith}
 use borrow.Author.Tests.{le-leb, lt-leb, ltb-true, ltb-false}
 use lib.Dec.{T, leb, ltb, ltb→lt}
 use lib.IntN.{ℤ}
+use Rattle.chess.specs.Named.{turnedForBlack}
 use Rattle.laws.proofs.Truth.{and-l, and-r, true-T, T-true}
 use Rattle.refusal.specs.Answer.{Answer, given, refused, orRefuse, refusalOf}
 use Rattle.refusal.specs.declared.Refusal.the-variants as R
 use Rattle.score.specs.Score.{Outcome, verdict, score}
 use Rattle.score_expected.specs.Expected.{table, scorePlace}
 use Rattle.score_expected.proofs.Entries.{table-most}
-use Rattle.score_errors.specs.Errors.{turnedOf, apartBy, squareWith, scoredOf, apartOf, totalsWith}
+use Rattle.score_errors.specs.Errors.{apartBy, squareWith, scoredOf, apartOf, totalsWith}
 use Rattle.score_errors.specs.Promises.{none}
 use Rattle.score_errors.specs.Collection.{LoadedLine, isScored, isApart, squared, scoredIn, apartIn, sumIn, goOn, addAll, wellLoaded, Fresh}
 use Rattle.score_errors.specs.declared.Totals.{Totals}
@@ -28,7 +29,7 @@ near half e h k = omega arith
 
 square-most : (side half : ℕ) (z : ℤ) → half < 3 → squareWith table side z half ≤ 1000000000000
 square-most side half z h =
-    let k = near half _ h (table-most (scorePlace (turnedOf side z))) in
+    let k = near half _ h (table-most (scorePlace (turnedForBlack side z))) in
     mul-le-mul k k
 
 squared-most : (side half : ℕ) (a : Answer Outcome) → half < 3 → squared side a half ≤ 1000000000000 * isScored a

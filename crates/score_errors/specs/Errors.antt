@@ -1,18 +1,15 @@
 -- The squared distances of a collection's results from what its scores let expect (document 02, W-210). Definitions only.
-use mathlib.Core.Bool.{cond, _&&_}
+use mathlib.Core.Bool.{_&&_}
 use mathlib.Core.List.{List}
 use Prim.Native.Nat.{ℕ, _+_, _-_, _*_, _^_}
-use lib.Dec.{eqb, ltb}
-use lib.IntN.{ℤ, negℤ}
+use lib.Dec.{ltb}
+use lib.IntN.{ℤ}
 use Rattle.refusal.specs.Answer.{Answer, given, refused, orRefuse}
 use Rattle.refusal.specs.declared.Refusal.the-variants as R
+use Rattle.chess.specs.Named.{turnedForBlack}
 use Rattle.score.specs.Score.{Outcome, verdict, score}
 use Rattle.score_expected.specs.Expected.{entryIn, table}
 use Rattle.score_errors.specs.declared.Totals.{Totals}
-
--- "scores are turned to White's side"
-abbrev pub turnedOf : ℕ → ℤ → ℤ
-turnedOf side z = cond (eqb side 0) z (negℤ z)
 
 -- "the squared distance from 0, 500,000 or 1,000,000", which are 0, 1 and 2 half points
 abbrev pub apartBy : ℕ → ℕ → ℕ
@@ -22,7 +19,7 @@ abbrev pub errorSquare : ℕ → ℕ → ℕ
 errorSquare half expected = apartBy (500000 * half) expected * apartBy (500000 * half) expected
 
 abbrev pub squareWith : List ℕ → ℕ → ℤ → ℕ → ℕ
-squareWith t side z half = errorSquare half (entryIn t (turnedOf side z))
+squareWith t side z half = errorSquare half (entryIn t (turnedForBlack side z))
 
 -- a line with a score is summed; "22 MANY at the 1,000,001st of either kind or past 64 bits"
 abbrev pub scoredOf : Totals → ℕ → Answer Totals

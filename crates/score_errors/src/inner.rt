@@ -1,6 +1,7 @@
 // The same with the table lent: total, and no door.
 ghost use mathlib.Core.Path.{_≡_};
-ghost use Rattle.score_errors.specs.Errors.{turnedOf, apartBy, errorSquare, scoredOf, apartOf};
+ghost use Rattle.chess.specs.Named.{turnedForBlack};
+ghost use Rattle.score_errors.specs.Errors.{apartBy, errorSquare, scoredOf, apartOf};
 ghost use Rattle.score_errors.specs.Answers.{addedPaper};
 ghost use Rattle.score_errors.specs.Promises.{AddsWith};
 use crate::Added;
@@ -26,7 +27,7 @@ const LARGEST: u64 = 0xffff_ffff_ffff_ffff;
 
 // The score for White, of one for the side to move.
 fn turned(side: u8, score: i16) -> i32
-    ensures { λ r. ⌜ r ≡ turnedOf side score ⌝ }
+    ensures { λ r. ⌜ r ≡ turnedForBlack side score ⌝ }
 {
     let z = score as i32;
     if side == WHITE {

@@ -9,6 +9,7 @@ use Rattle.laws.specs.Tables.{tabulate}
 use Rattle.refusal.specs.Answer.{Answer, given, orRefuse}
 use Rattle.chess.specs.Codes.{isPiece, kindOf}
 use Rattle.chess.specs.Values.{valueOf}
+use Rattle.chess.specs.Named.{bishop}
 use Rattle.refusal.specs.declared.Refusal.the-variants as R
 use Rattle.position.specs.Checked.{checked}
 use Rattle.position.specs.declared.State.{State}
@@ -28,7 +29,7 @@ worth bbs colour = sumN 6 (λ kind. count bbs kind colour * valueOf kind)
 -- "two or more bishops of a colour": 1, else 0
 unfoldable pub pair : List ℕ → ℕ → ℕ
 unfolding count
-pair bbs colour = cond (leb 2 (count bbs 2 colour)) 1 0
+pair bbs colour = cond (leb 2 (count bbs bishop colour)) 1 0
 
 -- "33 more for two or more bishops of a colour (not in `eval_material`)"
 abbrev pub pairValue : ℕ

@@ -8,6 +8,7 @@ use lib.IntN.{ℤ, pos}
 use lib.ListN.{getD}
 use Rattle.laws.specs.Tables.{tabulate}
 use Rattle.chess.specs.Codes.{isPiece, kindOf, colourOf}
+use Rattle.chess.specs.Named.{white}
 use Rattle.places.specs.Places.{entryPlace}
 use Rattle.score_pst.specs.Grids as G
 
@@ -20,7 +21,7 @@ grids =
 
 -- "A white piece on square s takes grid entry s xor 56, a black piece entry s"
 abbrev pub gridEntry : ℕ → ℕ → ℕ
-gridEntry colour s = cond (eqb colour 0) (bitXor s 56) s
+gridEntry colour s = cond (eqb colour white) (bitXor s 56) s
 
 -- "Codes 0 and 1 hold zeros"; nor does a number that is no code, square or phase weigh anything
 unfoldable pub pstOf : ℕ → ℕ → ℕ → ℤ

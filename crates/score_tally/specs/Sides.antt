@@ -2,6 +2,7 @@
 use mathlib.Core.List.{List}
 use Prim.Native.Nat.{ℕ}
 use lib.IntN.{ℤ}
+use Rattle.chess.specs.Named.{white, black}
 use Rattle.score_taper.specs.declared.Side.{Side}
 use Rattle.score_material.specs.Material.{material}
 use Rattle.score_tally.specs.Mobility.{mobilityBy}
@@ -18,4 +19,4 @@ sideBy attack weight bbs colour = record {
 }
 
 abbrev pub sidesBy : (ℕ → ℕ → ℕ → ℕ → ℕ) → (ℕ → ℕ → ℕ → ℤ) → List ℕ → Sides
-sidesBy attack weight bbs = record { white = sideBy attack weight bbs 0; black = sideBy attack weight bbs 1 }
+sidesBy attack weight bbs = record { white = sideBy attack weight bbs white; black = sideBy attack weight bbs black }

@@ -5,6 +5,7 @@ use Prim.Native.Nat.{ℕ, _+_}
 use lib.Dec.{eqb, ltb}
 use Rattle.refusal.specs.Answer.{Answer, given}
 use Rattle.chess.specs.Codes.{asColour}
+use Rattle.chess.specs.Named.{white, black, pawn, rook, queen, king}
 use Rattle.position.specs.Checked.{checked}
 use Rattle.position.specs.declared.State.{State}
 use Rattle.score_material.specs.Pieces.{count, pieces}
@@ -19,12 +20,15 @@ toMove = asColour
 -- "fewer than two kings in all"
 unfoldable pub fewKings : List ℕ → Bool
 unfolding count
-fewKings bbs = ltb (count bbs 5 0 + count bbs 5 1) 2
+fewKings bbs = ltb (count bbs king white + count bbs king black) 2
 
 -- "only kings, knights and bishops": no pawn, no rook, no queen
 unfoldable pub heavy : List ℕ → ℕ
 unfolding count
-heavy bbs = count bbs 0 0 + count bbs 0 1 + (count bbs 3 0 + count bbs 3 1) + (count bbs 4 0 + count bbs 4 1)
+heavy bbs =
+    count bbs pawn white + count bbs pawn black
+    + (count bbs rook white + count bbs rook black)
+    + (count bbs queen white + count bbs queen black)
 
 -- "fewer than four pieces and only kings, knights and bishops"
 unfoldable pub bare : List ℕ → Bool
@@ -35,8 +39,8 @@ bare bbs = ltb (pieces bbs) 4 && eqb (heavy bbs) 0
 unfoldable pub verdictOf : List ℕ → ℕ → Verdict
 unfolding fewKings bare count
 verdictOf bbs side =
-    let king : ℕ = count bbs 5 (toMove side) in
-    cond (fewKings bbs) (cond (eqb king 0) lost won) (cond (bare bbs) drawn none)
+    let own : ℕ = count bbs king (toMove side) in
+    cond (fewKings bbs) (cond (eqb own 0) lost won) (cond (bare bbs) drawn none)
 
 -- the door: "Verdict ..: 1, 2"
 unfoldable pub endingOf : List ℕ → List ℕ → State → Answer Verdict

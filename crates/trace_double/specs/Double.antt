@@ -8,6 +8,7 @@ use lib.IntN.{ℤ, pos}
 use lib.Signed.{ltZ}
 use lib.ListN.{getD}
 use lib.Ieee.{Float, nan}
+use Rattle.chess.specs.Named.{white}
 use Rattle.places.specs.Places.{weightPlace, kindAt, squareAt, colourAt}
 use Rattle.doubles.specs.Doubles.{_⊕_, _⊖_, _⊗_, _⊘_, dbl, d2, d32}
 use Rattle.trace_named.specs.Named.{named}
@@ -26,7 +27,7 @@ between opening ending x = (opening ⊗ (d2 ⊖ x) ⊕ ending ⊗ (x ⊖ d32)) �
 unfoldable pub entryAdded : List Float → Float → Float → ℕ → ℤ → Float
 entryAdded squares x score k entry =
     let v : Float = dbl entry ⊗ between (weightAt squares 0 k) (weightAt squares 1 k) x in
-    cond (ltZ (pos 0) entry) (cond (eqb (colourAt k) 0) (score ⊕ v) (score ⊖ v)) score
+    cond (ltZ (pos 0) entry) (cond (eqb (colourAt k) white) (score ⊕ v) (score ⊖ v)) score
 
 -- the first n entries, in the order of their places: by kind, by square, White before Black
 unfoldable pub folded : List Float → Float → List ℤ → Float → ℕ → Float

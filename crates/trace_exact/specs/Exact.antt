@@ -1,14 +1,13 @@
 -- The exact sum in thirtieths, White's side, as document 01 says it ("The trace"): of a trace, its entries and weights that are whole
 -- numbers. Definitions only.
-use mathlib.Core.Bool.{cond}
 use mathlib.Core.List.{List, [], _∷_}
 use Prim.Native.Nat.{ℕ}
-use lib.Dec.{eqb}
-use lib.IntN.{ℤ, pos, negℤ, _+ℤ_, _-ℤ_, _*ℤ_}
+use lib.IntN.{ℤ, pos, _+ℤ_, _-ℤ_, _*ℤ_}
 use lib.ListN.{getD}
 use Rattle.laws.specs.Sums.{sumZ}
 use Rattle.places.specs.Places.{entryPlace, weightPlace}
 use Rattle.chess.specs.Values.{valueOf}
+use Rattle.chess.specs.Named.{white, black}
 use Rattle.score_taper.specs.Parts.{tempoValue}
 use Rattle.score_material.specs.Material.{pairValue}
 use Rattle.score_tally.specs.Mobility.{factorOf}
@@ -36,7 +35,7 @@ shippedWhole = record {
 
 -- White's number less Black's
 abbrev pub difference : List ℤ → ℤ
-difference l = getD l 0 (pos 0) -ℤ getD l 1 (pos 0)
+difference l = getD l white (pos 0) -ℤ getD l black (pos 0)
 
 -- a trace's counts of pawn, knight, bishop, rook, queen
 abbrev pub kindCounts : Trace → ℕ → List ℤ
@@ -51,21 +50,17 @@ term w entries x kind square colour =
 -- "over all square entries, plus for White and minus for Black"
 unfoldable pub squareSum : WholeWeights → (ℕ → ℤ) → ℤ → ℤ
 unfolding sumZ
-squareSum w entries x = sumZ 6 (λ kind. sumZ 64 (λ square. term w entries x kind square 0 -ℤ term w entries x kind square 1))
+squareSum w entries x = sumZ 6 (λ kind. sumZ 64 (λ square. term w entries x kind square white -ℤ term w entries x kind square black))
 
 -- "30 times (weighted count differences + pair difference·33 + 11·side) + 3 times weighted mobility difference + over all square entries .."
 unfoldable pub exactBy : WholeWeights → Trace → (ℕ → ℤ) → ℤ
 unfolding sumZ squareSum
 exactBy w t entries =
     (sumZ 5 (λ kind. difference (kindCounts t kind) *ℤ w .value kind) +ℤ difference (t .«bishop_pair») *ℤ w .pair +ℤ t .side *ℤ w .tempo) *ℤ pos 30
-    +ℤ sumZ 6 (λ kind. (attackedIn t kind 0 -ℤ attackedIn t kind 1) *ℤ w .mobility kind) *ℤ pos 3
+    +ℤ sumZ 6 (λ kind. (attackedIn t kind white -ℤ attackedIn t kind black) *ℤ w .mobility kind) *ℤ pos 3
     +ℤ squareSum w entries (t .«piece_count»)
 
 -- the entries as they are lent
 unfoldable pub exactSum : WholeWeights → Trace → List ℤ → ℤ
 unfolding exactBy
 exactSum w t entries = exactBy w t (λ i. getD entries i (pos 0))
-
--- demand 3: its sign turned if Black is to move
-abbrev pub turnedForBlack : ℕ → ℤ → ℤ
-turnedForBlack side z = cond (eqb side 0) z (negℤ z)

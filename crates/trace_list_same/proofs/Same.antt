@@ -11,6 +11,7 @@ use borrow.Author.Tests.{eq-eqb, le-leb, eqb-true}
 use lib.Dec.{T, eqb, leb, leb→le}
 use lib.IntN.{ℤ, pos, natAbs, _-ℤ_, _*ℤ_}
 use lib.ListN.{length}
+use Rattle.chess.specs.Named.{turnedForBlack}
 use Rattle.refusal.specs.Answer.{Answer, given, orRefuse}
 use Rattle.refusal.specs.declared.Refusal.the-variants as R
 use Rattle.refusal.proofs.Answers.{passed}
@@ -27,7 +28,7 @@ use Rattle.trace_counts.specs.declared.Trace.{Trace}
 use Rattle.trace_double.specs.Double.{double}
 use Rattle.trace.specs.Trace.{traceOf, entriesOf}
 use Rattle.trace.proofs.Planes.{entries-length}
-use Rattle.trace_exact.specs.Exact.{shippedWhole, exactSum, turnedForBlack}
+use Rattle.trace_exact.specs.Exact.{shippedWhole, exactSum}
 use Rattle.trace_exact.proofs.Ranges.{in-ranges, are-entries, pieces-few}
 use Rattle.claims.proofs.Agreed.{agreement}
 use Rattle.fit_gradient.specs.Gradient.{lineAdded}

@@ -7,6 +7,7 @@ use lib.Ieee.{Float}
 use lib.IntN.{ℤ, pos, natAbs, _-ℤ_, _*ℤ_}
 use lib.ListN.{length}
 use Rattle.refusal.specs.Answer.{given}
+use Rattle.chess.specs.Named.{white, black, king, turnedForBlack}
 use Rattle.places.specs.Places.{entryPlace}
 use Rattle.position.specs.declared.State.{State}
 use Rattle.score_material.specs.Pieces.{count, pieces}
@@ -15,7 +16,7 @@ use Rattle.trace_counts.specs.declared.Weights.{Weights}
 use Rattle.trace_counts.specs.declared.Trace.{Trace}
 use Rattle.trace_double.specs.Promises.{doubleOf}
 use Rattle.trace.specs.Trace.{traceOf, entriesOf}
-use Rattle.trace_exact.specs.Exact.{shippedWhole, exactSum, turnedForBlack}
+use Rattle.trace_exact.specs.Exact.{shippedWhole, exactSum}
 use Rattle.fit_gradient.specs.Promises.{addedOf}
 use Rattle.fit_gradient.specs.Lists.{listAddedOf}
 use Rattle.trace_list.specs.Form.{listPlaces, flatOf, onesIn, listBytes}
@@ -72,5 +73,5 @@ listExactSum t used list = exactSum shippedWhole t (flatOf (listPlaces list used
 -- "Demand 3 carries over": claims' Agreement, with the exact sum of the position's list
 abbrev pub Carried : Type 0
 Carried =
-    (bbs board : List ℕ) (state : State) (s : ℤ) → count bbs 5 0 ≡ count bbs 5 1 → evalOf bbs board state ≡ given (score s)
+    (bbs board : List ℕ) (state : State) (s : ℤ) → count bbs king white ≡ count bbs king black → evalOf bbs board state ≡ given (score s)
     → natAbs (s *ℤ pos 30 -ℤ turnedForBlack (state .side) (listExactSum (traceOf bbs (state .side)) (pieces bbs) (listBytes (onesIn (entriesOf bbs))))) ≤ 85

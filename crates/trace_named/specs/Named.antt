@@ -6,6 +6,7 @@ use Prim.Native.Nat.{ℕ, _+_, _*_}
 use lib.IntN.{ℤ, pos, _-ℤ_}
 use lib.ListN.{getD}
 use lib.Ieee.{Float}
+use Rattle.chess.specs.Named.{white, black, knight, bishop, rook, queen}
 use Rattle.doubles.specs.Doubles.{_⊕_, _⊖_, _⊗_, _⊘_, dbl, d0, d10}
 use Rattle.trace_counts.specs.declared.Weights.{Weights}
 use Rattle.trace_counts.specs.declared.Trace.{Trace}
@@ -16,7 +17,7 @@ countAdded score counts weight = score ⊕ dbl (getD counts 0 (pos 0) -ℤ getD 
 
 -- score += white * weight / 10, then score -= black * weight / 10
 abbrev pub moved : Float → ℤ → ℤ → Float → Float
-moved score white black weight = score ⊕ dbl white ⊗ weight ⊘ d10 ⊖ dbl black ⊗ weight ⊘ d10
+moved score own other weight = score ⊕ dbl own ⊗ weight ⊘ d10 ⊖ dbl other ⊗ weight ⊘ d10
 
 abbrev pub materialDouble : Trace → Weights → Float
 materialDouble t w =
@@ -34,10 +35,10 @@ attackedIn t kind colour = getD (t .mobility) (2 * kind + colour) (pos 0)
 -- knight, bishop, rook, queen
 abbrev pub mobility : Trace → Weights → Float → Float
 mobility t w score =
-    let n : Float = moved score (attackedIn t 1 0) (attackedIn t 1 1) (w .«knight_mobility») in
-    let b : Float = moved n (attackedIn t 2 0) (attackedIn t 2 1) (w .«bishop_mobility») in
-    let r : Float = moved b (attackedIn t 3 0) (attackedIn t 3 1) (w .«rook_mobility») in
-    moved r (attackedIn t 4 0) (attackedIn t 4 1) (w .«queen_mobility»)
+    let n : Float = moved score (attackedIn t knight white) (attackedIn t knight black) (w .«knight_mobility») in
+    let b : Float = moved n (attackedIn t bishop white) (attackedIn t bishop black) (w .«bishop_mobility») in
+    let r : Float = moved b (attackedIn t rook white) (attackedIn t rook black) (w .«rook_mobility») in
+    moved r (attackedIn t queen white) (attackedIn t queen black) (w .«queen_mobility»)
 
 -- score += tempo * side
 abbrev pub named : Trace → Weights → Float

@@ -7,8 +7,9 @@ use lib.IntN.{pos, negsuc, negℤ, _*ℤ_}
 use lib.Ieee.{Float, fin}
 use Rattle.position.specs.Checked.{ofSide}
 use Rattle.score_material.specs.Pieces.{count}
-use Rattle.claims_examples.proofs.Fitted.{high, high-fitted}
-use Rattle.claims.proofs.Reached.{highBytes, highest}
+use Rattle.claims_examples.proofs.Bounds.{high, highBytes}
+use Rattle.claims_examples.proofs.Fitted.{high-fitted}
+use Rattle.claims.proofs.Reached.{highest}
 use Rattle.trace_stray.specs.Stray.{million, CloserThan, Needed}
 
 -- its score is -3406

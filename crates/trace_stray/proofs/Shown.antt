@@ -6,8 +6,8 @@ use native.Mathlib.Omega.{arith}
 use lib.Dec.{eqb}
 use lib.IntN.{ℤ, pos, negsuc, negℤ, natAbs, _-ℤ_, _*ℤ_}
 use lib.Ieee.{Float, nan, inf, fin}
+use Rattle.chess.specs.Named.{turnedForBlack}
 use Rattle.laws.proofs.Diff.{aboveZero, belowZero, diff-of, diff-neg, diff-minus, diff-scale, diff-abs, abs-diff}
-use Rattle.trace_exact.specs.Exact.{turnedForBlack}
 use Rattle.claims.proofs.Agreed.{agreement}
 use Rattle.trace_stray.specs.Stray.{signed, million, CloserThan, millionth, agreed, shippedDouble, exact, Shown}
 use Rattle.trace_stray.proofs.Strayed.{is-near}

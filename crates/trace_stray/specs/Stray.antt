@@ -7,6 +7,7 @@ use Prim.Native.Nat.{ℕ, suc, _+_, _*_, _^_, _<_}
 use lib.IntN.{ℤ, pos, negsuc, negℤ, natAbs, _-ℤ_, _*ℤ_}
 use lib.Ieee.{Float, nan, inf, fin}
 use Rattle.refusal.specs.Answer.{given}
+use Rattle.chess.specs.Named.{white, black, king, turnedForBlack}
 use Rattle.position.specs.declared.State.{State}
 use Rattle.position_consistent.specs.Consistent.{consistent}
 use Rattle.score_material.specs.Pieces.{count}
@@ -16,7 +17,7 @@ use Rattle.trace.specs.Trace.{traceOf, entriesOf}
 use Rattle.trace_shipped.specs.Weights.{shipped, shippedSquares}
 use Rattle.trace_double.specs.Double.{double}
 use Rattle.trace_double.specs.Promises.{doubleOf}
-use Rattle.trace_exact.specs.Exact.{shippedWhole, exactSum, turnedForBlack}
+use Rattle.trace_exact.specs.Exact.{shippedWhole, exactSum}
 
 -- "taking the double as a whole number times a power of two": `fin negative m e` is m·2^e or −m·2^e
 abbrev pub signed : Bool → ℕ → ℤ
@@ -63,7 +64,7 @@ EveryTrace =
 -- wherever demand 3 speaks, the score, its sign turned if Black is to move, lies less than `most` thirty-millionths of a point from the double
 abbrev pub ShownCloserThan : ℕ → Type 0
 ShownCloserThan most =
-    (bbs bytes : List ℕ) (state : State) (s : ℤ) → count bbs 5 0 ≡ count bbs 5 1 → evalOf bbs bytes state ≡ given (score s)
+    (bbs bytes : List ℕ) (state : State) (s : ℤ) → count bbs king white ≡ count bbs king black → evalOf bbs bytes state ≡ given (score s)
     → CloserThan most (shippedDouble bbs (state .side)) (turnedForBlack (state .side) s *ℤ pos 30)
 
 -- "the bound that this and demand 3 give on the shown score": less than 85/30 and a millionth

@@ -5,10 +5,11 @@ use lib.IntN.{ℤ}
 use borrow.Author.Needs.{needs, sfits-of}
 use mir.Syntax.{w16}
 use mir.Val.{SFits}
+use Rattle.chess.specs.Named.{turnedForBlack}
 use Rattle.laws.proofs.Words.{held-is}
 use Rattle.score.specs.Answers.{scored}
 use Rattle.score_expected.specs.Expected.{entryIn}
-use Rattle.score_errors.specs.Errors.{turnedOf, errorSquare, squareWith}
+use Rattle.score_errors.specs.Errors.{errorSquare, squareWith}
 use Rattle.score_errors.proofs.Doors.{no-side, no-result, both, not-scored, with-score}
 use Rattle.score_errors.proofs.inner.add.Statement.{statement}
 use Rattle.score_errors.proofs.inner.add.Tie as tie
@@ -60,7 +61,7 @@ summed c =
     let f : SFits w16 z = record { sfits = k .known-told .given .0 .1 } in
     c .square .ensures
     ∙ ap (errorSquare (a .half))
-    (c .before .entry .ensures ∙ ap (entryIn (a .table .now)) (held-is (sfits-of (c .before .before .turned .ok)) (c .before .before .turned .ensures ∙ ap (turnedOf (a .side)) (held-is f refl))))
+    (c .before .entry .ensures ∙ ap (entryIn (a .table .now)) (held-is (sfits-of (c .before .before .turned .ok)) (c .before .before .turned .ensures ∙ ap (turnedForBlack (a .side)) (held-is f refl))))
 
 returns-4 : tie.Need-returns-4
 returns-4 c =

@@ -34,7 +34,7 @@ typedef struct {
 enum { CHESS_NO_SQUARE = 255 };
 
 /* Refusals. 2 was CHESS_BOARD: 14 to 16 come where it came, with a square, and nothing has its number again.
- * Of those from 17 on ORDER, ENTRY, MANY and ITERATION alone are given yet. */
+ * Of those from 17 on ORDER, ENTRY, MANY, ITERATION, KINGS, PAWNS, PIECES, RANK and CHECK alone are given yet. */
 enum {
     CHESS_SHAPE = 1,      /* a length, a side, a colour or a piece code that none has */
     CHESS_SCORE = 3,      /* a number leaves 16 bits on the way to the score */
@@ -85,8 +85,17 @@ typedef struct {
 chess_code chess_read_line(const uint8_t *line, size_t line_length, uint64_t *bitboards, size_t bitboards_length, uint8_t *board,
                            size_t board_length, uint8_t *side, uint8_t *half_points);
 
+/* The same of a line whose position may come from real play: one king a colour, at most eight pawns and sixteen pieces a colour, king and
+ * pawns counted, no pawn on the first or last rank, and the side that just moved not in check. SHAPE, LONG, BYTE, FIELD, PLACE, SIDE, RESULT, KINGS, PAWNS,
+ * PIECES, RANK, CHECK. */
+chess_code chess_read_profile(const uint8_t *line, size_t line_length, uint64_t *bitboards, size_t bitboards_length, uint8_t *board,
+                              size_t board_length, uint8_t *side, uint8_t *half_points);
+
 /* Where the trimmed position field stands in the line; of length 0, and at 0, exactly if the line is refused. */
 chess_part chess_position_field(const uint8_t *line, size_t line_length);
+
+/* Whether a position may come from real play, by the same rules: 0 if it may. SHAPE, OVERLAP, UNION, BYTEBOARD, KINGS, PAWNS, PIECES, RANK, CHECK. */
+chess_code chess_profile(const uint64_t *bitboards, size_t bitboards_length, const uint8_t *board, size_t board_length, uint8_t side);
 
 /* ---- scores: of a position for the side to move */
 

@@ -21,6 +21,8 @@ pub(crate) mod doors {
 
     extern "C" {
         pub fn chess_read_line(line: *const u8, n: usize, bitboards: *mut u64, b: usize, board: *mut u8, s: usize, side: *mut u8, half_points: *mut u8) -> Code;
+        pub fn chess_read_profile(line: *const u8, n: usize, bitboards: *mut u64, b: usize, board: *mut u8, s: usize, side: *mut u8, half_points: *mut u8) -> Code;
+        pub fn chess_profile(bitboards: *const u64, b: usize, board: *const u8, s: usize, side: u8) -> Code;
         pub fn chess_position_field(line: *const u8, n: usize) -> Part;
         pub fn chess_eval_ending(bitboards: *const u64, b: usize, board: *const u8, s: usize, side: u8, verdict: *mut u8) -> Code;
         pub fn chess_eval_material(bitboards: *const u64, b: usize, board: *const u8, s: usize, side: u8, color: u8, material: *mut i16) -> Code;
@@ -68,7 +70,8 @@ pub const QUEEN: u8 = 12;
 pub const ORDER: [u8; 6] = [0, 1, 2, 3, 4, 5];
 
 /// Why a call is refused: the table of documents 01 and 02, with the square that some name. 2 was BOARD: 14 to 16 come where it came, and
-/// nothing has its number again. Of those from `Room` on `Order`, `Entry`, `Many` and `Iteration` alone are given by a call yet.
+/// nothing has its number again. Of those from `Room` on `Order`, `Entry`, `Many`, `Iteration`, `Kings`, `Pawns`,
+/// `Pieces`, `Rank` and `Check` alone are given by a call yet.
 #[derive(Clone, Copy, Debug, PartialEq, Eq)]
 pub enum Refusal {
     /// A length, a side, a colour or a piece code that none has.
@@ -286,6 +289,25 @@ pub fn read_line(line: &[u8]) -> Result<(Position, u8), Refusal> {
     given(code, (read, half))
 }
 
+/// Reads one line whose position may come from real play: one king a colour, at most eight pawns and sixteen pieces a colour, king and pawns
+/// counted, no pawn on the first or last rank, and the side that just moved not in check.
+/// LONG, BYTE, FIELD, PLACE, SIDE, RESULT, KINGS, PAWNS, PIECES, RANK, CHECK.
+///
+/// ```
+/// # use chess_scores::{read_real_play, Refusal};
+/// assert!(read_real_play(b"4k3/8/8/8/8/8/4R3/4K3 b;0-1").is_ok());
+/// assert_eq!(read_real_play(b"4k3/8/8/8/8/8/4R3/4K3 w;0-1").err(), Some(Refusal::Check(60)));
+/// ```
+pub fn read_real_play(line: &[u8]) -> Result<(Position, u8), Refusal> {
+    let mut read = Position { bitboards: [0; 14], board: [0; 64], side: 0 };
+    let mut half = 0;
+    // SAFETY: the pointers are those of slices and locals, with their lengths, and none overlap.
+    let code = unsafe {
+        doors::chess_read_profile(line.as_ptr(), line.len(), read.bitboards.as_mut_ptr(), 14, read.board.as_mut_ptr(), 64, &mut read.side, &mut half)
+    };
+    given(code, (read, half))
+}
+
 /// The trimmed position field, as that part of the line; empty exactly if the line is refused.
 ///
 /// ```
@@ -358,6 +380,12 @@ impl Position {
         let mut attacked = false;
         let code = unsafe { doors::chess_is_attacked(self.bitboards.as_ptr(), 14, self.board.as_ptr(), 64, self.side, square, color, &mut attacked) };
         given(code, attacked)
+    }
+
+    /// Refused where the position can't come from real play. SHAPE, OVERLAP, UNION, BYTEBOARD, KINGS, PAWNS, PIECES, RANK, CHECK.
+    pub fn real_play(&self) -> Result<(), Refusal> {
+        let code = unsafe { doors::chess_profile(self.bitboards.as_ptr(), 14, self.board.as_ptr(), 64, self.side) };
+        given(code, ())
     }
 
     /// Whether the colour's king is attacked, the lowest if it has several; true if it has none. SHAPE, OVERLAP, UNION, BYTEBOARD.

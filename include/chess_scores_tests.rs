@@ -112,6 +112,35 @@ fn lines() {
 }
 
 #[test]
+fn lines_from_real_play() {
+    for (line, refusal) in [
+        ("8/8/8/8/8/8/4P3/4K3 w;1-0", Refusal::Kings),
+        ("4k3/pppppppp/8/4p3/8/8/8/4K3 w;1-0", Refusal::Pawns),
+        ("rnbqkbnr/pppppppp/8/8/4N3/8/PPPPPPPP/RNBQKBNR w;1-0", Refusal::Pieces),
+        ("rnbqkbnr/pppppppp/8/4p3/4N3/8/PPPPPPPP/RNBQKBNR w;1-0", Refusal::Pawns),
+        ("4k2P/8/8/8/8/8/8/p3K3 w;1-0", Refusal::Rank(0)),
+        ("p3k2P/8/8/8/8/8/8/4K3 w;1-0", Refusal::Rank(56)),
+        ("4k3/8/8/8/8/8/4R3/4K3 w;1-0", Refusal::Check(60)),
+        ("4k3/4r3/8/8/8/8/8/4K3 b;1-0", Refusal::Check(4)),
+        ("8/8/8/8/8/8/4P3/4K3 w;1", Refusal::Result),
+    ] {
+        assert_eq!(read_real_play(line.as_bytes()).err(), Some(refusal), "{line}");
+        if refusal != Refusal::Result {
+            assert_eq!(read_line(line.as_bytes()).expect("a good line").0.real_play().err(), Some(refusal), "{line}");
+        }
+    }
+    for line in ["rnbqkbnr/pppppppp/8/8/8/8/PPPPPPPP/RNBQKBNR w;1-0", "4k3/8/8/8/8/8/4R3/4K3 b;0-1"] {
+        let (position, half_points) = read_real_play(line.as_bytes()).expect(line);
+        let (plain, same) = read_line(line.as_bytes()).expect(line);
+        assert_eq!((position.bitboards, position.board, position.side, half_points), (plain.bitboards, plain.board, plain.side, same));
+        assert_eq!(position.real_play(), Ok(()));
+    }
+    let mut bent = position("4k3/8/8/8/8/8/4R3/4K3 b");
+    bent.board[0] = 2;
+    assert_eq!(bent.real_play().err(), Some(Refusal::Byteboard(0)));
+}
+
+#[test]
 fn ledger_however_it_is_cut() {
     let input = b"4k3/8/8/8/8/8/4P3/4K3 w - - 0 1;1-0\r\n\n8/8/8/8/8/8/8/8 w;1/2-1/2\n4k3/8/8/8/8/8/4P3/4K3 b;1/2";
     let ledger = |size: usize| {

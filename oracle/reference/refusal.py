@@ -7,6 +7,7 @@ ORDER = 20
 ENTRY = 21
 MANY = 22
 ITERATION = 23
+KINGS, PAWNS, PIECES, RANK, CHECK = range(24, 29)
 
 
 class Refused(Exception):

@@ -9,7 +9,7 @@ use Rattle.line_parse.specs.Promises as S
 use Rattle.line.specs.Promises as L
 use Rattle.abi_codes.specs.Codes.{answerNumber, lentAfter}
 use Rattle.abi_codes.proofs.Passed.{met}
-use Rattle.abi.specs.Promises.{ReadsLine}
+use Rattle.abi.specs.Promises.{ReadsSaid}
 use Rattle.line_parse.specs.declared.Read.{Read}
 use Rattle.abi_codes.specs.declared.Code.{Code}
 
@@ -26,12 +26,11 @@ half-after : (old : ℕ) (a : Answer Line) → lentAfter (λ (p : State × ℕ).
 half-after old (given l) = refl
 half-after old (refused n v) = refl
 
-pub line-read : {line bitboards board : List ℕ} {side half : ℕ} {r x : Read} {bitboards′ board′ : List ℕ} {n : Code} {side′ half′ : ℕ}
-    → L.ReadsLine line bitboards board r bitboards′ board′ → r ≡ x → n ≡ answerNumber (S.paper x)
+pub line-read : {a : Answer Line} {bitboards board : List ℕ} {side half : ℕ} {r x : Read} {bitboards′ board′ : List ℕ} {n : Code} {side′ half′ : ℕ}
+    → L.Reads a bitboards board r bitboards′ board′ → r ≡ x → n ≡ answerNumber (S.paper x)
     → side′ ≡ lentAfter (λ (p : State × ℕ). p .0 .side) side (S.paper x) → half′ ≡ lentAfter (λ (p : State × ℕ). p .1) half (S.paper x)
-    → ReadsLine line bitboards board side half n bitboards′ board′ side′ half′
-line-read {line = line} {bitboards = bitboards} {board = board} {side = side} {half = half} p m h g k =
-    let a : Answer Line = L.readOf line bitboards board in
+    → ReadsSaid a bitboards board side half n bitboards′ board′ side′ half′
+line-read {a = a} {side = side} {half = half} p m h g k =
     let e = met S.paper (p .answer) m in
     record {
       code = h ∙ ap answerNumber e ∙ value-code a;

@@ -6,6 +6,7 @@ use Prim.Native.Nat.{ℕ}
 use lib.IntN.{ℤ}
 use lib.ListN.{length}
 use Rattle.position.specs.Checked.{ofSide}
+use Rattle.refusal.specs.Answer.{Answer}
 use Rattle.attack.specs.Answers.{pieceAttacksOf}
 use Rattle.attack_to.specs.Answers.{attacksToOf, isAttackedOf, isCheckOf}
 use Rattle.exchange_least.specs.Answers.{lvpOf}
@@ -57,12 +58,16 @@ abbrev pub See : List ℕ → List ℕ → List ℕ → ℕ → ℕ → ℕ → 
 See kinds bitboards board side from to worth r worth′ = Door (seeOf kinds bitboards board (ofSide side) from to) asItIs worth r worth′
 
 -- ---- lines
-pub record ReadsLine (line bitboards board : List ℕ) (side half : ℕ) (r : Code) (bitboards′ board′ : List ℕ) (side′ half′ : ℕ) : Type 0 where
-  pub code : r ≡ answerNumber (readOf line bitboards board)
-  pub boards : bitboards′ ≡ bitboardsAfter (readOf line bitboards board) bitboards
-  pub bytes : board′ ≡ boardAfter (readOf line bitboards board) board
-  pub lent : side′ ≡ lentAfter (λ (l : Line). l .state .side) side (readOf line bitboards board)
-  pub lent2 : half′ ≡ lentAfter (λ (l : Line). l .half) half (readOf line bitboards board)
+-- whatever the line is said to be
+pub record ReadsSaid (a : Answer Line) (bitboards board : List ℕ) (side half : ℕ) (r : Code) (bitboards′ board′ : List ℕ) (side′ half′ : ℕ) : Type 0 where
+  pub code : r ≡ answerNumber a
+  pub boards : bitboards′ ≡ bitboardsAfter a bitboards
+  pub bytes : board′ ≡ boardAfter a board
+  pub lent : side′ ≡ lentAfter (λ (l : Line). l .state .side) side a
+  pub lent2 : half′ ≡ lentAfter (λ (l : Line). l .half) half a
+
+abbrev pub ReadsLine : List ℕ → List ℕ → List ℕ → ℕ → ℕ → Code → List ℕ → List ℕ → ℕ → ℕ → Type 0
+ReadsLine line bitboards board side half r bitboards′ board′ side′ half′ = ReadsSaid (readOf line bitboards board) bitboards board side half r bitboards′ board′ side′ half′
 
 pub record GivesPart (line : List ℕ) (r : Part) : Type 0 where
   pub start : r .start ≡ startOf line

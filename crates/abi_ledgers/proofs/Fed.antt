@@ -4,6 +4,7 @@ use mathlib.Core.List.{List}
 use Prim.Native.Nat.{ℕ}
 use lib.ListN.{length}
 use Rattle.ledger_feed.specs.Machine.{Machine}
+use Rattle.line_profile.specs.declared.Profile.the-variants as P
 use Rattle.ledger_feed.specs.Promises as Rows
 use Rattle.ledger_feed.specs.Promises.{Came, turned, many, full, came, Feeds, fed, feedOf}
 use Rattle.ledger_feed.specs.declared.SoFar.{SoFar}
@@ -35,12 +36,12 @@ wrote-after old many = refl
 wrote-after old full = refl
 
 pub fed-through : (state line chunk out : List ℕ) (wrote : ℕ) {s : SoFar} {r x : Fed} {n : Code} {state′ line′ out′ : List ℕ} {wrote′ : ℕ}
-    → s ≡ stateFrom state → Feeds s line chunk out r line′ out′ → r ≡ x → n ≡ cameNumber (fed x)
+    → s ≡ stateFrom state → Feeds P.Any s line chunk out r line′ out′ → r ≡ x → n ≡ cameNumber (fed x)
     → state′ ≡ lentAfterCame (λ (p : SoFar × ℕ). stateNumbers (p .0)) state (fed x) → wrote′ ≡ lentAfterCame (λ (p : SoFar × ℕ). p .1) wrote (fed x)
     → FeedsLedger state line chunk out wrote n state′ line′ out′ wrote′
 fed-through state line chunk out wrote {r = r} {line′ = line′} {out′ = out′} q f m h g k =
-    let a : Came Machine = feedOf (stateFrom state) line chunk out in
-    let p : Feeds (stateFrom state) line chunk out r line′ out′ = subst (λ (t : SoFar). Feeds t line chunk out r line′ out′) q f in
+    let a : Came Machine = feedOf P.Any (stateFrom state) line chunk out in
+    let p : Feeds P.Any (stateFrom state) line chunk out r line′ out′ = subst (λ (t : SoFar). Feeds P.Any t line chunk out r line′ out′) q f in
     let e = sym (ap fed m) ∙ p .answer in
     record {
       code = h ∙ ap cameNumber e ∙ value-code a;
@@ -64,11 +65,11 @@ length-after old many = refl
 length-after old full = refl
 
 pub finished-through : (state line out : List ℕ) (wrote : ℕ) {s : SoFar} {r x : Finished} {n : Code} {out′ : List ℕ} {wrote′ : ℕ}
-    → s ≡ stateFrom state → Finishes s line out r out′ → r ≡ x → n ≡ cameNumber (finishPaper x) → wrote′ ≡ lentAfterCame (λ (n : ℕ). n) wrote (finishPaper x)
+    → s ≡ stateFrom state → Finishes P.Any s line out r out′ → r ≡ x → n ≡ cameNumber (finishPaper x) → wrote′ ≡ lentAfterCame (λ (n : ℕ). n) wrote (finishPaper x)
     → FinishesLedger state line out wrote n out′ wrote′
 finished-through state line out wrote {r = r} {out′ = out′} q f m h k =
-    let a : Came (List ℕ) = finishOf (stateFrom state) line out in
-    let p : Finishes (stateFrom state) line out r out′ = subst (λ (t : SoFar). Finishes t line out r out′) q f in
+    let a : Came (List ℕ) = finishOf P.Any (stateFrom state) line out in
+    let p : Finishes P.Any (stateFrom state) line out r out′ = subst (λ (t : SoFar). Finishes P.Any t line out r out′) q f in
     let e = sym (ap finishPaper m) ∙ p .answer in
     record {
       code = h ∙ ap cameNumber e ∙ length-code a;

@@ -5,6 +5,7 @@ use Prim.Native.Nat.{ℕ}
 use lib.ListN.{length}
 use Rattle.abi_codes.specs.declared.Code.{Code}
 use Rattle.text_out.specs.Text.{writtenOf as bufferOf}
+use Rattle.line_profile.specs.declared.Profile.the-variants as P
 use Rattle.ledger_feed.specs.Machine.{Machine}
 use Rattle.ledger_feed.specs.Promises as Rows
 use Rattle.ledger_feed.specs.Promises.{feedOf, lineAfter, textAfter}
@@ -12,15 +13,15 @@ use Rattle.ledger_finish.specs.Promises.{finishOf, lastText}
 use Rattle.abi_ledgers.specs.Ledger as Ledger
 use Rattle.abi_ledgers.specs.Ledger.{stateFrom, stateNumbers}
 
--- ---- the ledger
+-- ---- the ledger of every position that a line can say
 pub record FeedsLedger (state line chunk out : List ℕ) (wrote : ℕ) (r : Code) (state′ line′ out′ : List ℕ) (wrote′ : ℕ) : Type 0 where
-  pub code : r ≡ Ledger.cameNumber (feedOf (stateFrom state) line chunk out)
-  pub lent : state′ ≡ Ledger.lentAfterCame (λ (m : Machine). stateNumbers (Rows.stateOf m)) state (feedOf (stateFrom state) line chunk out)
-  pub kept : line′ ≡ lineAfter (feedOf (stateFrom state) line chunk out) line
-  pub rows : out′ ≡ bufferOf out 0 (textAfter (feedOf (stateFrom state) line chunk out))
-  pub lent2 : wrote′ ≡ Ledger.lentAfterCame (λ (m : Machine). length (m .text)) wrote (feedOf (stateFrom state) line chunk out)
+  pub code : r ≡ Ledger.cameNumber (feedOf P.Any (stateFrom state) line chunk out)
+  pub lent : state′ ≡ Ledger.lentAfterCame (λ (m : Machine). stateNumbers (Rows.stateOf m)) state (feedOf P.Any (stateFrom state) line chunk out)
+  pub kept : line′ ≡ lineAfter (feedOf P.Any (stateFrom state) line chunk out) line
+  pub rows : out′ ≡ bufferOf out 0 (textAfter (feedOf P.Any (stateFrom state) line chunk out))
+  pub lent2 : wrote′ ≡ Ledger.lentAfterCame (λ (m : Machine). length (m .text)) wrote (feedOf P.Any (stateFrom state) line chunk out)
 
 pub record FinishesLedger (state line out : List ℕ) (wrote : ℕ) (r : Code) (out′ : List ℕ) (wrote′ : ℕ) : Type 0 where
-  pub code : r ≡ Ledger.cameNumber (finishOf (stateFrom state) line out)
-  pub rows : out′ ≡ bufferOf out 0 (lastText (finishOf (stateFrom state) line out))
-  pub lent : wrote′ ≡ Ledger.lentAfterCame length wrote (finishOf (stateFrom state) line out)
+  pub code : r ≡ Ledger.cameNumber (finishOf P.Any (stateFrom state) line out)
+  pub rows : out′ ≡ bufferOf out 0 (lastText (finishOf P.Any (stateFrom state) line out))
+  pub lent : wrote′ ≡ Ledger.lentAfterCame length wrote (finishOf P.Any (stateFrom state) line out)

@@ -10,6 +10,7 @@ use abi_codes::refused;
 use ledger_feed::Fed;
 use ledger_feed::SoFar;
 use ledger_finish::Finished;
+use line_profile::Profile;
 
 // Bytes held of the line that has not ended, whether the last was a CR, loaded rows, refused rows.
 const NUMBERS: usize = 4;
@@ -62,7 +63,7 @@ pub extern "C" fn chess_ledger_feed(
 ) -> Code
     ensures { λ r. ⌜ FeedsLedger (now (state .entry)) (now (line .entry)) (now (chunk .entry)) (now (out .entry)) (now (wrote .entry)) r (now (state .exit)) (now (line .exit)) (now (out .exit)) (now (wrote .exit)) ⌝ }
 {
-    let fed = ledger_feed::feed(state_of(state), line, chunk, out);
+    let fed = ledger_feed::feed(Profile::Any, state_of(state), line, chunk, out);
     match fed {
         Fed::Rows(next, n) => {
             *state = numbers_of(next);
@@ -85,7 +86,7 @@ pub extern "C" fn chess_ledger_finish(
 ) -> Code
     ensures { λ r. ⌜ FinishesLedger (now (state .entry)) (now (line .entry)) (now (out .entry)) (now (wrote .entry)) r (now (out .exit)) (now (wrote .exit)) ⌝ }
 {
-    let finished = ledger_finish::finish(state_of(state), line, out);
+    let finished = ledger_finish::finish(Profile::Any, state_of(state), line, out);
     match finished {
         Finished::Rows(n) => {
             *wrote = n;

@@ -2,11 +2,12 @@
 use mathlib.Core.List.{List}
 use Prim.Native.Nat.{ℕ}
 use lib.IntN.{ℤ}
-use Rattle.line_held.specs.Held.{saidOf}
+use Rattle.line_profile.specs.Under.{saidUnder}
+use Rattle.line_profile.specs.declared.Profile.{Profile}
 use Rattle.ledger_row.specs.Row.{rowBy}
 use Rattle.ledger_row.specs.Promises.{PutsRow, scoreWith}
 use Rattle.ledger_row.specs.declared.Row.{Row}
 
--- what the function promises: the row of what the line says is put, and it is said whether the line was loaded
-abbrev pub Closes : List (List ℕ) → List ℤ → List ℕ → List ℕ → ℕ → ℕ → List ℕ → ℕ → Row → Type 0
-Closes tables pst old new at number line size r = PutsRow old new at (saidOf line size) (rowBy (scoreWith tables pst) number (saidOf line size)) r
+-- what the function promises: the row of what the line says under the profile is put, and it is said whether the line was loaded
+abbrev pub Closes : Profile → List (List ℕ) → List ℤ → List ℕ → List ℕ → ℕ → ℕ → List ℕ → ℕ → Row → Type 0
+Closes profile tables pst old new at number line size r = PutsRow old new at (saidUnder profile line size) (rowBy (scoreWith tables pst) number (saidUnder profile line size)) r

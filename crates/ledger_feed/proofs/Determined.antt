@@ -5,6 +5,7 @@ use mathlib.Core.Bool.{Bool}
 use mathlib.Core.List.{List}
 use Prim.Native.Nat.{ℕ}
 use Rattle.refusal.proofs.Paper.{one, retract, ofNumber, number-back}
+use Rattle.line_profile.specs.declared.Profile.{Profile}
 use Rattle.ledger_feed.specs.Promises.{Came, turned, many, full, came, Starts, Countable, fed, Feeds}
 use Rattle.ledger_feed.specs.declared.SoFar.{SoFar}
 use Rattle.ledger_feed.specs.declared.Fed.{Fed}
@@ -30,7 +31,7 @@ start r s p q = one p q
 pub countable : (loaded others more : ℕ) (r s : Bool) → Countable loaded others more r → Countable loaded others more s → r ≡ s
 countable loaded others more r s p q = one p q
 
-pub feed : (state : SoFar) (line chunk out : List ℕ) (r s : Fed) (line₁ out₁ line₂ out₂ : List ℕ)
-    → Feeds state line chunk out r line₁ out₁ → Feeds state line chunk out s line₂ out₂ → (r ≡ s) × (line₁ ≡ line₂) × (out₁ ≡ out₂)
-feed state line chunk out r s line₁ out₁ line₂ out₂ p q =
+pub feed : (profile : Profile) (state : SoFar) (line chunk out : List ℕ) (r s : Fed) (line₁ out₁ line₂ out₂ : List ℕ)
+    → Feeds profile state line chunk out r line₁ out₁ → Feeds profile state line chunk out s line₂ out₂ → (r ≡ s) × (line₁ ≡ line₂) × (out₁ ≡ out₂)
+feed profile state line chunk out r s line₁ out₁ line₂ out₂ p q =
     (retract fed fedFrom fed-back r s (one (p .answer) (q .answer)), one (p .kept) (q .kept), one (p .rows) (q .rows))

@@ -10,6 +10,7 @@ use borrow.Author.Tests.{eq-eqb, ne-eqb, le-leb, lt-leb, ltb-true}
 use Rattle.refusal.specs.declared.Refusal.the-variants as R
 use Rattle.text_out.specs.Text.{writtenOf}
 use Rattle.line_cut.specs.Lines.{ends}
+use Rattle.line_profile.specs.declared.Profile.{Profile}
 use Rattle.ledger_feed.specs.Machine.{Machine, at, run}
 use Rattle.ledger_feed.specs.Promises.{Came, turnedBy, many, full, came, fit, feedOf, fed, cameByValue, lineAfter, textAfter, wrote, Feeds, Ready, Takes}
 use Rattle.ledger_feed.specs.declared.SoFar.{SoFar}
@@ -35,7 +36,7 @@ module _ {A : Type 0} (line : List ℕ) (lines : ℕ) (room : Bool) (a : A) wher
   fit-came e n r = rw (eq-eqb (length line) 256 e, n, r)
 
 -- ---- feed
-module _ (state : SoFar) (line chunk out : List ℕ) where
+module _ (profile : Profile) (state : SoFar) (line chunk out : List ℕ) where
   lines : ℕ
   lines = state .loaded + state .refused + ends chunk
 
@@ -43,11 +44,11 @@ module _ (state : SoFar) (line chunk out : List ℕ) where
   room = leb (32 * ends chunk) (length out)
 
   m : Machine
-  m = run (at state line []) chunk
+  m = run profile (at state line []) chunk
 
   -- an answer of its own, with nothing changed
-  unchanged : (r : Fed) (a : Came Machine) → feedOf state line chunk out ≡ a → fed r ≡ cameByValue a → lineAfter a line ≡ line → textAfter a ≡ [] → wrote (fed r) ≡ 0
-      → Feeds state line chunk out r line out
+  unchanged : (r : Fed) (a : Came Machine) → feedOf profile state line chunk out ≡ a → fed r ≡ cameByValue a → lineAfter a line ≡ line → textAfter a ≡ [] → wrote (fed r) ≡ 0
+      → Feeds profile state line chunk out r line out
   unchanged r a e f k t z = record {
     answer = f ∙ sym (ap cameByValue e);
     kept = sym (ap (λ (b : Came Machine). lineAfter b line) e ∙ k);
@@ -55,27 +56,27 @@ module _ (state : SoFar) (line chunk out : List ℕ) where
     within = omega arith;
   }
 
-  pub feed-shape : (length line ≡ 256 → ⊥) → Feeds state line chunk out (F.Refused R.Shape) line out
+  pub feed-shape : (length line ≡ 256 → ⊥) → Feeds profile state line chunk out (F.Refused R.Shape) line out
   unfolding lines room m
   feed-shape n = unchanged (F.Refused R.Shape) (turnedBy R.Shape) (fit-shape line lines room m n) refl refl refl refl
 
   module _ (size : length line ≡ 256) where
-    pub feed-many : ltb (state .loaded + state .refused + ends chunk) (2 ^ 64) ≡ false → Feeds state line chunk out F.Many line out
+    pub feed-many : ltb (state .loaded + state .refused + ends chunk) (2 ^ 64) ≡ false → Feeds profile state line chunk out F.Many line out
     unfolding lines room m
     feed-many n = unchanged F.Many many (fit-many line lines room m size n) refl refl refl refl
 
     module _ (counts : ltb (state .loaded + state .refused + ends chunk) (2 ^ 64) ≡ true) where
-      pub feed-full : length out / 32 < ends chunk → Feeds state line chunk out F.Full line out
+      pub feed-full : length out / 32 < ends chunk → Feeds profile state line chunk out F.Full line out
       unfolding lines room m
       feed-full n = unchanged F.Full full (fit-full line lines room m size counts (lt-leb (32 * ends chunk) (length out) (omega arith))) refl refl refl refl
 
       pub feed-ready : ends chunk ≤ length out / 32 → Ready state line chunk out
       feed-ready h = record { size = size; counts = ltb-true (state .loaded + state .refused + ends chunk) (2 ^ 64) counts; room = omega arith }
 
-      pub feed-rows : ends chunk ≤ length out / 32 → (r : Fed) (line′ out′ : List ℕ) → Takes state line chunk out r line′ out′ → Feeds state line chunk out r line′ out′
+      pub feed-rows : ends chunk ≤ length out / 32 → (r : Fed) (line′ out′ : List ℕ) → Takes profile state line chunk out r line′ out′ → Feeds profile state line chunk out r line′ out′
       unfolding lines room m
       feed-rows h r line′ out′ t =
-          let e : feedOf state line chunk out ≡ came m = fit-came line lines room m size counts (le-leb (32 * ends chunk) (length out) (omega arith)) in
+          let e : feedOf profile state line chunk out ≡ came m = fit-came line lines room m size counts (le-leb (32 * ends chunk) (length out) (omega arith)) in
           record {
             answer = ap fed (t .answer) ∙ sym (ap cameByValue e);
             kept = t .kept ∙ sym (ap (λ (a : Came Machine). lineAfter a line) e);

@@ -13,12 +13,13 @@ use Rattle.score.specs.Score.{scoreOf}
 use Rattle.text_out.specs.Text.{digitsUpTo}
 use Rattle.ledger_row.specs.Row.{loadedRow, refusedRow}
 use Rattle.line_cut.specs.Cut.{runBy}
+use Rattle.line_profile.specs.declared.Profile.the-variants as P
 use Rattle.ledger_feed.specs.Machine.{run}
 
 -- over a buffer that held other bytes: 256 bytes are read, with CR LF too; 257 are LONG, and so is any longer line
 written : List ℕ → List ℕ
 unfolding runBy lineOf fieldsSay every holds before after without withoutLast trim placeIn areRanks stacked scoreOf tabulate bitboardsOf loadedRow refusedRow digitsUpTo
-written input = run (record { line = replicate 256 7; held = 0; cr = false; loaded = 0; refused = 0; text = [] }) input .text
+written input = run P.Any (record { line = replicate 256 7; held = 0; cr = false; loaded = 0; refused = 0; text = [] }) input .text
 
 abbrev pub long : ℕ → List ℕ → List ℕ
 long spaces ending = text "8/8/8/8/8/8/8/8 w;1-0" ++ (replicate spaces 32 ++ ending)

@@ -6,7 +6,8 @@ use Prim.Native.Nat.{ℕ, _+_}
 use Rattle.refusal.specs.Answer.{Answer}
 use Rattle.line_parse.specs.Line.{Line}
 use Rattle.line_cut.specs.Cut.{Open, lineEmptied, CutSoFar, runBy}
-use Rattle.line_held.specs.Held.{saidOf}
+use Rattle.line_profile.specs.Under.{saidUnder}
+use Rattle.line_profile.specs.declared.Profile.{Profile}
 use Rattle.ledger_row.specs.Row.{rowOf, isLoaded}
 use Rattle.ledger_feed.specs.declared.SoFar.{SoFar}
 
@@ -60,12 +61,13 @@ rowMore rows said = record {
   text = rows .text ++ rowOf (rows .loaded + rows .refused + 1) said;
 }
 
-abbrev pub closeRow : Kept → List ℕ → ℕ → Kept
-closeRow rows line size = rowMore rows (saidOf line size)
+-- by what the line says under the profile
+abbrev pub closeRow : Profile → Kept → List ℕ → ℕ → Kept
+closeRow profile rows line size = rowMore rows (saidUnder profile line size)
 
-abbrev pub close : Machine → ℕ → Machine
-close m size = machineOf (record { left = lineEmptied (openOf m); kept = closeRow (keptOf m) (m .line) size })
+abbrev pub close : Profile → Machine → ℕ → Machine
+close profile m size = machineOf (record { left = lineEmptied (openOf m); kept = closeRow profile (keptOf m) (m .line) size })
 
 -- the line machine, with the ledger as its consumer
-abbrev pub run : Machine → List ℕ → Machine
-run m s = machineOf (runBy closeRow (openOf m) (keptOf m) s)
+abbrev pub run : Profile → Machine → List ℕ → Machine
+run profile m s = machineOf (runBy (closeRow profile) (openOf m) (keptOf m) s)

@@ -10,6 +10,7 @@ use Rattle.refusal.specs.declared.Refusal.{Refusal}
 use Rattle.refusal.specs.declared.Refusal.the-variants as R
 use Rattle.text_out.specs.Text.{writtenOf}
 use Rattle.line_cut.specs.Lines.{ends}
+use Rattle.line_profile.specs.declared.Profile.{Profile}
 use Rattle.ledger_feed.specs.Machine.{Machine, at, run}
 use Rattle.ledger_feed.specs.declared.SoFar.{SoFar}
 use Rattle.ledger_feed.specs.declared.Fed.{Fed}
@@ -38,9 +39,9 @@ fit line lines room a =
     cond (eqb (length line) 256) (cond (ltb lines (2 ^ 64)) (cond room (came a) full) many) (turnedBy R.Shape)
 
 -- ---- feed: 32 bytes of room for each line that ends in the chunk
-abbrev pub feedOf : SoFar → List ℕ → List ℕ → List ℕ → Came Machine
-feedOf state line chunk out =
-    fit line (state .loaded + state .refused + ends chunk) (leb (32 * ends chunk) (length out)) (run (at state line []) chunk)
+abbrev pub feedOf : Profile → SoFar → List ℕ → List ℕ → List ℕ → Came Machine
+feedOf profile state line chunk out =
+    fit line (state .loaded + state .refused + ends chunk) (leb (32 * ends chunk) (length out)) (run profile (at state line []) chunk)
 
 -- the code's answer on the paper: the state, and how many bytes were written
 abbrev pub fed : Fed → Came (SoFar × ℕ)
@@ -78,10 +79,10 @@ wrote (turned n l) = 0
 wrote many = 0
 wrote full = 0
 
-pub record Feeds (state : SoFar) (line chunk out : List ℕ) (r : Fed) (line′ out′ : List ℕ) : Type 0 where
-  pub answer : fed r ≡ cameByValue (feedOf state line chunk out)
-  pub kept : line′ ≡ lineAfter (feedOf state line chunk out) line
-  pub rows : out′ ≡ writtenOf out 0 (textAfter (feedOf state line chunk out))
+pub record Feeds (profile : Profile) (state : SoFar) (line chunk out : List ℕ) (r : Fed) (line′ out′ : List ℕ) : Type 0 where
+  pub answer : fed r ≡ cameByValue (feedOf profile state line chunk out)
+  pub kept : line′ ≡ lineAfter (feedOf profile state line chunk out) line
+  pub rows : out′ ≡ writtenOf out 0 (textAfter (feedOf profile state line chunk out))
   -- follows from the others, for who takes the rows out
   pub within : wrote (fed r) ≤ length out
 
@@ -91,11 +92,11 @@ pub record Ready (state : SoFar) (line chunk out : List ℕ) : Type 0 where
   pub counts : state .loaded + state .refused + ends chunk < 2 ^ 64
   pub room : 32 * ends chunk ≤ length out
 
-pub record Takes (state : SoFar) (line chunk out : List ℕ) (r : Fed) (line′ out′ : List ℕ) : Type 0 where
-  pub answer : r ≡ F.Rows (stateOf (run (at state line []) chunk)) (length (run (at state line []) chunk .text))
-  pub kept : line′ ≡ run (at state line []) chunk .line
-  pub rows : out′ ≡ writtenOf out 0 (run (at state line []) chunk .text)
-  pub within : length (run (at state line []) chunk .text) ≤ length out
+pub record Takes (profile : Profile) (state : SoFar) (line chunk out : List ℕ) (r : Fed) (line′ out′ : List ℕ) : Type 0 where
+  pub answer : r ≡ F.Rows (stateOf (run profile (at state line []) chunk)) (length (run profile (at state line []) chunk .text))
+  pub kept : line′ ≡ run profile (at state line []) chunk .line
+  pub rows : out′ ≡ writtenOf out 0 (run profile (at state line []) chunk .text)
+  pub within : length (run profile (at state line []) chunk .text) ≤ length out
 
 abbrev pub MakesState : ℕ → Bool → ℕ → ℕ → SoFar → Type 0
 MakesState held ends loaded others r = r ≡ record { held = held; cr = ends; loaded = loaded; refused = others }

@@ -9,6 +9,7 @@ use attack_steps::inner::ROWS;
 use chess::square::Square;
 use line_cut::Begun;
 use line_cut::LINE;
+use line_profile::Profile;
 use refusal::Refusal;
 
 // The room that a row takes at most.
@@ -77,6 +78,7 @@ fn made(held: usize, cr: bool, loaded: u64, refused: u64) -> SoFar
 
 // The bytes of a chunk, where there is room for their rows: from line's end to line's end.
 fn take(
+    profile: Profile,
     state: SoFar,
     line: &mut [u8],
     chunk: &[u8],
@@ -85,7 +87,7 @@ fn take(
     tables: &[[u64; Square::COUNT]; ROWS],
 ) -> Fed
     requires { ⌜ Ready state (now line) (now chunk) (now out) × (now tables ≡ stepTables) × (now pst ≡ pstTable) ⌝ }
-    ensures { λ r. ⌜ Takes state (now (line .entry)) (now (chunk .entry)) (now (out .entry)) r (now (line .exit)) (now (out .exit)) ⌝ }
+    ensures { λ r. ⌜ Takes profile state (now (line .entry)) (now (chunk .entry)) (now (out .entry)) r (now (line .exit)) (now (out .exit)) ⌝ }
 {
     let mut begun = Begun {
         held: state.held,
@@ -102,6 +104,7 @@ fn take(
         begun = next;
         if cut.ended {
             let row = ledger_close::close(
+                profile,
                 line,
                 cut.size,
                 loaded + refused + 1,
@@ -120,9 +123,9 @@ fn take(
     Fed::Rows(made(begun.held, begun.cr, loaded, refused), wrote)
 }
 
-// Takes a chunk of any size: a row for each line that ends in it. It needs 32 bytes of room for each of them.
-pub fn feed(state: SoFar, line: &mut [u8], chunk: &[u8], out: &mut [u8]) -> Fed
-    ensures { λ r. ⌜ Feeds state (now (line .entry)) (now (chunk .entry)) (now (out .entry)) r (now (line .exit)) (now (out .exit)) ⌝ }
+// Takes a chunk of any size: a row for each line that ends in it, by what it says under the profile. It needs 32 bytes of room for each of them.
+pub fn feed(profile: Profile, state: SoFar, line: &mut [u8], chunk: &[u8], out: &mut [u8]) -> Fed
+    ensures { λ r. ⌜ Feeds profile state (now (line .entry)) (now (chunk .entry)) (now (out .entry)) r (now (line .exit)) (now (out .exit)) ⌝ }
 {
     if line.len() != LINE {
         return Fed::Refused(Refusal::Shape);
@@ -136,5 +139,5 @@ pub fn feed(state: SoFar, line: &mut [u8], chunk: &[u8], out: &mut [u8]) -> Fed
     }
     let pst = score_pst::inner::table();
     let tables = attack_steps::inner::tables();
-    take(state, line, chunk, out, &pst, &tables)
+    take(profile, state, line, chunk, out, &pst, &tables)
 }

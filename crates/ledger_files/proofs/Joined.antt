@@ -12,6 +12,7 @@ use Rattle.text_in.specs.Text.{cr}
 use Rattle.line_cut.specs.Lines.{lf, endsInCR, withoutCR, atEnd, linesFrom, linesOf}
 use Rattle.line_cut.specs.Cut.{Open, lineEmptied, pushed, bareOf, CutSoFar, runBy}
 use Rattle.line_cut.proofs.Views.{View, view-none, view-push}
+use Rattle.line_profile.specs.declared.Profile.{Profile}
 use Rattle.ledger_feed.specs.Machine.{at, openOf, keptOf, closeRow}
 use Rattle.ledger_whole.specs.Ledger.{rowsFrom, totalsOf, ledgerOf}
 use Rattle.ledger_whole.specs.Calls.{Call, Last, fresh}
@@ -71,12 +72,12 @@ lines-fed (file ∷ files) =
     ∙ lines-closed [] file (fedOf files) ∙ ap (λ (x : List (List ℕ)). linesOf file ++ x) (lines-fed files)
 
 -- ---- what is written
-pub files : (line : List ℕ) (all : List (List ℕ)) (calls : List Call) (last : Last) → Files line all calls last
+pub files : (profile : Profile) (line : List ℕ) (all : List (List ℕ)) (calls : List Call) (last : Last) → Files profile line all calls last
 unfolding ledgerOf
-files line all calls last = record {
+files profile line all calls last = record {
   ledger = λ size room few made is.
-      ledger line calls last .ledger size room (subst (λ (t : List ℕ). length (linesOf t) < 2 ^ 64) (sym is) (subst (λ (ls : List (List ℕ)). length ls < 2 ^ 64) (sym (lines-fed all)) few)) made
-      ∙ ap ledgerOf is ∙ ap (λ (ls : List (List ℕ)). rowsFrom 1 ls ++ totalsOf ls) (lines-fed all);
+      ledger profile line calls last .ledger size room (subst (λ (t : List ℕ). length (linesOf t) < 2 ^ 64) (sym is) (subst (λ (ls : List (List ℕ)). length ls < 2 ^ 64) (sym (lines-fed all)) few)) made
+      ∙ ap (ledgerOf profile) is ∙ ap (λ (ls : List (List ℕ)). rowsFrom profile 1 ls ++ totalsOf profile ls) (lines-fed all);
 }
 
 -- ---- what the state tells of the file
@@ -132,12 +133,12 @@ fed-none (file ∷ all) =
     ∙ ap (λ (l : List ℕ). unfinishedFrom l (fedOf all)) (unfinished-append [] file (ending (unfinishedFrom [] file)) ∙ ending-none (unfinishedFrom [] file))
     ∙ fed-none all
 
-pub file-closed : (line : List ℕ) (before : List (List ℕ)) (file : List ℕ) (r : Ending) → Closed line before file r
-file-closed line before file r = record {
+pub file-closed : (profile : Profile) (line : List ℕ) (before : List (List ℕ)) (file : List ℕ) (r : Ending) → Closed profile line before file r
+file-closed profile line before file r = record {
   closing = λ size e.
-      let o : Open = runBy closeRow (openOf (at fresh line [])) (keptOf (at fresh line [])) (fedOf before ++ file) .left in
+      let o : Open = runBy (closeRow profile) (openOf (at fresh line [])) (keptOf (at fresh line [])) (fedOf before ++ file) .left in
       let l : List ℕ = unfinishedFrom [] (fedOf before ++ file) in
-      let v = view-run closeRow (openOf (at fresh line [])) (keptOf (at fresh line [])) [] (fedOf before ++ file) (view-none (openOf (at fresh line [])) refl refl size) in
+      let v = view-run (closeRow profile) (openOf (at fresh line [])) (keptOf (at fresh line [])) [] (fedOf before ++ file) (view-none (openOf (at fresh line [])) refl refl size) in
       let is : l ≡ unfinishedFrom [] file = unfinished-append [] (fedOf before) file ∙ ap (λ (x : List ℕ). unfinishedFrom x file) (fed-none before) in
       ap (λ (x : List ℕ). file ++ x) (e ∙ ap₂ closingBytes (held-some o l v) (v .ends) ∙ ap (λ (x : List ℕ). ending x) is);
 }

@@ -7,6 +7,7 @@ use lib.Dec.{eqb, ltb}
 use lib.ListN.{length}
 use Rattle.text_in.specs.Text.{cr}
 use Rattle.line_cut.specs.Lines.{lf, endsInCR, linesOf}
+use Rattle.line_profile.specs.declared.Profile.{Profile}
 use Rattle.ledger_feed.specs.Machine.{at, run}
 use Rattle.ledger_feed.specs.Promises.{stateOf}
 use Rattle.ledger_feed.specs.declared.SoFar.{SoFar}
@@ -50,14 +51,14 @@ linesOfAll [] = []
 linesOfAll (file ∷ files) = linesOf file ++ linesOfAll files
 
 -- THE LEDGER OF FILES: a row for each of their lines, numbered through, and the totals of the same lines
-abbrev pub ledgerOfAll : List (List ℕ) → List ℕ
-ledgerOfAll files = rowsFrom 1 (linesOfAll files) ++ totalsOf (linesOfAll files)
+abbrev pub ledgerOfAll : Profile → List (List ℕ) → List ℕ
+ledgerOfAll profile files = rowsFrom profile 1 (linesOfAll files) ++ totalsOf profile (linesOfAll files)
 
 -- what is claimed: however the files are cut into calls, all that is written is their ledger, where what `closing` gives is fed after each
-pub record Files (line : List ℕ) (files : List (List ℕ)) (calls : List Call) (last : Last) : Type 0 where
-  pub ledger : length line ≡ 256 → Roomy calls last → length (linesOfAll files) < 2 ^ 64 → CallsMade fresh line calls last → input calls ≡ fedOf files
-      → allWritten calls last ≡ ledgerOfAll files
+pub record Files (profile : Profile) (line : List ℕ) (files : List (List ℕ)) (calls : List Call) (last : Last) : Type 0 where
+  pub ledger : length line ≡ 256 → Roomy calls last → length (linesOfAll files) < 2 ^ 64 → CallsMade profile fresh line calls last → input calls ≡ fedOf files
+      → allWritten calls last ≡ ledgerOfAll profile files
 
 -- and that `closing` gives what `closed` adds: by the state after a file, whatever files were before it
-pub record Closed (line : List ℕ) (before : List (List ℕ)) (file : List ℕ) (r : Ending) : Type 0 where
-  pub closing : length line ≡ 256 → EndsFile (stateOf (run (at fresh line []) (fedOf before ++ file))) r → file ++ fedAfter r ≡ closed file
+pub record Closed (profile : Profile) (line : List ℕ) (before : List (List ℕ)) (file : List ℕ) (r : Ending) : Type 0 where
+  pub closing : length line ≡ 256 → EndsFile (stateOf (run profile (at fresh line []) (fedOf before ++ file))) r → file ++ fedAfter r ≡ closed file

@@ -4,6 +4,7 @@ use mathlib.Core.Path.{_≡_, refl, ap}
 use mathlib.Core.List.{List}
 use Prim.Native.Nat.{ℕ}
 use Rattle.refusal.proofs.Paper.{one, retract, ofNumber, number-back}
+use Rattle.line_profile.specs.declared.Profile.{Profile}
 use Rattle.ledger_feed.specs.Promises.{Came, turned, many, full, came}
 use Rattle.ledger_feed.specs.declared.SoFar.{SoFar}
 use Rattle.ledger_finish.specs.Promises.{finishPaper, Finishes}
@@ -23,6 +24,6 @@ finished-back E.Full = refl
 finished-back E.Many = refl
 finished-back (E.Refused q) = ap E.Refused (number-back q)
 
-pub finish : (state : SoFar) (line out : List ℕ) (r s : Finished) (out₁ out₂ : List ℕ)
-    → Finishes state line out r out₁ → Finishes state line out s out₂ → (r ≡ s) × (out₁ ≡ out₂)
-finish state line out r s out₁ out₂ p q = (retract finishPaper finishedFrom finished-back r s (one (p .answer) (q .answer)), one (p .rows) (q .rows))
+pub finish : (profile : Profile) (state : SoFar) (line out : List ℕ) (r s : Finished) (out₁ out₂ : List ℕ)
+    → Finishes profile state line out r out₁ → Finishes profile state line out s out₂ → (r ≡ s) × (out₁ ≡ out₂)
+finish profile state line out r s out₁ out₂ p q = (retract finishPaper finishedFrom finished-back r s (one (p .answer) (q .answer)), one (p .rows) (q .rows))

@@ -14,6 +14,7 @@ use Rattle.text_out.specs.Text.{digitsUpTo}
 use Rattle.ledger_row.specs.Row.{loadedRow, refusedRow}
 use Rattle.ledger_totals.specs.Totals.{lastRow}
 use Rattle.line_cut.specs.Cut.{runBy}
+use Rattle.line_profile.specs.declared.Profile.the-variants as P
 use Rattle.ledger_feed.specs.Machine.{run}
 use Rattle.ledger_feed.proofs.Examples.{long}
 use Rattle.ledger_finish.specs.Last.{finished}
@@ -21,7 +22,7 @@ use Rattle.ledger_finish.specs.Last.{finished}
 -- over a buffer that held other bytes: the CR of a last line with no LF is kept, and makes 257 bytes of 256
 written : List ℕ → List ℕ
 unfolding runBy finished lineOf fieldsSay every holds before after without withoutLast trim placeIn areRanks stacked scoreOf tabulate bitboardsOf loadedRow refusedRow lastRow digitsUpTo
-written input = finished (run (record { line = replicate 256 7; held = 0; cr = false; loaded = 0; refused = 0; text = [] }) input)
+written input = finished P.Any (run P.Any (record { line = replicate 256 7; held = 0; cr = false; loaded = 0; refused = 0; text = [] }) input)
 
 boundaries :
     written (long 235 []) ∷ written (long 235 (text "\r")) ∷ written (text "\n") ∷ written [] ∷ []

@@ -6,6 +6,7 @@ use Prim.Native.Nat.{ℕ, _+_, _≤_}
 use lib.Dec.{ltb}
 use lib.ListN.{length}
 use Rattle.text_out.specs.Text.{writtenOf, roomFor}
+use Rattle.line_profile.specs.declared.Profile.{Profile}
 use Rattle.ledger_feed.specs.Machine.{at}
 use Rattle.ledger_feed.specs.Promises.{Came, turned, turnedBy, many, full, came, fit}
 use Rattle.ledger_feed.specs.declared.SoFar.{SoFar}
@@ -21,9 +22,9 @@ abbrev pub lastLines : SoFar → ℕ
 lastLines state = state .loaded + state .refused + unfinished (state .held)
 
 -- room for what is written
-abbrev pub finishOf : SoFar → List ℕ → List ℕ → Came (List ℕ)
-finishOf state line out =
-    let text : List ℕ = finished (at state line []) in
+abbrev pub finishOf : Profile → SoFar → List ℕ → List ℕ → Came (List ℕ)
+finishOf profile state line out =
+    let text : List ℕ = finished profile (at state line []) in
     fit line (lastLines state) (roomFor out 0 text) text
 
 abbrev pub finishPaper : Finished → Came ℕ
@@ -50,7 +51,7 @@ lastWrote (turned n l) = 0
 lastWrote many = 0
 lastWrote full = 0
 
-pub record Finishes (state : SoFar) (line out : List ℕ) (r : Finished) (out′ : List ℕ) : Type 0 where
-  pub answer : finishPaper r ≡ lengthOf (finishOf state line out)
-  pub rows : out′ ≡ writtenOf out 0 (lastText (finishOf state line out))
+pub record Finishes (profile : Profile) (state : SoFar) (line out : List ℕ) (r : Finished) (out′ : List ℕ) : Type 0 where
+  pub answer : finishPaper r ≡ lengthOf (finishOf profile state line out)
+  pub rows : out′ ≡ writtenOf out 0 (lastText (finishOf profile state line out))
   pub within : lastWrote (finishPaper r) ≤ length out

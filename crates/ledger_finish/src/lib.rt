@@ -8,6 +8,7 @@ ghost use Rattle.ledger_feed.specs.Machine.{at};
 ghost use Rattle.ledger_finish.specs.Last.{finished};
 ghost use Rattle.ledger_finish.specs.Promises.{unfinished, lastLines, Finishes};
 use ledger_feed::SoFar;
+use line_profile::Profile;
 use refusal::Refusal;
 use text_out::Placed;
 
@@ -30,9 +31,9 @@ fn more(held: usize) -> usize
 }
 
 // The row of the last line, if it has no LF, and the totals.
-fn last_rows(state: SoFar, line: &[u8], out: &mut [u8]) -> usize
+fn last_rows(profile: Profile, state: SoFar, line: &[u8], out: &mut [u8]) -> usize
     requires { ⌜ (116 ≤ length (now out)) × (lastLines state < 2 ^ 64) ⌝ }
-    ensures { λ r. ⌜ Adds (now (out .entry)) 0 (finished (at state (now (line .entry)) [])) (now (out .exit)) r ⌝ }
+    ensures { λ r. ⌜ Adds (now (out .entry)) 0 (finished profile (at state (now (line .entry)) [])) (now (out .exit)) r ⌝ }
 {
     if state.held == 0 {
         return ledger_totals::last(
@@ -46,7 +47,7 @@ fn last_rows(state: SoFar, line: &[u8], out: &mut [u8]) -> usize
     let lines = state.loaded + state.refused + 1;
     let pst = score_pst::inner::table();
     let tables = attack_steps::inner::tables();
-    let row = ledger_close::close(line, state.held, lines, out, 0, &pst, &tables);
+    let row = ledger_close::close(profile, line, state.held, lines, out, 0, &pst, &tables);
     let placed = row.placed;
     let is_loaded = row.loaded;
     let next = placed.or(0);
@@ -57,8 +58,8 @@ fn last_rows(state: SoFar, line: &[u8], out: &mut [u8]) -> usize
 }
 
 // The end of the input: the row of a last line with no LF, and the totals.
-pub fn finish(state: SoFar, line: &[u8], out: &mut [u8]) -> Finished
-    ensures { λ r. ⌜ Finishes state (now (line .entry)) (now (out .entry)) r (now (out .exit)) ⌝ }
+pub fn finish(profile: Profile, state: SoFar, line: &[u8], out: &mut [u8]) -> Finished
+    ensures { λ r. ⌜ Finishes profile state (now (line .entry)) (now (out .entry)) r (now (out .exit)) ⌝ }
 {
     if line.len() != line_cut::LINE {
         return Finished::Refused(Refusal::Shape);
@@ -67,7 +68,7 @@ pub fn finish(state: SoFar, line: &[u8], out: &mut [u8]) -> Finished
         return Finished::Many;
     }
     let mut rows = [0u8; ROWS];
-    let end = last_rows(state, line, &mut rows);
+    let end = last_rows(profile, state, line, &mut rows);
     let placed = text_out::put(out, 0, &rows[..end]);
     match placed {
         Placed::At(wrote) => Finished::Rows(wrote),

@@ -18,7 +18,8 @@ use Rattle.line_cut.specs.Lines.{lf, ends}
 use Rattle.line_cut.specs.Cut.{Open, lineEmptied, pushed, bareOf, CutSoFar, runBy}
 use Rattle.line_cut.proofs.Machine.{run-append, run-told, run-size}
 use Rattle.line_cut.proofs.Counted.{ends-append}
-use Rattle.line_held.specs.Held.{saidOf}
+use Rattle.line_profile.specs.Under.{saidUnder}
+use Rattle.line_profile.specs.declared.Profile.{Profile}
 use Rattle.ledger_feed.specs.Machine.{Machine, Kept, at, openOf, keptOf, machineOf, closeRow, run, close, tally}
 use Rattle.ledger_feed.specs.Promises.{Came, came, feedOf, fed, cameByValue, lineAfter, textAfter, wrote, stateOf, Feeds}
 use Rattle.ledger_feed.specs.declared.SoFar.{SoFar}
@@ -39,31 +40,31 @@ use Rattle.ledger_whole.proofs.Machines.{linesIn, machine-ledger, machi
 abbrev shift : List ℕ → Kept → Kept
 shift t r = record { loaded = r .loaded; refused = r .refused; text = t ++ r .text }
 
-close-shift : (t : List ℕ) (r : Kept) (line : List ℕ) (size : ℕ) → closeRow (shift t r) line size ≡ shift t (closeRow r line size)
-close-shift t r line size =
-    let a : Answer Line = saidOf line size in
+close-shift : (profile : Profile) (t : List ℕ) (r : Kept) (line : List ℕ) (size : ℕ) → closeRow profile (shift t r) line size ≡ shift t (closeRow profile r line size)
+close-shift profile t r line size =
+    let a : Answer Line = saidUnder profile line size in
     ap (λ (u : List ℕ). record { loaded = tally (r .loaded) (isLoaded a); refused = tally (r .refused) (not (isLoaded a)); text = u })
     (append-assoc t (r .text) (rowOf (r .loaded + r .refused + 1) a))
 
 abbrev after : List ℕ → Machine → Machine
 after t m = record { line = m .line; held = m .held; cr = m .cr; loaded = m .loaded; refused = m .refused; text = t ++ m .text }
 
-run-after : (t : List ℕ) (m : Machine) (s : List ℕ) → run (after t m) s ≡ after t (run m s)
-run-after t m s = ap machineOf (run-told (shift t) closeRow closeRow (close-shift t) (openOf m) (keptOf m) s)
+run-after : (profile : Profile) (t : List ℕ) (m : Machine) (s : List ℕ) → run profile (after t m) s ≡ after t (run profile m s)
+run-after profile t m s = ap machineOf (run-told (shift t) (closeRow profile) (closeRow profile) (close-shift profile t) (openOf m) (keptOf m) s)
 
-finished-after : (t : List ℕ) (m : Machine) → finished (after t m) ≡ t ++ finished m
+finished-after : (profile : Profile) (t : List ℕ) (m : Machine) → finished profile (after t m) ≡ t ++ finished profile m
 unfolding finished
-finished-after t m = go (ltb 0 (m .held))
+finished-after profile t m = go (ltb 0 (m .held))
   where
     r : Kept
-    r = closeRow (keptOf m) (m .line) (m .held)
+    r = closeRow profile (keptOf m) (m .line) (m .held)
 
     go : (x : Bool)
-        → cond x (close (after t m) (m .held)) (after t m) .text ++ totals (cond x (close (after t m) (m .held)) (after t m))
-        ≡ t ++ (cond x (close m (m .held)) m .text ++ totals (cond x (close m (m .held)) m))
+        → cond x (close profile (after t m) (m .held)) (after t m) .text ++ totals (cond x (close profile (after t m) (m .held)) (after t m))
+        ≡ t ++ (cond x (close profile m (m .held)) m .text ++ totals (cond x (close profile m (m .held)) m))
     go true =
-        ap (λ (x : Kept). x .text ++ lastRow (x .loaded + x .refused) (x .loaded) (x .refused)) (close-shift t (keptOf m) (m .line) (m .held))
-        ∙ append-assoc t (r .text) (totals (close m (m .held)))
+        ap (λ (x : Kept). x .text ++ lastRow (x .loaded + x .refused) (x .loaded) (x .refused)) (close-shift profile t (keptOf m) (m .line) (m .held))
+        ∙ append-assoc t (r .text) (totals (close profile m (m .held)))
     go false = append-assoc t (m .text) (totals m)
 
 -- a machine is what it has written, and the machine that has written nothing
@@ -73,24 +74,24 @@ quiet m = at (stateOf m) (m .line) []
 split : (m : Machine) → m ≡ after (m .text) (quiet m)
 split m = ap (λ (t : List ℕ). record { line = m .line; held = m .held; cr = m .cr; loaded = m .loaded; refused = m .refused; text = t }) (sym (append-nil (m .text)))
 
-pieces : (m : Machine) (s t : List ℕ) → run m (s ++ t) ≡ after (run m s .text) (run (quiet (run m s)) t)
-pieces m s t =
-    ap machineOf (run-append closeRow (openOf m) (keptOf m) s t) ∙ ap (λ (x : Machine). run x t) (split (run m s)) ∙ run-after (run m s .text) (quiet (run m s)) t
+pieces : (profile : Profile) (m : Machine) (s t : List ℕ) → run profile m (s ++ t) ≡ after (run profile m s .text) (run profile (quiet (run profile m s)) t)
+pieces profile m s t =
+    ap machineOf (run-append (closeRow profile) (openOf m) (keptOf m) s t) ∙ ap (λ (x : Machine). run profile x t) (split (run profile m s)) ∙ run-after profile (run profile m s .text) (quiet (run profile m s)) t
 
 -- ---- how many lines were counted
-run-counts : (o : Open) (r : Kept) (s : List ℕ) → runBy closeRow o r s .kept .loaded + runBy closeRow o r s .kept .refused ≡ r .loaded + r .refused + ends s
+run-counts : (profile : Profile) (o : Open) (r : Kept) (s : List ℕ) → runBy (closeRow profile) o r s .kept .loaded + runBy (closeRow profile) o r s .kept .refused ≡ r .loaded + r .refused + ends s
 unfolding runBy ends
-run-counts o r [] = sym (add-zero (r .loaded + r .refused))
-run-counts o r (b ∷ s) = go (eqb b lf) (run-counts (lineEmptied o) (closeRow r (o .line) (bareOf (o .held) (o .cr))) s) (run-counts (pushed o b) r s)
+run-counts profile o r [] = sym (add-zero (r .loaded + r .refused))
+run-counts profile o r (b ∷ s) = go (eqb b lf) (run-counts profile (lineEmptied o) (closeRow profile r (o .line) (bareOf (o .held) (o .cr))) s) (run-counts profile (pushed o b) r s)
   where
     a : Answer Line
-    a = saidOf (o .line) (bareOf (o .held) (o .cr))
+    a = saidUnder profile (o .line) (bareOf (o .held) (o .cr))
 
     e : CutSoFar Kept
-    e = runBy closeRow (lineEmptied o) (closeRow r (o .line) (bareOf (o .held) (o .cr))) s
+    e = runBy (closeRow profile) (lineEmptied o) (closeRow profile r (o .line) (bareOf (o .held) (o .cr))) s
 
     f : CutSoFar Kept
-    f = runBy closeRow (pushed o b) r s
+    f = runBy (closeRow profile) (pushed o b) r s
 
     go : (x : Bool)
         → e .kept .loaded + e .kept .refused ≡ tally (r .loaded) (isLoaded a) + tally (r .refused) (not (isLoaded a)) + ends s
@@ -125,11 +126,11 @@ record Given (m : Machine) (r : Fed) (line′ out′ : List ℕ) : Type 0 where
   kept : line′ ≡ m .line
   rows : rowsOf r out′ ≡ m .text
 
-feed-given : (state : SoFar) (line chunk out : List ℕ) (r : Fed) (line′ out′ : List ℕ) → Feeds state line chunk out r line′ out′
-    → length line ≡ 256 → state .loaded + state .refused + ends chunk < 2 ^ 64 → 32 * ends chunk ≤ length out → Given (run (at state line []) chunk) r line′ out′
-feed-given state line chunk out r line′ out′ f size counts room =
-    let m : Machine = run (at state line []) chunk in
-    let e : feedOf state line chunk out ≡ came m =
+feed-given : (profile : Profile) (state : SoFar) (line chunk out : List ℕ) (r : Fed) (line′ out′ : List ℕ) → Feeds profile state line chunk out r line′ out′
+    → length line ≡ 256 → state .loaded + state .refused + ends chunk < 2 ^ 64 → 32 * ends chunk ≤ length out → Given (run profile (at state line []) chunk) r line′ out′
+feed-given profile state line chunk out r line′ out′ f size counts room =
+    let m : Machine = run profile (at state line []) chunk in
+    let e : feedOf profile state line chunk out ≡ came m =
     fit-came line (state .loaded + state .refused + ends chunk) (leb (32 * ends chunk) (length out)) m size
     (lt-ltb (state .loaded + state .refused + ends chunk) (2 ^ 64) counts) (le-leb (32 * ends chunk) (length out) room) in
     let a : r ≡ F.Rows (stateOf m) (length (m .text)) = rows-of r (stateOf m) (length (m .text)) (f .answer ∙ ap cameByValue e) in
@@ -142,12 +143,12 @@ feed-given state line chunk out r line′ out′ f size counts room =
           ∙ taken out out′ (m .text) (f .rows ∙ ap (λ (x : Came Machine). writtenOf out 0 (textAfter x)) e) h;
     }
 
-finish-given : (state : SoFar) (line out : List ℕ) (r : Finished) (out′ : List ℕ) → Finishes state line out r out′
-    → length line ≡ 256 → lastLines state < 2 ^ 64 → 116 ≤ length out → lastRowsOf r out′ ≡ finished (at state line [])
-finish-given state line out r out′ f size counts room =
-    let t : List ℕ = finished (at state line []) in
-    let h : 0 + length t ≤ 116 = finished-116 state line in
-    let e : finishOf state line out ≡ came t =
+finish-given : (profile : Profile) (state : SoFar) (line out : List ℕ) (r : Finished) (out′ : List ℕ) → Finishes profile state line out r out′
+    → length line ≡ 256 → lastLines state < 2 ^ 64 → 116 ≤ length out → lastRowsOf r out′ ≡ finished profile (at state line [])
+finish-given profile state line out r out′ f size counts room =
+    let t : List ℕ = finished profile (at state line []) in
+    let h : 0 + length t ≤ 116 = finished-116 profile state line in
+    let e : finishOf profile state line out ≡ came t =
     fit-came line (lastLines state) (roomFor out 0 t) t size (lt-ltb (lastLines state) (2 ^ 64) counts) (le-leb (0 + length t) (length out) (omega arith)) in
     ap (λ (q : Finished). lastRowsOf q out′) (last-of r (length t) (f .answer ∙ ap lengthOf e))
     ∙ taken out out′ t (f .rows ∙ ap (λ (x : Came (List ℕ)). writtenOf out 0 (lastText x)) e) (omega arith)
@@ -156,28 +157,28 @@ finish-given state line out r out′ f size counts room =
 less : (a b c d : ℕ) (n : ℕ) → a ≡ b + (c + d) → a + n < 2 ^ 64 → b + c < 2 ^ 64
 less a b c d n e h = omega arith
 
-all : (state : SoFar) (line : List ℕ) (calls : List Call) (last : Last) → length line ≡ 256 → Roomy calls last
-    → linesIn (run (at state line []) (input calls)) < 2 ^ 64 → CallsMade state line calls last
-    → allWritten calls last ≡ finished (run (at state line []) (input calls))
+all : (profile : Profile) (state : SoFar) (line : List ℕ) (calls : List Call) (last : Last) → length line ≡ 256 → Roomy calls last
+    → linesIn (run profile (at state line []) (input calls)) < 2 ^ 64 → CallsMade profile state line calls last
+    → allWritten calls last ≡ finished profile (run profile (at state line []) (input calls))
 unfolding runBy input Roomy CallsMade allWritten
-all state line [] last size room counts made = finish-given state line (last .out) (last .finished) (last .out′) made size counts room
-all state line (c ∷ cs) last size room counts made =
-    let m : Machine = run (at state line []) (c .chunk) in
+all profile state line [] last size room counts made = finish-given profile state line (last .out) (last .finished) (last .out′) made size counts room
+all profile state line (c ∷ cs) last size room counts made =
+    let m : Machine = run profile (at state line []) (c .chunk) in
     let s : List ℕ = input cs in
-    let cut : run (at state line []) (c .chunk ++ s) ≡ after (m .text) (run (quiet m) s) = pieces (at state line []) (c .chunk) s in
-    let total = run-counts (openOf (at state line [])) (keptOf (at state line [])) (c .chunk ++ s) ∙ ap (λ (n : ℕ). state .loaded + state .refused + n) (ends-append (c .chunk) s) in
-    let g = feed-given state line (c .chunk) (c .out) (c .fed) (c .line′) (c .out′) (made .0) size
+    let cut : run profile (at state line []) (c .chunk ++ s) ≡ after (m .text) (run profile (quiet m) s) = pieces profile (at state line []) (c .chunk) s in
+    let total = run-counts profile (openOf (at state line [])) (keptOf (at state line [])) (c .chunk ++ s) ∙ ap (λ (n : ℕ). state .loaded + state .refused + n) (ends-append (c .chunk) s) in
+    let g = feed-given profile state line (c .chunk) (c .out) (c .fed) (c .line′) (c .out′) (made .0) size
     (less _ (state .loaded + state .refused) (ends (c .chunk)) (ends s) _ total counts) (room .0) in
-    let rest : CallsMade (stateOf m) (m .line) cs last =
-    subst (λ (l : List ℕ). CallsMade (stateOf m) l cs last) (g .kept)
-    (subst (λ (r : Fed). CallsMade (next r state) (c .line′) cs last) (g .answer) (made .1)) in
+    let rest : CallsMade profile (stateOf m) (m .line) cs last =
+    subst (λ (l : List ℕ). CallsMade profile (stateOf m) l cs last) (g .kept)
+    (subst (λ (r : Fed). CallsMade profile (next r state) (c .line′) cs last) (g .answer) (made .1)) in
     ap₂ _++_ (g .rows)
-    (all (stateOf m) (m .line) cs last (run-size closeRow (openOf (at state line [])) (keptOf (at state line [])) (c .chunk) ∙ size) (room .1) (subst (λ (n : ℕ). n < 2 ^ 64) (ap linesIn cut) counts) rest)
-    ∙ sym (finished-after (m .text) (run (quiet m) s)) ∙ sym (ap finished cut)
+    (all profile (stateOf m) (m .line) cs last (run-size (closeRow profile) (openOf (at state line [])) (keptOf (at state line [])) (c .chunk) ∙ size) (room .1) (subst (λ (n : ℕ). n < 2 ^ 64) (ap linesIn cut) counts) rest)
+    ∙ sym (finished-after profile (m .text) (run profile (quiet m) s)) ∙ sym (ap (finished profile) cut)
 
 -- the claim, for every line buffer and all calls
-pub ledger : (line : List ℕ) (calls : List Call) (last : Last) → Whole line calls last
-ledger line calls last = record {
-  ledger = λ size room few made. all fresh line calls last size room (subst (λ (n : ℕ). n < 2 ^ 64) (sym (machine-lines line (input calls) size)) few) made
-      ∙ machine-ledger line (input calls) size;
+pub ledger : (profile : Profile) (line : List ℕ) (calls : List Call) (last : Last) → Whole profile line calls last
+ledger profile line calls last = record {
+  ledger = λ size room few made. all profile fresh line calls last size room (subst (λ (n : ℕ). n < 2 ^ 64) (sym (machine-lines profile line (input calls) size)) few) made
+      ∙ machine-ledger profile line (input calls) size;
 }

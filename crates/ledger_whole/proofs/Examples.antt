@@ -13,12 +13,13 @@ use Rattle.score.specs.Score.{scoreOf}
 use Rattle.text_out.specs.Text.{digitsUpTo}
 use Rattle.ledger_row.specs.Row.{loadedRow, refusedRow}
 use Rattle.ledger_totals.specs.Totals.{lastRow}
+use Rattle.line_profile.specs.declared.Profile.the-variants as P
 use Rattle.ledger_whole.specs.Ledger.{rowsFrom, loadedIn, refusedIn, ledgerOf}
 
 -- ---- document 01's collection and its whole output
 ledger : List ℕ → List ℕ
 unfolding ledgerOf linesFrom endsInCR rowsFrom loadedIn refusedIn lineOf fieldsSay every holds before after without withoutLast trim placeIn areRanks stacked scoreOf tabulate bitboardsOf loadedRow refusedRow lastRow digitsUpTo
-ledger input = ledgerOf input
+ledger input = ledgerOf P.Any input
 
 paper :
     ledger (text "4k3/8/8/8/8/8/4P3/4K3 w - - 0 1;1-0\n8/8/8/8/8/8/8/8 w;1/2-1/2\n4k3/8/8/8/8/8/4P3/4K3 b;1/2\n")

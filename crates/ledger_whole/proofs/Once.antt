@@ -8,38 +8,39 @@ use lib.Dec.{eqb}
 use lib.ListN.{length, take, getD, length-append}
 use lib.Seq.{take-append-seam}
 use borrow.Author.Tests.{eqb-true}
-use Rattle.line_parse.specs.Line.{lineOf}
+use Rattle.line_profile.specs.Under.{lineUnder}
+use Rattle.line_profile.specs.declared.Profile.{Profile}
 use Rattle.ledger_row.specs.Row.{rowOf, isLoaded}
 use Rattle.line_cut.specs.Lines.{lf, withoutCR, atEnd, linesFrom, linesOf}
 use Rattle.ledger_whole.specs.Ledger.{rowsFrom, loadedIn, refusedIn, totalsOf, ledgerOf}
 use Rattle.ledger_whole.specs.Whole.{rowList, joined, piecesFrom, endsInLF, lineIn, Once}
 
-rows-joined : (number : ℕ) (ls : List (List ℕ)) → rowsFrom number ls ≡ joined (rowList number ls)
+rows-joined : (profile : Profile) (number : ℕ) (ls : List (List ℕ)) → rowsFrom profile number ls ≡ joined (rowList profile number ls)
 unfolding rowsFrom rowList joined
-rows-joined number [] = refl
-rows-joined number (l ∷ ls) = ap (λ (x : List ℕ). rowOf number (lineOf l) ++ x) (rows-joined (number + 1) ls)
+rows-joined profile number [] = refl
+rows-joined profile number (l ∷ ls) = ap (λ (x : List ℕ). rowOf number (lineUnder profile l) ++ x) (rows-joined profile (number + 1) ls)
 
-rows-many : (number : ℕ) (ls : List (List ℕ)) → length (rowList number ls) ≡ length ls
+rows-many : (profile : Profile) (number : ℕ) (ls : List (List ℕ)) → length (rowList profile number ls) ≡ length ls
 unfolding rowList
-rows-many number [] = refl
-rows-many number (l ∷ ls) = ap suc (rows-many (number + 1) ls)
+rows-many profile number [] = refl
+rows-many profile number (l ∷ ls) = ap suc (rows-many profile (number + 1) ls)
 
-rows-each : (number : ℕ) (ls : List (List ℕ)) (k : ℕ) → k < length ls → getD (rowList number ls) k [] ≡ rowOf (number + k) (lineOf (getD ls k []))
+rows-each : (profile : Profile) (number : ℕ) (ls : List (List ℕ)) (k : ℕ) → k < length ls → getD (rowList profile number ls) k [] ≡ rowOf (number + k) (lineUnder profile (getD ls k []))
 unfolding rowList
-rows-each number [] k h = absurd (no k h)
+rows-each profile number [] k h = absurd (no k h)
   where
     no : (k : ℕ) → k < 0 → ⊥
     no k q = omega arith
-rows-each number (l ∷ ls) zero h = ap (λ (n : ℕ). rowOf n (lineOf l)) (let e : number ≡ number + 0 = omega arith in e)
-rows-each number (l ∷ ls) (suc k) h =
-    rows-each (number + 1) ls k (omega arith) ∙ ap (λ (n : ℕ). rowOf n (lineOf (getD ls k []))) (let e : number + 1 + k ≡ number + suc k = omega arith in e)
+rows-each profile number (l ∷ ls) zero h = ap (λ (n : ℕ). rowOf n (lineUnder profile l)) (let e : number ≡ number + 0 = omega arith in e)
+rows-each profile number (l ∷ ls) (suc k) h =
+    rows-each profile (number + 1) ls k (omega arith) ∙ ap (λ (n : ℕ). rowOf n (lineUnder profile (getD ls k []))) (let e : number + 1 + k ≡ number + suc k = omega arith in e)
 
-pub either : (ls : List (List ℕ)) → loadedIn ls + refusedIn ls ≡ length ls
+pub either : (profile : Profile) (ls : List (List ℕ)) → loadedIn profile ls + refusedIn profile ls ≡ length ls
 unfolding loadedIn refusedIn
-either [] = refl
-either (l ∷ ls) = go (isLoaded (lineOf l)) (either ls)
+either profile [] = refl
+either profile (l ∷ ls) = go (isLoaded (lineUnder profile l)) (either profile ls)
   where
-    go : (t : Bool) → loadedIn ls + refusedIn ls ≡ length ls → (cond t 1 0 + loadedIn ls) + (cond t 0 1 + refusedIn ls) ≡ suc (length ls)
+    go : (t : Bool) → loadedIn profile ls + refusedIn profile ls ≡ length ls → (cond t 1 0 + loadedIn profile ls) + (cond t 0 1 + refusedIn profile ls) ≡ suc (length ls)
     go true e = omega arith
     go false e = omega arith
 
@@ -89,13 +90,13 @@ pieces-lines l (b ∷ s) n = go (eqb b lf) refl (pieces-lines [] s refl) (pieces
     go true e next longer = ap₂ _∷_ (sym (line-ended l)) next
     go false e next longer = longer (lf-last l b ∙ e)
 
-pub once : (text : List ℕ) → Once text
+pub once : (profile : Profile) (text : List ℕ) → Once profile text
 unfolding ledgerOf endsInLF
-once text = record {
+once profile text = record {
   pieces = pieces-joined [] text;
   lines = pieces-lines [] text refl;
-  rows = ap (λ (x : List ℕ). x ++ totalsOf (linesOf text)) (rows-joined 1 (linesOf text));
-  many = rows-many 1 (linesOf text);
-  each = rows-each 1 (linesOf text);
-  counts = either (linesOf text);
+  rows = ap (λ (x : List ℕ). x ++ totalsOf profile (linesOf text)) (rows-joined profile 1 (linesOf text));
+  many = rows-many profile 1 (linesOf text);
+  each = rows-each profile 1 (linesOf text);
+  counts = either profile (linesOf text);
 }

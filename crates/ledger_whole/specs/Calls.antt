@@ -4,6 +4,7 @@ use mathlib.Core.List.{List, [], _∷_, _++_}
 use Prim.Native.Nat.{ℕ, _*_, _≤_}
 use lib.ListN.{length, take}
 use Rattle.line_cut.specs.Lines.{ends}
+use Rattle.line_profile.specs.declared.Profile.{Profile}
 use Rattle.ledger_feed.specs.Promises.{Feeds}
 use Rattle.ledger_feed.specs.declared.SoFar.{SoFar}
 use Rattle.ledger_feed.specs.declared.Fed.{Fed}
@@ -46,9 +47,9 @@ lastRowsOf E.Many out′ = []
 lastRowsOf (E.Refused r) out′ = []
 
 -- each call does what `feed` promises, from the state and the line buffer that the call before it left; then `finish`
-unfoldable pub CallsMade : SoFar → List ℕ → List Call → Last → Type 0
-CallsMade state line [] last = Finishes state line (last .out) (last .finished) (last .out′)
-CallsMade state line (c ∷ cs) last = Feeds state line (c .chunk) (c .out) (c .fed) (c .line′) (c .out′) × CallsMade (next (c .fed) state) (c .line′) cs last
+unfoldable pub CallsMade : Profile → SoFar → List ℕ → List Call → Last → Type 0
+CallsMade profile state line [] last = Finishes profile state line (last .out) (last .finished) (last .out′)
+CallsMade profile state line (c ∷ cs) last = Feeds profile state line (c .chunk) (c .out) (c .fed) (c .line′) (c .out′) × CallsMade profile (next (c .fed) state) (c .line′) cs last
 
 -- all that is written, call after call
 unfoldable pub allWritten : List Call → Last → List ℕ

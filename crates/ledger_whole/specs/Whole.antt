@@ -5,21 +5,22 @@ use mathlib.Core.List.{List, [], _∷_, _++_, map}
 use Prim.Native.Nat.{ℕ, _+_, _-_, _^_, _<_}
 use lib.Dec.{eqb}
 use lib.ListN.{length, take, getD}
-use Rattle.line_parse.specs.Line.{lineOf}
+use Rattle.line_profile.specs.Under.{lineUnder}
+use Rattle.line_profile.specs.declared.Profile.{Profile}
 use Rattle.ledger_row.specs.Row.{rowOf}
 use Rattle.line_cut.specs.Lines.{lf, withoutCR, atEnd, linesOf}
 use Rattle.ledger_whole.specs.Ledger.{loadedIn, refusedIn, ledgerOf, totalsOf}
 use Rattle.ledger_whole.specs.Calls.{Call, Last, CallsMade, Roomy, allWritten, input, fresh}
 
--- THE LEDGER: for every way the input is cut into chunks, whatever the line buffer held, all that is written is the ledger of the whole
+-- THE LEDGER, under every profile: for every way the input is cut into chunks, whatever the line buffer held, all that is written is the ledger of the whole
 -- input; wherever there is room for the rows and the input has fewer than 2^64 lines
-pub record Whole (line : List ℕ) (calls : List Call) (last : Last) : Type 0 where
-  pub ledger : length line ≡ 256 → Roomy calls last → length (linesOf (input calls)) < 2 ^ 64 → CallsMade fresh line calls last → allWritten calls last ≡ ledgerOf (input calls)
+pub record Whole (profile : Profile) (line : List ℕ) (calls : List Call) (last : Last) : Type 0 where
+  pub ledger : length line ≡ 256 → Roomy calls last → length (linesOf (input calls)) < 2 ^ 64 → CallsMade profile fresh line calls last → allWritten calls last ≡ ledgerOf profile (input calls)
 
 -- the rows of a ledger, one for each line, numbered from 1 in the lines' order
-unfoldable pub rowList : ℕ → List (List ℕ) → List (List ℕ)
-rowList number [] = []
-rowList number (l ∷ ls) = rowOf number (lineOf l) ∷ rowList (number + 1) ls
+unfoldable pub rowList : Profile → ℕ → List (List ℕ) → List (List ℕ)
+rowList profile number [] = []
+rowList profile number (l ∷ ls) = rowOf number (lineUnder profile l) ∷ rowList profile (number + 1) ls
 
 unfoldable pub joined : List (List ℕ) → List ℕ
 joined [] = []
@@ -43,12 +44,12 @@ abbrev pub lineIn : List ℕ → List ℕ
 lineIn piece = cond (endsInLF piece) (withoutCR (take (length piece - 1) piece)) piece
 
 -- each line appears once, in order: row k is line k's, and there is no other row but the totals
-pub record Once (text : List ℕ) : Type 0 where
+pub record Once (profile : Profile) (text : List ℕ) : Type 0 where
   -- the pieces are the input, and the lines are theirs: no byte is lost, none is read twice
   pub pieces : joined (piecesFrom [] text) ≡ text
   pub lines : linesOf text ≡ map lineIn (piecesFrom [] text)
-  pub rows : ledgerOf text ≡ joined (rowList 1 (linesOf text)) ++ totalsOf (linesOf text)
-  pub many : length (rowList 1 (linesOf text)) ≡ length (linesOf text)
-  pub each : (k : ℕ) → k < length (linesOf text) → getD (rowList 1 (linesOf text)) k [] ≡ rowOf (1 + k) (lineOf (getD (linesOf text) k []))
+  pub rows : ledgerOf profile text ≡ joined (rowList profile 1 (linesOf text)) ++ totalsOf profile (linesOf text)
+  pub many : length (rowList profile 1 (linesOf text)) ≡ length (linesOf text)
+  pub each : (k : ℕ) → k < length (linesOf text) → getD (rowList profile 1 (linesOf text)) k [] ≡ rowOf (1 + k) (lineUnder profile (getD (linesOf text) k []))
   -- loaded + refused = lines
-  pub counts : loadedIn (linesOf text) + refusedIn (linesOf text) ≡ length (linesOf text)
+  pub counts : loadedIn profile (linesOf text) + refusedIn profile (linesOf text) ≡ length (linesOf text)

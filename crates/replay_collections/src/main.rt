@@ -3,6 +3,7 @@
 use ledger_feed::Fed;
 use ledger_feed::SoFar;
 use ledger_finish::Finished;
+use line_profile::Profile;
 use score_collection::Gathered;
 use score_collection::Piece;
 use score_row::ErrorWritten;
@@ -88,7 +89,7 @@ fn feed(state: Both, line: &mut [u8], other: &mut [u8], chunk: &[u8]) -> Both {
 
 fn feed_ledger(state: SoFar, line: &mut [u8], chunk: &[u8]) -> SoFar {
     let mut out = [0u8; 32];
-    match ledger_feed::feed(state, line, chunk, &mut out) {
+    match ledger_feed::feed(Profile::Any, state, line, chunk, &mut out) {
         Fed::Rows(next, wrote) => {
             put(&out, wrote);
             next
@@ -108,7 +109,7 @@ fn feed_error(gathered: Gathered, line: &mut [u8], chunk: &[u8]) -> Gathered {
 
 fn finish(state: SoFar, line: &[u8]) {
     let mut out = [0u8; 116];
-    if let Finished::Rows(wrote) = ledger_finish::finish(state, line, &mut out) {
+    if let Finished::Rows(wrote) = ledger_finish::finish(Profile::Any, state, line, &mut out) {
         put(&out, wrote);
     }
 }

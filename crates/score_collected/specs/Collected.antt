@@ -13,6 +13,7 @@ use Rattle.line_cut.specs.Lines.{linesOf}
 use Rattle.score.specs.Score.{scoreOf}
 use Rattle.score_errors.specs.Collection.{LoadedLine, freshOf, scoredIn, apartIn}
 use Rattle.score_errors.specs.declared.Totals.{Totals}
+use Rattle.line_profile.specs.declared.Profile.the-variants as P
 use Rattle.ledger_whole.specs.Ledger.{refusedIn}
 use Rattle.score_collection.specs.Answers.{endedPaper}
 use Rattle.score_collection.specs.Promises.{nothing, Gathers, EndsCollection}
@@ -33,8 +34,8 @@ shownIn (l ∷ ls) = shownBefore (lineOf l) (shownIn ls)
 -- THE TOTALS OF A COLLECTION: each worked out afresh from its lines, and how many lines were refused; "22 MANY at the 1,000,001st of either kind or past 64 bits"
 abbrev pub collectionTotals : List (List ℕ) → Answer (Totals × ℕ)
 collectionTotals ls =
-    orRefuse ((leb (scoredIn (shownIn ls)) 1000000 && leb (apartIn (shownIn ls)) 1000000) && ltb (refusedIn ls) (2 ^ 64)) R.Many
-    (given (freshOf (shownIn ls), refusedIn ls))
+    orRefuse ((leb (scoredIn (shownIn ls)) 1000000 && leb (apartIn (shownIn ls)) 1000000) && ltb (refusedIn P.Any ls) (2 ^ 64)) R.Many
+    (given (freshOf (shownIn ls), refusedIn P.Any ls))
 
 abbrev pub collectedOf : List ℕ → Answer (Totals × ℕ)
 collectedOf wholeInput = collectionTotals (linesOf wholeInput)

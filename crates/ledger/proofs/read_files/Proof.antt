@@ -8,11 +8,11 @@ use Rattle.ledger.proofs.read_files.Statement.{statement}
 use Rattle.ledger.proofs.read_files.Tie as tie
 
 abbrev Inv-loop : tie.InvT-loop
-Inv-loop count line₀ chunk₀ out₀ state₀ i₀ line chunk out state i =
+Inv-loop profile files count line₀ chunk₀ out₀ state₀ i₀ line chunk out state i =
     (length chunk ≡ length chunk₀) × (length out ≡ length out₀) × (length line ≡ length line₀)
 
 abbrev μ-loop : tie.MeasureT-loop
-μ-loop count line₀ chunk₀ out₀ state₀ i₀ line chunk out state i = count - i
+μ-loop profile files count line₀ chunk₀ out₀ state₀ i₀ line chunk out state i = count - i
 
 loop-holds : tie.Need-loop-holds Inv-loop μ-loop
 loop-holds c = search needs

@@ -9,11 +9,11 @@ use Rattle.ledger.proofs.read_to_end.Statement.{statement}
 use Rattle.ledger.proofs.read_to_end.Tie as tie
 
 abbrev Inv-loop : tie.InvT-loop
-Inv-loop fd what line₀ chunk₀ out₀ state₀ turns₀ t10 line chunk out state turns =
+Inv-loop profile fd what line₀ chunk₀ out₀ state₀ turns₀ t10 line chunk out state turns =
     (turns ≤ 2 ^ 62) × (length chunk ≡ length chunk₀) × (length out ≡ length out₀) × (length line ≡ length line₀)
 
 abbrev μ-loop : tie.MeasureT-loop
-μ-loop fd what line₀ chunk₀ out₀ state₀ turns₀ t10 line chunk out state turns = 2 ^ 62 - turns
+μ-loop profile fd what line₀ chunk₀ out₀ state₀ turns₀ t10 line chunk out state turns = 2 ^ 62 - turns
 
 loop-holds : tie.Need-loop-holds Inv-loop μ-loop
 loop-holds c = search needs

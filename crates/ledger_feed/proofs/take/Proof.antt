@@ -9,7 +9,7 @@ use lib.ListN.{length}
 use Rattle.line_cut.specs.Cut.{runBy}
 use Rattle.line_cut.specs.Promises.{opened}
 use Rattle.line_cut.proofs.Loop.{next-line}
-use Rattle.line_held.specs.Held.{saidOf}
+use Rattle.line_profile.specs.Under.{saidUnder}
 use Rattle.ledger_close.proofs.Closed.{closed-adds}
 use Rattle.ledger_feed.specs.Machine.{closeRow}
 use Rattle.ledger_feed.proofs.Turn.{Turn, rows, turn-none, turn-less, turn-on, turn-close, turn-end}
@@ -17,16 +17,16 @@ use Rattle.ledger_feed.proofs.take.Statement.{statement}
 use Rattle.ledger_feed.proofs.take.Tie as tie
 
 abbrev Inv-loop : tie.InvT-loop
-Inv-loop line₀ chunk out₀ pst tables begun₀ loaded₀ refused₀ wrote₀ at₀ line out begun loaded refused wrote at =
-    Turn (runBy closeRow (opened begun₀ line₀) (rows loaded₀ refused₀ []) chunk) chunk out₀ line out begun loaded refused wrote at
+Inv-loop profile line₀ chunk out₀ pst tables begun₀ loaded₀ refused₀ wrote₀ at₀ line out begun loaded refused wrote at =
+    Turn profile (runBy (closeRow profile) (opened begun₀ line₀) (rows loaded₀ refused₀ []) chunk) chunk out₀ line out begun loaded refused wrote at
 
 abbrev μ-loop : tie.MeasureT-loop
-μ-loop line₀ chunk out₀ pst tables begun₀ loaded₀ refused₀ wrote₀ at₀ line out begun loaded refused wrote at = length chunk - at
+μ-loop profile line₀ chunk out₀ pst tables begun₀ loaded₀ refused₀ wrote₀ at₀ line out begun loaded refused wrote at = length chunk - at
 
 loop-holds : tie.Need-loop-holds Inv-loop μ-loop
 loop-holds c =
     let a = c .before .before .before .args in
-    turn-none (a .state) (now (a .line)) (now (a .chunk)) (now (a .out)) (c .before .before .before .pre .0)
+    turn-none (a .profile) (a .state) (now (a .line)) (now (a .chunk)) (now (a .out)) (c .before .before .before .pre .0)
 
 next-requires : tie.Need-next-requires Inv-loop μ-loop
 next-requires c κs = search needs
@@ -74,8 +74,9 @@ loop-less c =
     let a = c .before .before .before .before .before .before .before .before .before .before .before .before .before .before .before .before .before .before .before .args in
     let l = c .before .before .before .before .before .before .before .before .before .before .before .before .before .before .before .loop in
     let n = c .before .before .before .before .before .before .before .before .before .before .before .before .next in
-    let h = turn-less (runBy closeRow (opened (record { held = a .state .held; cr = a .state .cr }) (now (a .line))) (rows (a .state .loaded) (a .state .refused) []) (now (a .chunk))) (now (a .chunk)) (now (a .out)) (l .line) (l .out) (l .begun) (l .loaded) (l .refused) (l .wrote) (l .at) (omega arith) (l .inv) (n .result) (n .last .1 .0) (n .ensures) in
-    omega (arith, h)
+    let more = c .before .before .before .before .before .before .before .before .before .before .before .before .before .before .loop-test .taken in
+    let h = turn-less (a .profile) (runBy (closeRow (a .profile)) (opened (record { held = a .state .held; cr = a .state .cr }) (now (a .line))) (rows (a .state .loaded) (a .state .refused) []) (now (a .chunk))) (now (a .chunk)) (now (a .out)) (l .line) (l .out) (l .begun) (l .loaded) (l .refused) (l .wrote) (l .at) more (l .inv) (n .result) (n .last .1 .0) (n .ensures) in
+    omega (arith, h, more)
 
 loop-again : tie.Need-loop-again Inv-loop μ-loop
 loop-again c =
@@ -83,10 +84,10 @@ loop-again c =
     let l = c .before .before .before .before .before .before .before .before .before .before .before .before .before .before .before .loop in
     let n = c .before .before .before .before .before .before .before .before .before .before .before .before .next in
     let k = c .before .before .before .before .before .close in
-    let said = saidOf (n .last .1 .0) (n .result .size) in
-    turn-close (runBy closeRow (opened (record { held = a .state .held; cr = a .state .cr }) (now (a .line))) (rows (a .state .loaded) (a .state .refused) []) (now (a .chunk))) (now (a .chunk)) (now (a .out)) (l .line) (l .out) (l .begun) (l .loaded) (l .refused) (l .wrote) (l .at) (c .before .before .before .before .before .before .before .before .before .before .before .before .before .before .loop-test .taken) (l .inv) (n .result) (n .last .1 .0) (n .ensures)
-    (c .before .before .before .before .before .before .before .before .if1 .taken) (k .last .1 .1 .1 .0) (c .before .before .or .result)
-    (closed-adds (now (a .tables)) (now (a .pst)) (c .before .before .before .before .before .before .before .before .before .before .before .before .before .before .before .before .before .before .before .pre .1) (c .before .before .before .before .before .before .before .before .before .before .before .before .before .before .before .before .before .before .before .pre .2) (l .loaded + l .refused + 1) (l .out) (k .last .1 .1 .1 .0) (l .wrote) said (k .result) (k .ensures) (c .before .before .or .result) (c .before .before .or .ensures))
+    let said = saidUnder (a .profile) (n .last .1 .0) (n .result .size) in
+    turn-close (a .profile) (runBy (closeRow (a .profile)) (opened (record { held = a .state .held; cr = a .state .cr }) (now (a .line))) (rows (a .state .loaded) (a .state .refused) []) (now (a .chunk))) (now (a .chunk)) (now (a .out)) (l .line) (l .out) (l .begun) (l .loaded) (l .refused) (l .wrote) (l .at) (c .before .before .before .before .before .before .before .before .before .before .before .before .before .before .loop-test .taken) (l .inv) (n .result) (n .last .1 .0) (n .ensures)
+    (c .before .before .before .before .before .before .before .before .if1 .taken) (k .last .1 .1 .1 .1 .0) (c .before .before .or .result)
+    (closed-adds (now (a .tables)) (now (a .pst)) (c .before .before .before .before .before .before .before .before .before .before .before .before .before .before .before .before .before .before .before .pre .1) (c .before .before .before .before .before .before .before .before .before .before .before .before .before .before .before .before .before .before .before .pre .2) (l .loaded + l .refused + 1) (l .out) (k .last .1 .1 .1 .1 .0) (l .wrote) said (k .result) (k .ensures) (c .before .before .or .result) (c .before .before .or .ensures))
     (k .result .loaded) (k .ensures .loaded) (c .before .tally .result) (c .tally2 .result) (c .before .tally .ensures) (c .tally2 .ensures)
 
 loop-less-2 : tie.Need-loop-less-2 Inv-loop μ-loop
@@ -94,7 +95,7 @@ loop-less-2 c =
     let a = c .before .before .before .before .before .before .before .before .before .before .before .args in
     let l = c .before .before .before .before .before .before .before .loop in
     let n = c .before .before .before .before .next in
-    let h = turn-less (runBy closeRow (opened (record { held = a .state .held; cr = a .state .cr }) (now (a .line))) (rows (a .state .loaded) (a .state .refused) []) (now (a .chunk))) (now (a .chunk)) (now (a .out)) (l .line) (l .out) (l .begun) (l .loaded) (l .refused) (l .wrote) (l .at) (omega arith) (l .inv) (n .result) (n .last .1 .0) (n .ensures) in
+    let h = turn-less (a .profile) (runBy (closeRow (a .profile)) (opened (record { held = a .state .held; cr = a .state .cr }) (now (a .line))) (rows (a .state .loaded) (a .state .refused) []) (now (a .chunk))) (now (a .chunk)) (now (a .out)) (l .line) (l .out) (l .begun) (l .loaded) (l .refused) (l .wrote) (l .at) (omega arith) (l .inv) (n .result) (n .last .1 .0) (n .ensures) in
     omega (arith, h)
 
 loop-again-2 : tie.Need-loop-again-2 Inv-loop μ-loop
@@ -102,7 +103,7 @@ loop-again-2 c =
     let a = c .before .before .before .before .before .before .before .before .before .before .before .args in
     let l = c .before .before .before .before .before .before .before .loop in
     let n = c .before .before .before .before .next in
-    turn-on (runBy closeRow (opened (record { held = a .state .held; cr = a .state .cr }) (now (a .line))) (rows (a .state .loaded) (a .state .refused) []) (now (a .chunk))) (now (a .chunk)) (now (a .out)) (l .line) (l .out) (l .begun) (l .loaded) (l .refused) (l .wrote) (l .at) (omega arith) (l .inv) (n .result) (n .last .1 .0) (n .ensures) (c .if1 .left)
+    turn-on (a .profile) (runBy (closeRow (a .profile)) (opened (record { held = a .state .held; cr = a .state .cr }) (now (a .line))) (rows (a .state .loaded) (a .state .refused) []) (now (a .chunk))) (now (a .chunk)) (now (a .out)) (l .line) (l .out) (l .begun) (l .loaded) (l .refused) (l .wrote) (l .at) (omega arith) (l .inv) (n .result) (n .last .1 .0) (n .ensures) (c .if1 .left)
 
 made-requires : tie.Need-made-requires Inv-loop μ-loop
 made-requires c κs = search needs
@@ -117,7 +118,7 @@ returns : tie.Need-returns Inv-loop μ-loop
 returns c =
     let a = c .before .before .before .before .before .before .args in
     let l = c .before .before .loop in
-    turn-end (a .state) (now (a .line)) (now (a .chunk)) (now (a .out)) (l .line) (l .out) (l .begun) (l .loaded) (l .refused) (l .wrote) (l .at) (omega arith) (l .inv)
+    turn-end (a .profile) (a .state) (now (a .line)) (now (a .chunk)) (now (a .out)) (l .line) (l .out) (l .begun) (l .loaded) (l .refused) (l .wrote) (l .at) (omega arith) (l .inv)
     (c .made .result) (c .made .ensures)
 
 pub take-spec : {M : Type 1} → statement M

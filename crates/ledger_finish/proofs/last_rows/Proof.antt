@@ -9,7 +9,7 @@ use denote.Ref.{now}
 use Rattle.text_out.specs.Text.{Adds}
 use Rattle.text_out.proofs.Added.{adds-or}
 use Rattle.ledger_totals.specs.Totals.{lastRow}
-use Rattle.line_held.specs.Held.{saidOf}
+use Rattle.line_profile.specs.Under.{saidUnder}
 use Rattle.ledger_close.proofs.Closed.{closed-adds}
 use Rattle.ledger_finish.proofs.Doors.{finished-none, finished-adds, one-unfinished}
 use Rattle.ledger_finish.proofs.last_rows.Statement.{statement}
@@ -31,7 +31,7 @@ returns : tie.Need-returns
 returns c =
     let a = c .before .before .before .before .before .before .before .before .before .before .args in
     let p = c .before .before .before .last in
-    subst (λ (t : List ℕ). Adds (now (a .out)) 0 t (p .last .1 .1 .1 .0) (c .or .result)) (finished-none (a .state) (now (a .line)) (c .before .before .before .before .before .before .if1 .taken))
+    subst (λ (t : List ℕ). Adds (now (a .out)) 0 t (p .last .1 .1 .1 .0) (c .or .result)) (finished-none (a .profile) (a .state) (now (a .line)) (c .before .before .before .before .before .before .if1 .taken))
     (adds-or (now (a .out)) 0 (lastRow (a .state .loaded + a .state .refused) (a .state .loaded) (a .state .refused)) (p .last .1 .1 .1 .0) (p .result) (c .or .result) (p .ensures) (c .or .ensures))
 
 add-lines : tie.Need-add-lines
@@ -78,10 +78,10 @@ returns-2 c =
     let k = c .before .before .before .before .before .before .before .before .before .before .close in
     let first = c .before .before .before .before .before .before .before .or2 in
     let p = c .before .before .before .last2 in
-    finished-adds (a .state) (now (a .line)) (c .before .before .before .before .before .before .before .before .before .before .before .before .before .before .before .before .before .if1 .left) true (sym (c .before .before .before .before .before .before .if2 .taken) ∙ k .ensures .loaded)
-    (now (a .out)) (k .last .1 .1 .1 .0) (p .last .1 .1 .1 .0) (first .result) (c .or3 .result) (c .before .before .before .before .before .before .before .before .before .before .before .before .before .before .before .before .before .before .before .before .before .pre .0)
-    (closed-adds _ _ (c .before .before .before .before .before .before .before .before .before .before .before .before .before .before .tables .ensures) (c .before .before .before .before .before .before .before .before .before .before .before .before .before .before .before .table .ensures) lines (now (a .out)) (k .last .1 .1 .1 .0) 0 (saidOf (now (a .line)) (a .state .held)) (k .result) (k .ensures) (first .result) (first .ensures))
-    (adds-or (k .last .1 .1 .1 .0) (first .result) (lastRow lines (a .state .loaded + 1) (a .state .refused)) (p .last .1 .1 .1 .0) (p .result) (c .or3 .result) (p .ensures) (c .or3 .ensures))
+    finished-adds (a .profile) (a .state) (now (a .line)) (c .before .before .before .before .before .before .before .before .before .before .before .before .before .before .before .before .before .if1 .left) true (sym (c .before .before .before .before .before .before .if2 .taken) ∙ k .ensures .loaded)
+    (now (a .out)) (k .last .1 .1 .1 .1 .0) (p .last .1 .1 .1 .0) (first .result) (c .or3 .result) (c .before .before .before .before .before .before .before .before .before .before .before .before .before .before .before .before .before .before .before .before .before .pre .0)
+    (closed-adds _ _ (c .before .before .before .before .before .before .before .before .before .before .before .before .before .before .tables .ensures) (c .before .before .before .before .before .before .before .before .before .before .before .before .before .before .before .table .ensures) lines (now (a .out)) (k .last .1 .1 .1 .1 .0) 0 (saidUnder (a .profile) (now (a .line)) (a .state .held)) (k .result) (k .ensures) (first .result) (first .ensures))
+    (adds-or (k .last .1 .1 .1 .1 .0) (first .result) (lastRow lines (a .state .loaded + 1) (a .state .refused)) (p .last .1 .1 .1 .0) (p .result) (c .or3 .result) (p .ensures) (c .or3 .ensures))
 
 add-last-3 : tie.Need-add-last-3
 add-last-3 c =
@@ -104,10 +104,10 @@ returns-3 c =
     let k = c .before .before .before .before .before .before .before .before .before .before .close in
     let first = c .before .before .before .before .before .before .before .or2 in
     let p = c .before .before .before .last3 in
-    finished-adds (a .state) (now (a .line)) (c .before .before .before .before .before .before .before .before .before .before .before .before .before .before .before .before .before .if1 .left) false (sym (c .before .before .before .before .before .before .if2 .left) ∙ k .ensures .loaded)
-    (now (a .out)) (k .last .1 .1 .1 .0) (p .last .1 .1 .1 .0) (first .result) (c .or4 .result) (c .before .before .before .before .before .before .before .before .before .before .before .before .before .before .before .before .before .before .before .before .before .pre .0)
-    (closed-adds _ _ (c .before .before .before .before .before .before .before .before .before .before .before .before .before .before .tables .ensures) (c .before .before .before .before .before .before .before .before .before .before .before .before .before .before .before .table .ensures) lines (now (a .out)) (k .last .1 .1 .1 .0) 0 (saidOf (now (a .line)) (a .state .held)) (k .result) (k .ensures) (first .result) (first .ensures))
-    (adds-or (k .last .1 .1 .1 .0) (first .result) (lastRow lines (a .state .loaded) (a .state .refused + 1)) (p .last .1 .1 .1 .0) (p .result) (c .or4 .result) (p .ensures) (c .or4 .ensures))
+    finished-adds (a .profile) (a .state) (now (a .line)) (c .before .before .before .before .before .before .before .before .before .before .before .before .before .before .before .before .before .if1 .left) false (sym (c .before .before .before .before .before .before .if2 .left) ∙ k .ensures .loaded)
+    (now (a .out)) (k .last .1 .1 .1 .1 .0) (p .last .1 .1 .1 .0) (first .result) (c .or4 .result) (c .before .before .before .before .before .before .before .before .before .before .before .before .before .before .before .before .before .before .before .before .before .pre .0)
+    (closed-adds _ _ (c .before .before .before .before .before .before .before .before .before .before .before .before .before .before .tables .ensures) (c .before .before .before .before .before .before .before .before .before .before .before .before .before .before .before .table .ensures) lines (now (a .out)) (k .last .1 .1 .1 .1 .0) 0 (saidUnder (a .profile) (now (a .line)) (a .state .held)) (k .result) (k .ensures) (first .result) (first .ensures))
+    (adds-or (k .last .1 .1 .1 .1 .0) (first .result) (lastRow lines (a .state .loaded) (a .state .refused + 1)) (p .last .1 .1 .1 .0) (p .result) (c .or4 .result) (p .ensures) (c .or4 .ensures))
 
 pub last-rows-spec : {M : Type 1} → statement M
 last-rows-spec =

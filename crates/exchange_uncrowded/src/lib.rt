@@ -1,0 +1,1 @@
+// No position from real play is refused as CROWD. No code.

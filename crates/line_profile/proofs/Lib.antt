@@ -1,0 +1,4 @@
+pub mod Judged
+pub mod Lent
+pub mod Determined
+pub mod Examples

@@ -1,0 +1,4 @@
+pub mod Rules
+pub mod Exactly
+pub mod Determined
+pub mod Examples

@@ -1,0 +1,11 @@
+-- The public function is determined by its promise: two answers, and two buffers, that it allows are equal. Assumes nothing.
+use mathlib.Core.Path.{_≡_}
+use mathlib.Core.List.{List}
+use Prim.Native.Nat.{ℕ}
+use Rattle.ledger_row.specs.declared.Row.{Row}
+use Rattle.ledger_row.proofs.Determined.{puts-row}
+use Rattle.captures_close.specs.Answered.{answerRows, heldAnswer, AnswersHeld}
+
+pub close : (old new new′ : List ℕ) (at number : ℕ) (line : List ℕ) (size : ℕ) (r s : Row)
+    → AnswersHeld old new at number line size r → AnswersHeld old new′ at number line size s → (r ≡ s) × (new ≡ new′)
+close old new new′ at number line size r s = puts-row old new new′ at (heldAnswer line size) (answerRows number (heldAnswer line size)) r s

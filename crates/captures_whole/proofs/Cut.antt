@@ -1,0 +1,197 @@
+-- THE ROWS OF ALL QUESTIONS, however the input is cut: the calls of `feed` and `finish` write what the machine writes over the whole input. Assumes nothing.
+use mathlib.Core.Path.{_≡_, refl, sym, ap, ap₂, subst, _∙_}
+use mathlib.Core.Bool.{Bool, true, false, cond, not}
+use mathlib.Core.List.{List, [], _∷_, _++_, append-assoc, append-nil}
+use Prim.Native.Nat.{ℕ, suc, _+_, _*_, _^_, _≤_, _<_}
+use native.Mathlib.Nat.{add-zero, zero-add}
+use native.Mathlib.Omega.{arith}
+use lib.Dec.{ltb, leb, eqb}
+use lib.ListN.{length, take}
+use borrow.Author.Tests.{lt-ltb, le-leb}
+use Rattle.refusal.specs.Answer.{Answer}
+use Rattle.exchange.specs.Exchange.{Capture}
+use Rattle.exchange_value.proofs.Stopping.{adds-up}
+use Rattle.exchange_told.specs.Told.{valuesTaken}
+use Rattle.ledger_row.specs.Row.{isLoaded}
+use Rattle.text_out.specs.Text.{writtenOf, roomFor}
+use Rattle.text_out.proofs.Wrote.{written-front}
+use Rattle.line_cut.specs.Lines.{lf, ends}
+use Rattle.line_cut.specs.Cut.{Open, lineEmptied, pushed, bareOf, CutSoFar, runBy}
+use Rattle.line_cut.proofs.Machine.{run-append, run-told, run-size}
+use Rattle.line_cut.proofs.Counted.{ends-append}
+use Rattle.ledger_feed.specs.Machine.{Machine, Kept, at, openOf, keptOf, machineOf, tally}
+use Rattle.ledger_feed.specs.Promises.{Came, came, fed, cameByValue, lineAfter, textAfter, wrote, stateOf}
+use Rattle.ledger_feed.specs.declared.SoFar.{SoFar}
+use Rattle.ledger_feed.specs.declared.Fed.{Fed}
+use Rattle.ledger_feed.specs.declared.Fed.the-variants as F
+use Rattle.ledger_feed.proofs.Counted.{tally-both}
+use Rattle.ledger_feed.proofs.Doors.{fit-came}
+use Rattle.ledger_finish.specs.Promises.{lastLines, finishPaper, lengthOf, lastText}
+use Rattle.ledger_finish.specs.declared.Finished.{Finished}
+use Rattle.ledger_finish.specs.declared.Finished.the-variants as E
+use Rattle.ledger_whole.proofs.Machines.{linesIn}
+use Rattle.ledger_whole.specs.Calls.{Call, Last, next, rowsOf, lastRowsOf, allWritten, input, fresh}
+use Rattle.captures_question.specs.Question.{questionOf}
+use Rattle.captures_row.specs.Rows.{countsRow}
+use Rattle.captures_close.specs.Answered.{answerRows, heldAnswer}
+use Rattle.captures_feed.specs.Machine.{closeTold, runTold, lastTold, finishedTold}
+use Rattle.captures_feed.specs.Promises.{tellOf, TellsQuestions, lastOf, TellsLast}
+use Rattle.captures_feed.proofs.Turn.{finished-2132}
+use Rattle.captures_whole.specs.Questions.{toldIn, untoldIn}
+use Rattle.captures_whole.specs.Whole.{TellsMade, RoomyTold, WholeTold, Told}
+use Rattle.captures_whole.proofs.Machines.{machine-answers, machine-lines}
+
+-- ---- each call begins with no text: the texts that the calls write are joined
+abbrev shift : List ℕ → Kept → Kept
+shift t r = record { loaded = r .loaded; refused = r .refused; text = t ++ r .text }
+
+close-shift : (t : List ℕ) (r : Kept) (line : List ℕ) (size : ℕ) → closeTold (shift t r) line size ≡ shift t (closeTold r line size)
+close-shift t r line size =
+    let a : Answer (List Capture) = heldAnswer line size in
+    ap (λ (u : List ℕ). record { loaded = tally (r .loaded) (isLoaded a); refused = tally (r .refused) (not (isLoaded a)); text = u })
+    (append-assoc t (r .text) (answerRows (r .loaded + r .refused + 1) a))
+
+abbrev after : List ℕ → Machine → Machine
+after t m = record { line = m .line; held = m .held; cr = m .cr; loaded = m .loaded; refused = m .refused; text = t ++ m .text }
+
+run-after : (t : List ℕ) (m : Machine) (s : List ℕ) → runTold (after t m) s ≡ after t (runTold m s)
+run-after t m s = ap machineOf (run-told (shift t) closeTold closeTold (close-shift t) (openOf m) (keptOf m) s)
+
+finished-after : (t : List ℕ) (m : Machine) → finishedTold (after t m) ≡ t ++ finishedTold m
+finished-after t m = go (ltb 0 (m .held))
+  where
+    r : Kept
+    r = closeTold (keptOf m) (m .line) (m .held)
+
+    go : (x : Bool) → lastTold (cond x (closeTold (shift t (keptOf m)) (m .line) (m .held)) (shift t (keptOf m))) ≡ t ++ lastTold (cond x r (keptOf m))
+    go true = ap lastTold (close-shift t (keptOf m) (m .line) (m .held)) ∙ append-assoc t (r .text) (countsRow (r .loaded + r .refused) (r .loaded) (r .refused))
+    go false = append-assoc t (m .text) (countsRow (m .loaded + m .refused) (m .loaded) (m .refused))
+
+-- a machine is what it has written, and the machine that has written nothing
+abbrev quiet : Machine → Machine
+quiet m = at (stateOf m) (m .line) []
+
+split : (m : Machine) → m ≡ after (m .text) (quiet m)
+split m = ap (λ (t : List ℕ). record { line = m .line; held = m .held; cr = m .cr; loaded = m .loaded; refused = m .refused; text = t }) (sym (append-nil (m .text)))
+
+pieces : (m : Machine) (s t : List ℕ) → runTold m (s ++ t) ≡ after (runTold m s .text) (runTold (quiet (runTold m s)) t)
+pieces m s t =
+    ap machineOf (run-append closeTold (openOf m) (keptOf m) s t) ∙ ap (λ (x : Machine). runTold x t) (split (runTold m s)) ∙ run-after (runTold m s .text) (quiet (runTold m s)) t
+
+-- ---- how many lines were counted
+run-counts : (o : Open) (r : Kept) (s : List ℕ) → runBy closeTold o r s .kept .loaded + runBy closeTold o r s .kept .refused ≡ r .loaded + r .refused + ends s
+unfolding runBy ends
+run-counts o r [] = sym (add-zero (r .loaded + r .refused))
+run-counts o r (b ∷ s) = go (eqb b lf) (run-counts (lineEmptied o) (closeTold r (o .line) (bareOf (o .held) (o .cr))) s) (run-counts (pushed o b) r s)
+  where
+    a : Answer (List Capture)
+    a = heldAnswer (o .line) (bareOf (o .held) (o .cr))
+
+    e : CutSoFar Kept
+    e = runBy closeTold (lineEmptied o) (closeTold r (o .line) (bareOf (o .held) (o .cr))) s
+
+    f : CutSoFar Kept
+    f = runBy closeTold (pushed o b) r s
+
+    go : (x : Bool)
+        → e .kept .loaded + e .kept .refused ≡ tally (r .loaded) (isLoaded a) + tally (r .refused) (not (isLoaded a)) + ends s
+        → f .kept .loaded + f .kept .refused ≡ r .loaded + r .refused + ends s
+        → cond x e f .kept .loaded + cond x e f .kept .refused ≡ r .loaded + r .refused + cond x (ends s + 1) (ends s)
+    go true p q = p ∙ (let both = tally-both (isLoaded a) (r .loaded) (r .refused) in omega arith)
+    go false p q = q
+
+-- ---- a call with room
+taken : (out out′ text : List ℕ) → out′ ≡ writtenOf out 0 text → length text ≤ length out → take (length text) out′ ≡ text
+taken out out′ text e h =
+    ap (take (length text)) e ∙ ap (λ (n : ℕ). take n (writtenOf out 0 text)) (sym (zero-add (length text)))
+    ∙ written-front out 0 text (let z : 0 + length text ≤ length out = omega arith in z)
+
+rows-of : (r : Fed) (state : SoFar) (n : ℕ) → fed r ≡ came (state, n) → r ≡ F.Rows state n
+rows-of (F.Rows s k) state n e =
+    let both : _≡_ {A = SoFar × ℕ} (s, k) (state, n) = cc in
+    ap₂ F.Rows (ap (λ (p : SoFar × ℕ). p .0) both) (ap (λ (p : SoFar × ℕ). p .1) both)
+rows-of F.Full state n e = absurd (let z : _≡_ {A = ℕ} 0 1 = cc in omega arith)
+rows-of F.Many state n e = absurd (let z : _≡_ {A = ℕ} 0 1 = cc in omega arith)
+rows-of (F.Refused q) state n e = absurd (let z : _≡_ {A = ℕ} 0 1 = cc in omega arith)
+
+last-of : (r : Finished) (n : ℕ) → finishPaper r ≡ came n → r ≡ E.Rows n
+last-of (E.Rows k) n e = ap E.Rows (cc)
+last-of E.Full n e = absurd (let z : _≡_ {A = ℕ} 0 1 = cc in omega arith)
+last-of E.Many n e = absurd (let z : _≡_ {A = ℕ} 0 1 = cc in omega arith)
+last-of (E.Refused q) n e = absurd (let z : _≡_ {A = ℕ} 0 1 = cc in omega arith)
+
+-- what a call hands on
+record Given (m : Machine) (r : Fed) (line′ out′ : List ℕ) : Type 0 where
+  answer : r ≡ F.Rows (stateOf m) (length (m .text))
+  kept : line′ ≡ m .line
+  rows : rowsOf r out′ ≡ m .text
+
+feed-given : (state : SoFar) (line chunk out : List ℕ) (r : Fed) (line′ out′ : List ℕ) → TellsQuestions state line chunk out r line′ out′
+    → length line ≡ 256 → state .loaded + state .refused + ends chunk < 2 ^ 64 → 2048 * ends chunk ≤ length out → Given (runTold (at state line []) chunk) r line′ out′
+feed-given state line chunk out r line′ out′ f size counts room =
+    let m : Machine = runTold (at state line []) chunk in
+    let e : tellOf state line chunk out ≡ came m =
+    fit-came line (state .loaded + state .refused + ends chunk) (leb (2048 * ends chunk) (length out)) m size
+    (lt-ltb (state .loaded + state .refused + ends chunk) (2 ^ 64) counts) (le-leb (2048 * ends chunk) (length out) room) in
+    let a : r ≡ F.Rows (stateOf m) (length (m .text)) = rows-of r (stateOf m) (length (m .text)) (f .answer ∙ ap cameByValue e) in
+    let h : length (m .text) ≤ length out = subst (λ (q : Fed). wrote (fed q) ≤ length out) a (f .within) in
+    record {
+      answer = a;
+      kept = f .kept ∙ ap (λ (x : Came Machine). lineAfter x line) e;
+      rows =
+          ap (λ (q : Fed). rowsOf q out′) a
+          ∙ taken out out′ (m .text) (f .rows ∙ ap (λ (x : Came Machine). writtenOf out 0 (textAfter x)) e) h;
+    }
+
+finish-given : (state : SoFar) (line out : List ℕ) (r : Finished) (out′ : List ℕ) → TellsLast state line out r out′
+    → length line ≡ 256 → lastLines state < 2 ^ 64 → 2132 ≤ length out → lastRowsOf r out′ ≡ finishedTold (at state line [])
+finish-given state line out r out′ f size counts room =
+    let t : List ℕ = finishedTold (at state line []) in
+    let h : 0 + length t ≤ 2132 = finished-2132 state line in
+    let e : lastOf state line out ≡ came t =
+    fit-came line (lastLines state) (roomFor out 0 t) t size (lt-ltb (lastLines state) (2 ^ 64) counts) (le-leb (0 + length t) (length out) (omega arith)) in
+    ap (λ (q : Finished). lastRowsOf q out′) (last-of r (length t) (f .answer ∙ ap lengthOf e))
+    ∙ taken out out′ t (f .rows ∙ ap (λ (x : Came (List ℕ)). writtenOf out 0 (lastText x)) e) (omega arith)
+
+-- ---- all calls
+less : (a b c d : ℕ) (n : ℕ) → a ≡ b + (c + d) → a + n < 2 ^ 64 → b + c < 2 ^ 64
+less a b c d n e h = omega arith
+
+all : (state : SoFar) (line : List ℕ) (calls : List Call) (last : Last) → length line ≡ 256 → RoomyTold calls last
+    → linesIn (runTold (at state line []) (input calls)) < 2 ^ 64 → TellsMade state line calls last
+    → allWritten calls last ≡ finishedTold (runTold (at state line []) (input calls))
+unfolding runBy input RoomyTold TellsMade allWritten
+all state line [] last size room counts made = finish-given state line (last .out) (last .finished) (last .out′) made size counts room
+all state line (c ∷ cs) last size room counts made =
+    let m : Machine = runTold (at state line []) (c .chunk) in
+    let s : List ℕ = input cs in
+    let cut : runTold (at state line []) (c .chunk ++ s) ≡ after (m .text) (runTold (quiet m) s) = pieces (at state line []) (c .chunk) s in
+    let total = run-counts (openOf (at state line [])) (keptOf (at state line [])) (c .chunk ++ s) ∙ ap (λ (n : ℕ). state .loaded + state .refused + n) (ends-append (c .chunk) s) in
+    let g = feed-given state line (c .chunk) (c .out) (c .fed) (c .line′) (c .out′) (made .0) size
+    (less _ (state .loaded + state .refused) (ends (c .chunk)) (ends s) _ total counts) (room .0) in
+    let rest : TellsMade (stateOf m) (m .line) cs last =
+    subst (λ (l : List ℕ). TellsMade (stateOf m) l cs last) (g .kept)
+    (subst (λ (r : Fed). TellsMade (next r state) (c .line′) cs last) (g .answer) (made .1)) in
+    ap₂ _++_ (g .rows)
+    (all (stateOf m) (m .line) cs last (run-size closeTold (openOf (at state line [])) (keptOf (at state line [])) (c .chunk) ∙ size) (room .1) (subst (λ (n : ℕ). n < 2 ^ 64) (ap linesIn cut) counts) rest)
+    ∙ sym (finished-after (m .text) (runTold (quiet m) s)) ∙ sym (ap finishedTold cut)
+
+-- the claim, for every line buffer and all calls
+pub rows-of-whole : (line : List ℕ) (calls : List Call) (last : Last) → WholeTold line calls last
+rows-of-whole line calls last = record {
+  rows = λ size room few made. all fresh line calls last size room (subst (λ (n : ℕ). n < 2 ^ 64) (sym (machine-lines line (input calls) size)) few) made
+      ∙ machine-answers line (input calls) size;
+}
+
+-- ---- every question is counted, told or refused
+both-counts : (qs : List (List ℕ)) → toldIn qs + untoldIn qs ≡ length qs
+unfolding toldIn untoldIn
+both-counts [] = refl
+both-counts (q ∷ qs) = go (isLoaded (questionOf q)) (both-counts qs)
+  where
+    go : (t : Bool) → toldIn qs + untoldIn qs ≡ length qs → cond t 1 0 + toldIn qs + (cond t 0 1 + untoldIn qs) ≡ suc (length qs)
+    go true e = omega arith
+    go false e = omega arith
+
+pub told : (questions : List (List ℕ)) → Told questions
+told questions = record { counts = both-counts questions; worth = λ cs. adds-up (valuesTaken cs) }

@@ -64,7 +64,7 @@ abbrev rowLine : Kept → List ℕ → Kept
 rowLine r l = rowMore r (lineOf l)
 
 -- the rows so far, and the totals of the same lines
-abbrev closing : Kept → List ℕ
+abbrev pub closing : Kept → List ℕ
 closing r = r .text ++ lastRow (r .loaded + r .refused) (r .loaded) (r .refused)
 
 fold-rest : (r : Kept) (ls : List (List ℕ)) → closing (foldLines rowLine r ls) ≡ rest (r .text) (r .loaded) (r .refused) ls
@@ -73,7 +73,7 @@ fold-rest r [] = rest-nil (r .text) (r .loaded) (r .refused)
 fold-rest r (l ∷ ls) = fold-rest (rowLine r l) ls ∙ rest-cons (r .text) (r .loaded) (r .refused) (lineOf l) l ls refl
 
 -- an unfinished line gets its row at the end
-finished-end : (r : CutSoFar Kept) → finished (machineOf r) ≡ closing (endBy closeRow r)
+pub finished-end : (r : CutSoFar Kept) → finished (machineOf r) ≡ closing (endBy closeRow r)
 unfolding finished
 finished-end r = go (ltb 0 (r .left .held))
   where

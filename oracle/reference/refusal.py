@@ -3,11 +3,14 @@
 SHAPE = 1
 # 2 was BOARD. Document 02 has 14 to 16 in its place, and no other refusal has its number.
 SCORE, SQUARE, MOVE, CROWD, TRACE, LONG, BYTE, FIELD, PLACE, SIDE, RESULT, OVERLAP, UNION, BYTEBOARD = range(3, 17)
+LENGTH = 18
+CODE = 19
 ORDER = 20
 ENTRY = 21
 MANY = 22
 ITERATION = 23
 KINGS, PAWNS, PIECES, RANK, CHECK = range(24, 29)
+ABSENT = 32
 
 
 class Refused(Exception):

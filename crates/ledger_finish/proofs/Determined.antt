@@ -24,6 +24,9 @@ finished-back E.Full = refl
 finished-back E.Many = refl
 finished-back (E.Refused q) = ap E.Refused (number-back q)
 
+pub finished-one : (r s : Finished) → finishPaper r ≡ finishPaper s → r ≡ s
+finished-one = retract finishPaper finishedFrom finished-back
+
 pub finish : (profile : Profile) (state : SoFar) (line out : List ℕ) (r s : Finished) (out₁ out₂ : List ℕ)
     → Finishes profile state line out r out₁ → Finishes profile state line out s out₂ → (r ≡ s) × (out₁ ≡ out₂)
-finish profile state line out r s out₁ out₂ p q = (retract finishPaper finishedFrom finished-back r s (one (p .answer) (q .answer)), one (p .rows) (q .rows))
+finish profile state line out r s out₁ out₂ p q = (finished-one r s (one (p .answer) (q .answer)), one (p .rows) (q .rows))

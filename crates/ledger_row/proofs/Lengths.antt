@@ -56,7 +56,7 @@ shown-6 (given (score z)) h = length-short z (h z refl)
 shown-6 (refused n v) h = omega arith
 
 -- ---- a line's refusals have two digits at most
-test-small : {A : Type 0} (holds : Bool) (r : Refusal) (n : ℕ) (v : List ℕ) (rest : Answer A) → (refused n v ≡ rest → n < 100) → refused n v ≡ orRefuse holds r rest → n < 100
+pub test-small : {A : Type 0} (holds : Bool) (r : Refusal) (n : ℕ) (v : List ℕ) (rest : Answer A) → (refused n v ≡ rest → n < 100) → refused n v ≡ orRefuse holds r rest → n < 100
 test-small true r n v rest k e = k e
 test-small false r n v rest k e = let q : n ≡ numberOf r = cc in omega (arith, number-small r)
 
@@ -91,13 +91,13 @@ loaded-32 number half a h k =
     let s = length-append (decimalOf half) (text " ") in
     omega (arith, length-spaced number, length-below 20 0 half (omega arith))
 
-pub row-32 : (number : ℕ) (line : List ℕ) → length (rowOf number (lineOf line)) ≤ 32
+-- by whatever a reader said, where its refusals have two digits and its half points one
+pub answer-32 : (number : ℕ) (a : Answer Line) → ((n : ℕ) (v : List ℕ) → refused n v ≡ a → n < 100) → ((l : Line) → given l ≡ a → l .half < 10) → length (rowOf number a) ≤ 32
 unfolding scoreOf
-row-32 number line = go (lineOf line) refl
-  where
-    go : (a : Answer Line) → a ≡ lineOf line → length (rowOf number a) ≤ 32
-    go (refused n v) e = refused-32 number n (line-small line n v e)
-    go (given l) e =
-        let half = given-spells line l (sym e) .half in
-        loaded-32 number (l .half) (scoreOf (bitboardsOf (l .board)) (l .state)) (omega arith)
-        (shown-6 (scoreOf (bitboardsOf (l .board)) (l .state)) (score-short attacks pstOf (bitboardsOf (l .board)) (l .state .side)))
+answer-32 number (refused n v) few half = refused-32 number n (few n v refl)
+answer-32 number (given l) few half =
+    loaded-32 number (l .half) (scoreOf (bitboardsOf (l .board)) (l .state)) (half l refl)
+    (shown-6 (scoreOf (bitboardsOf (l .board)) (l .state)) (score-short attacks pstOf (bitboardsOf (l .board)) (l .state .side)))
+
+pub row-32 : (number : ℕ) (line : List ℕ) → length (rowOf number (lineOf line)) ≤ 32
+row-32 number line = answer-32 number (lineOf line) (line-small line) (λ l e. let half = given-spells line l (sym e) .half in omega arith)

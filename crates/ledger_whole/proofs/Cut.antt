@@ -101,7 +101,7 @@ run-counts profile o r (b ∷ s) = go (eqb b lf) (run-counts profile (lineEmptie
     go false p q = q
 
 -- ---- a call with room
-taken : (out out′ text : List ℕ) → out′ ≡ writtenOf out 0 text → length text ≤ length out → take (length text) out′ ≡ text
+pub taken : (out out′ text : List ℕ) → out′ ≡ writtenOf out 0 text → length text ≤ length out → take (length text) out′ ≡ text
 taken out out′ text e h =
     ap (take (length text)) e ∙ ap (λ (n : ℕ). take n (writtenOf out 0 text)) (sym (zero-add (length text)))
     ∙ written-front out 0 text (let z : 0 + length text ≤ length out = omega arith in z)
@@ -114,7 +114,7 @@ rows-of F.Full state n e = absurd (let z : _≡_ {A = ℕ} 0 1 = cc in omega ari
 rows-of F.Many state n e = absurd (let z : _≡_ {A = ℕ} 0 1 = cc in omega arith)
 rows-of (F.Refused q) state n e = absurd (let z : _≡_ {A = ℕ} 0 1 = cc in omega arith)
 
-last-of : (r : Finished) (n : ℕ) → finishPaper r ≡ came n → r ≡ E.Rows n
+pub last-of : (r : Finished) (n : ℕ) → finishPaper r ≡ came n → r ≡ E.Rows n
 last-of (E.Rows k) n e = ap E.Rows (cc)
 last-of E.Full n e = absurd (let z : _≡_ {A = ℕ} 0 1 = cc in omega arith)
 last-of E.Many n e = absurd (let z : _≡_ {A = ℕ} 0 1 = cc in omega arith)

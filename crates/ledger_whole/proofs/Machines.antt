@@ -65,7 +65,7 @@ abbrev rowLine : Profile → Kept → List ℕ → Kept
 rowLine profile r l = rowMore r (lineUnder profile l)
 
 -- the rows so far, and the totals of the same lines
-abbrev closing : Kept → List ℕ
+abbrev pub closing : Kept → List ℕ
 closing r = r .text ++ lastRow (r .loaded + r .refused) (r .loaded) (r .refused)
 
 fold-rest : (profile : Profile) (r : Kept) (ls : List (List ℕ)) → closing (foldLines (rowLine profile) r ls) ≡ rest profile (r .text) (r .loaded) (r .refused) ls
@@ -74,7 +74,7 @@ fold-rest profile r [] = rest-nil profile (r .text) (r .loaded) (r .refused)
 fold-rest profile r (l ∷ ls) = fold-rest profile (rowLine profile r l) ls ∙ rest-cons profile (r .text) (r .loaded) (r .refused) (lineUnder profile l) l ls refl
 
 -- an unfinished line gets its row at the end
-finished-end : (profile : Profile) (r : CutSoFar Kept) → finished profile (machineOf r) ≡ closing (endBy (closeRow profile) r)
+pub finished-end : (profile : Profile) (r : CutSoFar Kept) → finished profile (machineOf r) ≡ closing (endBy (closeRow profile) r)
 unfolding finished
 finished-end profile r = go (ltb 0 (r .left .held))
   where

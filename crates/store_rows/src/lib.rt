@@ -1,0 +1,139 @@
+// The ledger's rows for a store, as a machine over bytes: any number of bytes at a time go in, whole rows come out.
+ghost use mathlib.Core.Path.{_≡_};
+ghost use Prim.Native.Nat.{_+_, _/_, _^_, _<_};
+ghost use Rattle.attack_steps.specs.Steps.{stepTables};
+ghost use Rattle.score_pst.specs.Pst.{pstTable};
+ghost use Rattle.ledger_feed.specs.Machine.{tally as tallyOf};
+ghost use Rattle.store_rows.specs.Promises.{BeginsStore, FeedsStore, MakesStore, ReadyStore, TakesStore, RowsPiece};
+use attack_steps::inner::ROWS;
+use chess::square::Square;
+use ledger_row::Row;
+use refusal::Refusal;
+use store_record::inner::RECORD;
+
+// The room that a row takes at most.
+const ROW: usize = 32;
+
+// The pieces so far, and how many bytes of the unfinished one stand in the piece buffer.
+pub struct StoreSoFar {
+    pub held: usize,
+    pub loaded: u64,
+    pub refused: u64,
+}
+
+// The state after a chunk, and how many bytes of rows were written; or why nothing has changed: too little room, counts that
+// would pass 64 bits, or a piece buffer that has not 34 bytes or would hold a whole piece.
+pub enum StoreFed {
+    Rows(StoreSoFar, usize),
+    Full,
+    Many,
+    Refused(Refusal),
+}
+
+// Before anything was read.
+pub fn start() -> StoreSoFar
+    ensures { λ r. ⌜ BeginsStore r ⌝ }
+{
+    StoreSoFar {
+        held: 0,
+        loaded: 0,
+        refused: 0,
+    }
+}
+
+// How many pieces end in so many bytes more.
+fn ends(held: usize, more: usize) -> usize
+    requires { ⌜ held < 34 ⌝ }
+    ensures { λ r. ⌜ r ≡ (held + more) / 34 ⌝ }
+{
+    more / RECORD + (held + more % RECORD) / RECORD
+}
+
+fn tally(n: u64, holds: bool) -> u64
+    requires { ⌜ n + 1 < 2 ^ 64 ⌝ }
+    ensures { λ r. ⌜ r ≡ tallyOf n holds ⌝ }
+{
+    if holds { n + 1 } else { n }
+}
+
+fn made(held: usize, loaded: u64, refused: u64) -> StoreSoFar
+    ensures { λ r. ⌜ MakesStore held loaded refused r ⌝ }
+{
+    StoreSoFar {
+        held,
+        loaded,
+        refused,
+    }
+}
+
+// The row of a piece. The tables of the score are lent.
+fn row(
+    piece: &[u8],
+    number: u64,
+    out: &mut [u8],
+    at: usize,
+    pst: &[i8],
+    tables: &[[u64; Square::COUNT]; ROWS],
+) -> Row
+    ensures { λ r. ⌜ RowsPiece (now (tables .entry)) (now (pst .entry)) (now (out .entry)) (now (out .exit)) at number (now (piece .entry)) r ⌝ }
+{
+    let read = store_record::inner::read(piece);
+    let answer = read.answer;
+    let bitboards = read.bitboards;
+    ledger_row::inner::row(number, answer, &bitboards, out, at, pst, tables)
+}
+
+// The bytes of a chunk, where there is room for their rows: from piece's end to piece's end.
+fn take(
+    state: StoreSoFar,
+    piece: &mut [u8],
+    chunk: &[u8],
+    out: &mut [u8],
+    pst: &[i8],
+    tables: &[[u64; Square::COUNT]; ROWS],
+) -> StoreFed
+    requires { ⌜ ReadyStore state (now piece) (now chunk) (now out) × (now tables ≡ stepTables) × (now pst ≡ pstTable) ⌝ }
+    ensures { λ r. ⌜ TakesStore state (now (piece .entry)) (now (chunk .entry)) (now (out .entry)) r (now (piece .exit)) (now (out .exit)) ⌝ }
+{
+    let mut held = state.held;
+    let mut loaded = state.loaded;
+    let mut refused = state.refused;
+    let mut wrote = 0;
+    let mut at = 0;
+    while at < chunk.len() {
+        let cut = store_cut::next(held, piece, chunk, at);
+        at = cut.at;
+        held = cut.held;
+        if cut.ended {
+            let row = row(piece, loaded + refused + 1, out, wrote, pst, tables);
+            let placed = row.placed;
+            let is_loaded = row.loaded;
+            wrote = placed.or(wrote);
+            loaded = tally(loaded, is_loaded);
+            refused = tally(refused, !is_loaded);
+        }
+    }
+    StoreFed::Rows(made(held, loaded, refused), wrote)
+}
+
+// Takes a chunk of any size: a row for each piece that ends in it. It needs 32 bytes of room for each of them.
+pub fn feed(state: StoreSoFar, piece: &mut [u8], chunk: &[u8], out: &mut [u8]) -> StoreFed
+    ensures { λ r. ⌜ FeedsStore state (now (piece .entry)) (now (chunk .entry)) (now (out .entry)) r (now (piece .exit)) (now (out .exit)) ⌝ }
+{
+    if piece.len() != RECORD {
+        return StoreFed::Refused(Refusal::Shape);
+    }
+    if state.held >= RECORD {
+        return StoreFed::Refused(Refusal::Shape);
+    }
+    let ends = ends(state.held, chunk.len());
+    if !ledger_feed::countable(state.loaded, state.refused, ends) {
+        return StoreFed::Many;
+    }
+    if out.len() / ROW < ends {
+        return StoreFed::Full;
+    }
+    let pst = score_pst::inner::table();
+    let tables = attack_steps::inner::tables();
+    take(state, piece, chunk, out, &pst, &tables)
+}

@@ -34,7 +34,7 @@ typedef struct {
 enum { CHESS_NO_SQUARE = 255 };
 
 /* Refusals. 2 was CHESS_BOARD: 14 to 16 come where it came, with a square, and nothing has its number again.
- * Of those from 17 on ORDER, ENTRY, MANY and ITERATION alone are given yet. */
+ * Of those from 17 on ROOM, ORDER, ENTRY, MANY and ITERATION alone are given yet. */
 enum {
     CHESS_SHAPE = 1,      /* a length, a side, a colour or a piece code that none has */
     CHESS_SCORE = 3,      /* a number leaves 16 bits on the way to the score */

@@ -88,6 +88,12 @@ chess_code chess_read_line(const uint8_t *line, size_t line_length, uint64_t *bi
 /* Where the trimmed position field stands in the line; of length 0, and at 0, exactly if the line is refused. */
 chess_part chess_position_field(const uint8_t *line, size_t line_length);
 
+/* The text of a position at the front of `out`, with `;` and the result of the half points where `request` is not 0, and how many bytes that is; the bytes
+ * after it stay, and neither LF nor NUL is written. 73 bytes hold every position, 81 every line. Where no result is requested the half points are not looked
+ * at. SHAPE, OVERLAP, UNION, BYTEBOARD, RESULT, ROOM. */
+chess_code chess_write_line(const uint64_t *bitboards, size_t bitboards_length, const uint8_t *board, size_t board_length, uint8_t side,
+                            uint8_t request, uint8_t half_points, uint8_t *out, size_t out_length, size_t *length);
+
 /* ---- scores: of a position for the side to move */
 
 /* The verdict: fewer than two kings in all is lost or won; fewer than four pieces and only kings, knights and bishops is drawn; else

@@ -34,7 +34,7 @@ typedef struct {
 enum { CHESS_NO_SQUARE = 255 };
 
 /* Refusals. 2 was CHESS_BOARD: 14 to 16 come where it came, with a square, and nothing has its number again.
- * Of those from 17 on ORDER, ENTRY, MANY, ITERATION, KINGS, PAWNS, PIECES, RANK and CHECK alone are given yet. */
+ * Of those from 17 on ROOM, ORDER, ENTRY, MANY, ITERATION, KINGS, PAWNS, PIECES, RANK and CHECK alone are given yet. */
 enum {
     CHESS_SHAPE = 1,      /* a length, a side, a colour or a piece code that none has */
     CHESS_SCORE = 3,      /* a number leaves 16 bits on the way to the score */
@@ -96,6 +96,12 @@ chess_part chess_position_field(const uint8_t *line, size_t line_length);
 
 /* Whether a position may come from real play, by the same rules: 0 if it may. SHAPE, OVERLAP, UNION, BYTEBOARD, KINGS, PAWNS, PIECES, RANK, CHECK. */
 chess_code chess_profile(const uint64_t *bitboards, size_t bitboards_length, const uint8_t *board, size_t board_length, uint8_t side);
+
+/* The text of a position at the front of `out`, with `;` and the result of the half points where `request` is not 0, and how many bytes that is; the bytes
+ * after it stay, and neither LF nor NUL is written. 73 bytes hold every position, 81 every line. Where no result is requested the half points are not looked
+ * at. SHAPE, OVERLAP, UNION, BYTEBOARD, RESULT, ROOM. */
+chess_code chess_write_line(const uint64_t *bitboards, size_t bitboards_length, const uint8_t *board, size_t board_length, uint8_t side,
+                            uint8_t request, uint8_t half_points, uint8_t *out, size_t out_length, size_t *length);
 
 /* ---- scores: of a position for the side to move */
 

@@ -24,6 +24,7 @@ pub(crate) mod doors {
         pub fn chess_read_profile(line: *const u8, n: usize, bitboards: *mut u64, b: usize, board: *mut u8, s: usize, side: *mut u8, half_points: *mut u8) -> Code;
         pub fn chess_profile(bitboards: *const u64, b: usize, board: *const u8, s: usize, side: u8) -> Code;
         pub fn chess_position_field(line: *const u8, n: usize) -> Part;
+        pub fn chess_write_line(bitboards: *const u64, b: usize, board: *const u8, s: usize, side: u8, request: u8, half_points: u8, out: *mut u8, n: usize, length: *mut usize) -> Code;
         pub fn chess_eval_ending(bitboards: *const u64, b: usize, board: *const u8, s: usize, side: u8, verdict: *mut u8) -> Code;
         pub fn chess_eval_material(bitboards: *const u64, b: usize, board: *const u8, s: usize, side: u8, color: u8, material: *mut i16) -> Code;
         pub fn chess_eval(bitboards: *const u64, b: usize, board: *const u8, s: usize, side: u8, verdict: *mut u8, score: *mut i16) -> Code;
@@ -410,6 +411,25 @@ impl Position {
         let mut worth = 0;
         let code = unsafe { doors::chess_see(self.bitboards.as_ptr(), 14, self.board.as_ptr(), 64, self.side, order.as_ptr(), from, to, &mut worth) };
         given(code, worth)
+    }
+
+    /// The text of the position at the front of `out`, with `;` and the result of half points where some are handed over, and how many bytes that is; the
+    /// bytes after it stay. 73 bytes hold every position, 81 every line. SHAPE, OVERLAP, UNION, BYTEBOARD, RESULT, ROOM.
+    ///
+    /// ```
+    /// let (position, half) = chess_scores::read_line(b"4k3/8/8/8/8/8/4P3/4K3  w - - 0 1;1-0; e4").unwrap();
+    /// let mut line = [0; 81];
+    /// let n = position.write_line(Some(half), &mut line).unwrap();
+    /// assert_eq!(&line[..n], b"4k3/8/8/8/8/8/4P3/4K3 w;1-0");
+    /// ```
+    pub fn write_line(&self, half_points: Option<u8>, out: &mut [u8]) -> Result<usize, Refusal> {
+        let mut length = 0;
+        let code = unsafe {
+            doors::chess_write_line(
+                self.bitboards.as_ptr(), 14, self.board.as_ptr(), 64, self.side, half_points.is_some() as u8, half_points.unwrap_or(0), out.as_mut_ptr(), out.len(), &mut length,
+            )
+        };
+        given(code, length)
     }
 
     /// The captures of that exchange in order, those after the stopping point too, and before which of them it stops, if it does. SHAPE, OVERLAP, UNION, BYTEBOARD, SQUARE, ORDER, MOVE, CROWD.

@@ -46,6 +46,31 @@ fn orders_of_capture() {
 }
 
 #[test]
+fn lines_written() {
+    for line in ["rnbqkbnr/pppppppp/8/8/8/8/PPPPPPPP/RNBQKBNR w;1-0", "4k3/8/8/8/8/8/4P3/4K3 b;1/2-1/2", "8/8/8/8/8/8/8/8 w;0-1"] {
+        let (read, half) = read_line(line.as_bytes()).unwrap();
+        let mut out = [7; 81];
+        assert_eq!(read.write_line(Some(half), &mut out), Ok(line.len()));
+        assert_eq!(&out[..line.len()], line.as_bytes());
+        assert!(out[line.len()..].iter().all(|byte| *byte == 7));
+    }
+    let bare = position("8/8/8/8/8/8/8/8 w");
+    let mut out = [7; 17];
+    assert_eq!(bare.write_line(None, &mut out[..16]), Err(Refusal::Room));
+    assert_eq!(bare.write_line(Some(3), &mut out[..16]), Err(Refusal::Result));
+    assert_eq!(out, [7; 17]);
+    assert_eq!(bare.write_line(None, &mut out), Ok(17));
+    assert_eq!(&out, b"8/8/8/8/8/8/8/8 w");
+    let mut length = 7;
+    // SAFETY: the pointers are those of arrays and a local, with their lengths, and none overlap.
+    let code = unsafe { doors::chess_write_line(bare.bitboards.as_ptr(), 14, bare.board.as_ptr(), 64, bare.side, 0, 3, out.as_mut_ptr(), 17, &mut length) };
+    assert_eq!((code.number, length), (0, 17));
+    let mut odd = bare;
+    odd.board[0] = 2;
+    assert_eq!(odd.write_line(Some(3), &mut out), Err(Refusal::Byteboard(0)));
+}
+
+#[test]
 fn captures_told() {
     let rooks = position("4r3/8/8/4p3/8/8/4R3/4R3 w").captures(&ORDER, 12, 36).unwrap();
     let capture = |from, kind, taken| Capture { from, kind, taken };

@@ -1,4 +1,5 @@
 pub mod Marks
+pub mod Lengths
 pub mod Normal
 pub mod OneText
 pub mod Examples

@@ -1,1 +1,1 @@
-// The text of a board, and that equal positions have equal placement text: definitions and laws. No code.
+// The text of a board and of a line, and that equal positions have equal placement text: definitions and laws. No code.

@@ -1,11 +1,15 @@
 // Reads a collection on standard input and says of each line what the reader makes of it: the file stdout holds what document 01
-// makes of it (oracle/README.md, lines.answers).
+// makes of it (oracle/README.md, lines.answers). A line that is loaded is written, read again and compared, with no word where all is as it was.
 ghost use Prim.Native.Nat.{_≤_};
 ghost use lib.ListN.{length};
 use chess::piece::Piece;
 use chess::square::Square;
 use line_parse::Read;
+use line_write::Wanted;
+use line_write::Written;
+use position::State;
 use refusal::Refusal;
+use text_in::inner::is;
 use text_in::inner::past;
 use text_in::inner::text_before;
 
@@ -54,6 +58,9 @@ fn read(text: &[u8]) {
     match line::read_line(text, &mut bitboards, &mut board) {
         Read::Refused(r) => refused(r, field),
         Read::Position(state, half) => {
+            if !comes_back(&bitboards, &board, state, half) {
+                write(b"written otherwise ");
+            }
             natural(state.side as u64);
             next(half as u64);
             next(blanks(text) as u64);
@@ -62,6 +69,39 @@ fn read(text: &[u8]) {
         }
     }
     write(b"\n");
+}
+
+// No line that is written is longer.
+const LONGEST: usize = 81;
+
+// Whether the line of the position, read again, is the same position with the same half points.
+fn comes_back(bitboards: &[u64], board: &[u8], state: State, half: u8) -> bool {
+    let mut text = [0u8; LONGEST];
+    match line_write::write_line(bitboards, board, state, Wanted::Half(half), &mut text) {
+        Written::Refused(_) => false,
+        Written::Bytes(n) => reads_as(&text, n, board, state, half),
+    }
+}
+
+// Of the buffer the first n bytes are the line.
+fn reads_as(text: &[u8], n: usize, board: &[u8], state: State, half: u8) -> bool {
+    if n > text.len() {
+        return false;
+    }
+    let mut bitboards_read = [0u64; Piece::BOARDS];
+    let mut board_read = [0u8; Square::COUNT];
+    match line::read_line(&text[..n], &mut bitboards_read, &mut board_read) {
+        Read::Refused(_) => false,
+        Read::Position(state_read, half_read) => {
+            if state_read.side != state.side {
+                return false;
+            }
+            if half_read != half {
+                return false;
+            }
+            is(board, &board_read)
+        }
+    }
 }
 
 fn refused(r: Refusal, field: usize) {

@@ -5,6 +5,7 @@ use Prim.Native.Nat.{ℕ}
 use Rattle.position_boards.specs.Boards.{bitboardsOf}
 use Rattle.position.specs.declared.State.{State}
 use Rattle.line_parse.specs.Line.{Line}
+use Rattle.line_text.specs.Lines.{endedLine}
 use Rattle.fit_sample.specs.Sample.{sampleOf}
 use Rattle.sift_form.specs.declared.Form.{Form}
 use Rattle.sift_form.specs.declared.Form.the-variants as F
@@ -12,10 +13,12 @@ use Rattle.sift_form.specs.declared.Form.the-variants as F
 -- the most bytes that are made of a line
 abbrev pub roomOf : Form → ℕ
 roomOf F.Sample = 300
+roomOf F.Text = 82
 
--- the bytes made of a position and half points; none where it is at odds with itself
+-- the bytes made of a position and half points: its sample, none where it is at odds with itself; its line, with LF
 abbrev pub madeFrom : Form → List ℕ → List ℕ → State → ℕ → List ℕ
 madeFrom F.Sample bbs board state half = sampleOf bbs board state half
+madeFrom F.Text bbs board state half = endedLine board state half
 
 -- the bytes made of a loaded line
 abbrev pub madeOf : Form → Line → List ℕ

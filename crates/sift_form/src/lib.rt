@@ -3,9 +3,10 @@ ghost use Rattle.sift_form.specs.Promises.{TakesRoom, MakesForm};
 use position::State;
 use text_out::Placed;
 
-// The forms: a sample for a fit.
+// The forms: a sample for a fit; the line written back, with LF.
 pub enum Form {
     Sample,
+    Text,
 }
 
 // The most bytes that are made of a line.
@@ -14,6 +15,7 @@ pub fn room(form: Form) -> usize
 {
     match form {
         Form::Sample => fit_sample::SAMPLE,
+        Form::Text => line_spell::inner::ENDED,
     }
 }
 
@@ -31,5 +33,6 @@ pub fn make(
 {
     match form {
         Form::Sample => fit_sample::inner::put(bitboards, board, state, half, out, at),
+        Form::Text => line_spell::inner::ended(board, state, half, out, at),
     }
 }

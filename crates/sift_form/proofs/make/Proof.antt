@@ -1,28 +1,51 @@
 -- `sift_form::make` meets its contract: each arm has its form's promise. Assumes nothing.
-use mathlib.Core.Path.{_≡_, refl, subst}
-use borrow.Author.Needs.{needs}
+use mathlib.Core.Path.{sym, subst}
 use denote.Ref.{now}
 use Rattle.sift_form.specs.Promises.{MakesForm}
 use Rattle.sift_form.specs.declared.Form.{Form}
-use Rattle.sift_form.specs.declared.Form.the-variants as F
+use borrow.Author.Needs.{needs}
 use Rattle.sift_form.proofs.make.Statement.{statement}
 use Rattle.sift_form.proofs.make.Tie as tie
 
--- there is one form, and so no test
-samples : (form : Form) → F.Sample ≡ form
-samples F.Sample = refl
+enum-told : tie.Need-enum-told
+enum-told c = search needs
 
 put-requires : tie.Need-put-requires
 put-requires c κs = search needs
+
+enum-told-2 : tie.Need-enum-told-2
+enum-told-2 c = search needs
+
+ended-requires : tie.Need-ended-requires
+ended-requires c κs = search needs
 
 same-length : tie.Need-same-length
 same-length c = search needs
 
 returns : tie.Need-returns
 returns c =
-    let a = c .before .before .before .before .before .before .before .args in
+    let a = c .before .before .before .before .before .before .before .before .before .args in
     let p = c .before .before .put in
-    subst (λ (form : Form). MakesForm form (now (a .bitboards)) (now (a .board)) (a .state) (a .half) (now (a .out)) (p .last .1 .1 .1 .1 .0) (a .at) (p .result)) (samples (a .form)) (p .ensures)
+    subst (λ (form : Form). MakesForm form (now (a .bitboards)) (now (a .board)) (a .state) (a .half) (now (a .out)) (p .last .1 .1 .1 .1 .0) (a .at) (p .result)) (sym (c .before .before .before .before .enum-told .given .1)) (p .ensures)
+
+same-length-2 : tie.Need-same-length-2
+same-length-2 c = search needs
+
+returns-2 : tie.Need-returns-2
+returns-2 c =
+    let a = c .before .before .before .before .before .before .before .before .before .args in
+    let p = c .before .before .ended in
+    subst (λ (form : Form). MakesForm form (now (a .bitboards)) (now (a .board)) (a .state) (a .half) (now (a .out)) (p .last .1 .1 .1 .0) (a .at) (p .result)) (sym (c .before .before .before .before .enum-told2 .given .1)) (p .ensures)
 
 pub make-spec : {M : Type 1} → statement M
-make-spec = tie.close (tie.spec put-requires same-length returns)
+make-spec =
+    tie.close
+    (tie.spec
+    enum-told
+    put-requires
+    enum-told-2
+    ended-requires
+    same-length
+    returns
+    same-length-2
+    returns-2)

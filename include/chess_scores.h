@@ -88,6 +88,20 @@ chess_code chess_read_line(const uint8_t *line, size_t line_length, uint64_t *bi
 /* Where the trimmed position field stands in the line; of length 0, and at 0, exactly if the line is refused. */
 chess_part chess_position_field(const uint8_t *line, size_t line_length);
 
+/* ---- records: a store is records of 34 bytes, one after another: 32 bytes of two squares each from a1, the lower square in the low half, then
+ * the side to move, then the half points for White */
+
+enum { CHESS_RECORD = 34 };
+
+/* Reads the record of a number, from 0, in a run of records: 14 bitboards, 64 bytes, the side to move and the half points. SHAPE, LENGTH (the
+ * run is no multiple of 34 bytes), ABSENT, CODE with the lowest square whose half byte is 1, 14 or 15, SIDE, RESULT. */
+chess_code chess_read_record(const uint8_t *run, size_t run_length, uint64_t number, uint64_t *bitboards, size_t bitboards_length,
+                             uint8_t *board, size_t board_length, uint8_t *side, uint8_t *half_points);
+
+/* Writes the record of a position and its half points into a place of CHESS_RECORD bytes. SHAPE, OVERLAP, UNION, BYTEBOARD, RESULT, LENGTH. */
+chess_code chess_write_record(const uint64_t *bitboards, size_t bitboards_length, const uint8_t *board, size_t board_length, uint8_t side,
+                              uint8_t half_points, uint8_t *place, size_t place_length);
+
 /* ---- scores: of a position for the side to move */
 
 /* The verdict: fewer than two kings in all is lost or won; fewer than four pieces and only kings, knights and bishops is drawn; else

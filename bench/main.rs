@@ -41,6 +41,7 @@ mod ledger;
 mod ours;
 mod processor;
 mod rays;
+mod records;
 
 use processor::seconds;
 use std::hint::black_box;
@@ -81,6 +82,7 @@ fn usage() -> ! {
     eprintln!("rays ROUNDS               a queen's attacks on boards from empty to crowded");
     eprintln!("fits ROUNDS               gradients and steps over 40 and 500 positions");
     eprintln!("ledgers MOST ROUNDS       both ledgers over 10,000 lines, ten times as many, .. up to MOST");
+    eprintln!("records LINES ROUNDS      so many lines read as text, beside their store read by number");
     eprintln!("errors LINES ROUNDS       the sum of errors over so many lines, beside their ledger");
     eprintln!("lines COUNT               a collection of so many lines on standard output");
     eprintln!("ours, theirs              a ledger of standard input; the peak of memory on standard error");
@@ -100,6 +102,7 @@ fn main() -> io::Result<()> {
         ["fits", rounds] => fits::table(number(rounds)),
         ["rays", rounds] => rays::measure(number(rounds)),
         ["ledgers", most, rounds] => ledgers(number(most), number(rounds)),
+        ["records", count, rounds] => records::table(&drawn::lines(number(count)), number(rounds)),
         ["errors", count, rounds] => errors::table(&drawn::lines(number(count)), number(count), number(rounds)),
         ["lines", count] => io::stdout().write_all(&drawn::lines(number(count)))?,
         ["ours"] => ledger::ours(io::stdin().lock(), output)?,

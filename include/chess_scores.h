@@ -34,7 +34,7 @@ typedef struct {
 enum { CHESS_NO_SQUARE = 255 };
 
 /* Refusals. 2 was CHESS_BOARD: 14 to 16 come where it came, with a square, and nothing has its number again.
- * Of those from 17 on ROOM, ORDER, ENTRY, MANY, ITERATION, KINGS, PAWNS, PIECES, RANK and CHECK alone are given yet. */
+ * RIGHTS, PASSANT and COUNTER are not given yet. */
 enum {
     CHESS_SHAPE = 1,      /* a length, a side, a colour or a piece code that none has */
     CHESS_SCORE = 3,      /* a number leaves 16 bits on the way to the score */
@@ -102,6 +102,20 @@ chess_code chess_profile(const uint64_t *bitboards, size_t bitboards_length, con
  * at. SHAPE, OVERLAP, UNION, BYTEBOARD, RESULT, ROOM. */
 chess_code chess_write_line(const uint64_t *bitboards, size_t bitboards_length, const uint8_t *board, size_t board_length, uint8_t side,
                             uint8_t request, uint8_t half_points, uint8_t *out, size_t out_length, size_t *length);
+
+/* ---- records: a store is records of 34 bytes, one after another: 32 bytes of two squares each from a1, the lower square in the low half, then
+ * the side to move, then the half points for White */
+
+enum { CHESS_RECORD = 34 };
+
+/* Reads the record of a number, from 0, in a run of records: 14 bitboards, 64 bytes, the side to move and the half points. SHAPE, LENGTH (the
+ * run is no multiple of 34 bytes), ABSENT, CODE with the lowest square whose half byte is 1, 14 or 15, SIDE, RESULT. */
+chess_code chess_read_record(const uint8_t *run, size_t run_length, uint64_t number, uint64_t *bitboards, size_t bitboards_length,
+                             uint8_t *board, size_t board_length, uint8_t *side, uint8_t *half_points);
+
+/* Writes the record of a position and its half points into a place of CHESS_RECORD bytes. SHAPE, OVERLAP, UNION, BYTEBOARD, RESULT, LENGTH. */
+chess_code chess_write_record(const uint64_t *bitboards, size_t bitboards_length, const uint8_t *board, size_t board_length, uint8_t side,
+                              uint8_t half_points, uint8_t *place, size_t place_length);
 
 /* ---- scores: of a position for the side to move */
 

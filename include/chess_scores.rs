@@ -25,6 +25,8 @@ pub(crate) mod doors {
         pub fn chess_profile(bitboards: *const u64, b: usize, board: *const u8, s: usize, side: u8) -> Code;
         pub fn chess_position_field(line: *const u8, n: usize) -> Part;
         pub fn chess_write_line(bitboards: *const u64, b: usize, board: *const u8, s: usize, side: u8, request: u8, half_points: u8, out: *mut u8, n: usize, length: *mut usize) -> Code;
+        pub fn chess_read_record(run: *const u8, n: usize, number: u64, bitboards: *mut u64, b: usize, board: *mut u8, s: usize, side: *mut u8, half_points: *mut u8) -> Code;
+        pub fn chess_write_record(bitboards: *const u64, b: usize, board: *const u8, s: usize, side: u8, half_points: u8, place: *mut u8, p: usize) -> Code;
         pub fn chess_eval_ending(bitboards: *const u64, b: usize, board: *const u8, s: usize, side: u8, verdict: *mut u8) -> Code;
         pub fn chess_eval_material(bitboards: *const u64, b: usize, board: *const u8, s: usize, side: u8, color: u8, material: *mut i16) -> Code;
         pub fn chess_eval(bitboards: *const u64, b: usize, board: *const u8, s: usize, side: u8, verdict: *mut u8, score: *mut i16) -> Code;
@@ -322,6 +324,21 @@ pub fn position_field(line: &[u8]) -> &[u8] {
     &line[part.start..part.start + part.length]
 }
 
+/// The bytes of a record.
+pub const RECORD: usize = 34;
+
+/// Reads the record of a number, from 0, in a run of records of 34 bytes: the position, and the half points for White.
+/// LENGTH, ABSENT, CODE with the lowest square, SIDE, RESULT.
+pub fn read_record(run: &[u8], number: u64) -> Result<(Position, u8), Refusal> {
+    let mut read = Position { bitboards: [0; 14], board: [0; 64], side: 0 };
+    let mut half = 0;
+    // SAFETY: the pointers are those of slices and locals, with their lengths, and none overlap.
+    let code = unsafe {
+        doors::chess_read_record(run.as_ptr(), run.len(), number, read.bitboards.as_mut_ptr(), 14, read.board.as_mut_ptr(), 64, &mut read.side, &mut half)
+    };
+    given(code, (read, half))
+}
+
 /// The squares that a piece of a code attacks from a square, each ray up to and including the first square of `occupied`.
 /// SHAPE, SQUARE.
 pub fn piece_attacks(piece: u8, square: u8, occupied: u64) -> Result<u64, Refusal> {
@@ -349,6 +366,14 @@ pub struct Captures {
 }
 
 impl Position {
+    /// The record of the position and its half points for White: 34 bytes, which `read_record` reads back.
+    /// SHAPE, OVERLAP, UNION, BYTEBOARD, RESULT.
+    pub fn record(&self, half_points: u8) -> Result<[u8; RECORD], Refusal> {
+        let mut place = [0; RECORD];
+        let code = unsafe { doors::chess_write_record(self.bitboards.as_ptr(), 14, self.board.as_ptr(), 64, self.side, half_points, place.as_mut_ptr(), RECORD) };
+        given(code, place)
+    }
+
     /// The verdict, or none. SHAPE, OVERLAP, UNION, BYTEBOARD.
     pub fn eval_ending(&self) -> Result<Option<Verdict>, Refusal> {
         let mut ending = 0;

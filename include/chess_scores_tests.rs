@@ -166,6 +166,41 @@ fn lines_from_real_play() {
 }
 
 #[test]
+fn records() {
+    // A white pawn on a1 and a black queen on b1, Black to move, drawn: the lower square in the low half.
+    let two = position("8/8/8/8/8/8/8/Pq6 b");
+    let record = two.record(1).unwrap();
+    assert_eq!((record[0], &record[1..32], record[32], record[33]), (0xd2, &[0; 31][..], 1, 1));
+    let mut run = [position(START).record(2).unwrap(), record].concat();
+    let (read, half_points) = read_record(&run, 1).unwrap();
+    assert_eq!((read.bitboards, read.board, read.side, half_points), (two.bitboards, two.board, two.side, 1));
+    assert_eq!(read.record(half_points), Ok(record));
+    // The record is looked for before anything is multiplied by 34: this number times 34 is 34 in 64 bits.
+    assert_eq!(read_record(&run, 1 << 63 | 1).err(), Some(Refusal::Absent));
+    assert_eq!(read_record(&run, 2).err(), Some(Refusal::Absent));
+    assert_eq!(read_record(&run[1..], 9).err(), Some(Refusal::Length));
+    run[32] = 2;
+    run[33] = 3;
+    assert_eq!(read_record(&run, 0).err(), Some(Refusal::Side));
+    run[31] = 0xe0;
+    run[20] = 0x01;
+    assert_eq!(read_record(&run, 0).err(), Some(Refusal::Code(40)));
+    assert_eq!(two.record(3), Err(Refusal::Result));
+    // A refusal leaves what is lent as it was: RESULT before LENGTH, and then LENGTH.
+    let mut place = [7; 33];
+    for (half_points, number) in [(3, 13), (1, 18)] {
+        let code = unsafe { doors::chess_write_record(two.bitboards.as_ptr(), 14, two.board.as_ptr(), 64, two.side, half_points, place.as_mut_ptr(), 33) };
+        assert_eq!((code.number, place), (number, [7; 33]));
+    }
+    let mut board = [9; 64];
+    let (mut bitboards, mut side, mut half) = ([5; 14], 8, 8);
+    let code = unsafe {
+        doors::chess_read_record(run.as_ptr(), 34, 0, bitboards.as_mut_ptr(), 14, board.as_mut_ptr(), 64, &mut side, &mut half)
+    };
+    assert_eq!((code.number, code.square, board, bitboards, side, half), (19, 40, [9; 64], [5; 14], 8, 8));
+}
+
+#[test]
 fn ledger_however_it_is_cut() {
     let input = b"4k3/8/8/8/8/8/4P3/4K3 w - - 0 1;1-0\r\n\n8/8/8/8/8/8/8/8 w;1/2-1/2\n4k3/8/8/8/8/8/4P3/4K3 b;1/2";
     let ledger = |size: usize| {

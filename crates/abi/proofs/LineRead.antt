@@ -14,15 +14,15 @@ use Rattle.line_parse.specs.declared.Read.{Read}
 use Rattle.abi_codes.specs.declared.Code.{Code}
 
 -- ---- what comes back by value is a part of what the line says
-value-code : (a : Answer Line) → answerNumber (S.byValue a) ≡ answerNumber a
+pub value-code : (a : Answer Line) → answerNumber (S.byValue a) ≡ answerNumber a
 value-code (given l) = refl
 value-code (refused n v) = refl
 
-side-after : (old : ℕ) (a : Answer Line) → lentAfter (λ (p : State × ℕ). p .0 .side) old (S.byValue a) ≡ lentAfter (λ (l : Line). l .state .side) old a
+pub side-after : (old : ℕ) (a : Answer Line) → lentAfter (λ (p : State × ℕ). p .0 .side) old (S.byValue a) ≡ lentAfter (λ (l : Line). l .state .side) old a
 side-after old (given l) = refl
 side-after old (refused n v) = refl
 
-half-after : (old : ℕ) (a : Answer Line) → lentAfter (λ (p : State × ℕ). p .1) old (S.byValue a) ≡ lentAfter (λ (l : Line). l .half) old a
+pub half-after : (old : ℕ) (a : Answer Line) → lentAfter (λ (p : State × ℕ). p .1) old (S.byValue a) ≡ lentAfter (λ (l : Line). l .half) old a
 half-after old (given l) = refl
 half-after old (refused n v) = refl
 

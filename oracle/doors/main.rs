@@ -1,5 +1,7 @@
 // A voice: the library itself, asked through its doors (include/). Questions on standard input, answers on standard output; with the
-// word `ledger`, a collection on standard input and its ledger on standard output; with `tune ITERATIONS FILE`, a whole fit.
+// word `ledger`, a collection on standard input and its ledger on standard output; with `tune ITERATIONS FILE`, a whole fit; with
+// `again SEED COUNT`, positions written and read again.
+mod again;
 #[path = "../../include/chess_scores.rs"]
 mod chess_scores;
 mod fit;
@@ -173,6 +175,10 @@ fn main() -> io::Result<()> {
     let words: Vec<String> = std::env::args().skip(1).collect();
     match words.iter().map(String::as_str).collect::<Vec<_>>().as_slice() {
         ["ledger"] => ledger(),
+        ["again", seed, count] => match again::run(seed.parse().expect("a seed"), count.parse().expect("a count")) {
+            true => Ok(()),
+            false => Err(io::Error::other("not every position came back")),
+        },
         ["tune", iterations, file] => {
             let tuned = fit::tune(&std::fs::read_to_string(file)?, iterations.parse().expect("iterations"));
             tuned.map_err(io::Error::other)

@@ -7,11 +7,19 @@ use Rattle.abi_codes.specs.declared.Code.{Code}
 use Rattle.text_out.specs.Text.{writtenOf as bufferOf}
 use Rattle.line_profile.specs.declared.Profile.the-variants as P
 use Rattle.ledger_feed.specs.Machine.{Machine}
+use Rattle.ledger_feed.specs.declared.SoFar.{SoFar}
 use Rattle.ledger_feed.specs.Promises as Rows
 use Rattle.ledger_feed.specs.Promises.{feedOf, lineAfter, textAfter}
 use Rattle.ledger_finish.specs.Promises.{finishOf, lastText}
 use Rattle.abi_ledgers.specs.Ledger as Ledger
 use Rattle.abi_ledgers.specs.Ledger.{stateFrom, stateNumbers}
+
+-- ---- its state, for every door that is fed
+abbrev pub ReadsState : List ℕ → SoFar → Type 0
+ReadsState numbers r = r ≡ stateFrom numbers
+
+abbrev pub GivesState : SoFar → List ℕ → Type 0
+GivesState state r = r ≡ stateNumbers state
 
 -- ---- the ledger of every position that a line can say
 pub record FeedsLedger (state line chunk out : List ℕ) (wrote : ℕ) (r : Code) (state′ line′ out′ : List ℕ) (wrote′ : ℕ) : Type 0 where

@@ -82,9 +82,9 @@ pub record Spells (bytes : List ℕ) (l : Line) : Type 0 where
   pub side-2 : sideIn bytes < 2
   pub half-3 : halfIn bytes < 3
 
-pub spells : (bytes : List ℕ) (l : Line) → pieceSays bytes ≡ given l → Spells bytes l
+pub halves-back : (bytes : List ℕ) (l : Line) → pieceSays bytes ≡ given l → Spells bytes l
 unfolding pieceSays recordSays coded
-spells bytes l e =
+halves-back bytes l e =
     let x : Line = positionIn bytes in
     let d : Answer Line = orRefuse (ltb (halfIn bytes) 3) R.Result (given x) in
     let c : Answer Line = orRefuse (ltb (sideIn bytes) 2) R.Side d in
@@ -108,7 +108,7 @@ spells bytes l e =
 module _ (bytes : List ℕ) (l : Line) (e : pieceSays bytes ≡ given l) where
   pub read-64 : length (l .board) ≡ 64
   unfolding boardIn
-  read-64 = ap length (spells bytes l e .board) ∙ tabulate-length 64 (codeIn bytes)
+  read-64 = ap length (halves-back bytes l e .board) ∙ tabulate-length 64 (codeIn bytes)
 
   -- its record is the one that was read
   pub record-back : ((i : ℕ) → getD bytes i 0 < 256) → recordOf l ≡ bytes
@@ -116,7 +116,7 @@ module _ (bytes : List ℕ) (l : Line) (e : pieceSays bytes ≡ given l) where
   record-back bound = ext-getD 0 (recordOf l) bytes (record-34 l ∙ sym (s .size)) (λ i h. let g : i < 34 = omega (arith, record-34 l) in each i g (ltb i 32) refl)
     where
       s : Spells bytes l
-      s = spells bytes l e
+      s = halves-back bytes l e
 
       whole : (b : ℕ) → b < 256 → b % 16 % 16 + 16 * (b / 16 % 16 % 16) ≡ b
       whole b h = omega arith

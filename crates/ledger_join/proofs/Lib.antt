@@ -1,0 +1,4 @@
+pub mod Bytes
+pub mod Turn
+pub mod Doors
+pub mod Determined

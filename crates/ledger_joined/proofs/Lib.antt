@@ -1,0 +1,7 @@
+pub mod Lines
+pub mod Pieces
+pub mod Parts
+pub mod Joins
+pub mod One
+pub mod Machine
+pub mod Examples

@@ -22,7 +22,7 @@ use Rattle.bits.proofs.Squares.{squares-many}
 use Rattle.attack_steps.specs.Steps.{Step, oneLeads, reached, whitePawnSteps, blackPawnSteps}
 use Rattle.attack.specs.Attacks.{attacks}
 use Rattle.score_tally.specs.Mobility.{attackedFrom}
-use Rattle.trace_list_computed.specs.PrivatePawns.{leftOf, rightOf, ranksBefore}
+use Rattle.trace_list_computed.specs.PrivatePawns.{hasLeft, hasRight, ranksBefore}
 
 -- ---- a sum over squares of two digits is a count of those that have the one and of those that have the other
 module _ (f : ℕ → ℕ) (g h : ℕ → Bool) (b c d : ℕ) (ec : (s : ℕ) → has c s ≡ (has b s && g s)) (ed : (s : ℕ) → has d s ≡ (has b s && h s)) where
@@ -53,7 +53,7 @@ module _ (f : ℕ → ℕ) (g h : ℕ → Bool) (b c d : ℕ) (ec : (s : ℕ) �
 
 -- ---- the masks: a rank before it, and a file to the left, to the right
 abbrev twoSides : List Step → ℕ → ℕ → Bool
-twoSides steps before s = eqb (howMany 64 (oneLeads steps s)) (digit (has before s && has leftOf s) + digit (has before s && has rightOf s))
+twoSides steps before s = eqb (howMany 64 (oneLeads steps s)) (digit (has before s && has hasLeft s) + digit (has before s && has hasRight s))
 
 white-sides : allBelow 64 (twoSides whitePawnSteps (ranksBefore 0)) ≡ true
 unfolding allBelow howMany oneLeads has
@@ -70,22 +70,22 @@ reached-many steps s h =
     ap (λ (t : Bool). howMany 64 (has (cond t (those 64 (λ t. oneLeads steps s t)) 0))) (lt-ltb s 64 h)
     ∙ many-same 64 (has (those 64 (λ t. oneLeads steps s t))) (oneLeads steps s) (λ k l. has-those 64 (λ t. oneLeads steps s t) k l)
 
-sides : (colour s : ℕ) → s < 64 → howMany 64 (has (attacks 0 colour s 0)) ≡ digit (has (ranksBefore colour) s && has leftOf s) + digit (has (ranksBefore colour) s && has rightOf s)
+sides : (colour s : ℕ) → s < 64 → howMany 64 (has (attacks 0 colour s 0)) ≡ digit (has (ranksBefore colour) s && has hasLeft s) + digit (has (ranksBefore colour) s && has hasRight s)
 unfolding attacks
 sides colour s h = go (eqb colour 0)
   where
-    go : (t : Bool) → howMany 64 (has (reached (cond t whitePawnSteps blackPawnSteps) s)) ≡ digit (has (cond t 0x00ff_ffff_ffff_ffff 0xffff_ffff_ffff_ff00) s && has leftOf s) + digit (has (cond t 0x00ff_ffff_ffff_ffff 0xffff_ffff_ffff_ff00) s && has rightOf s)
+    go : (t : Bool) → howMany 64 (has (reached (cond t whitePawnSteps blackPawnSteps) s)) ≡ digit (has (cond t 0x00ff_ffff_ffff_ffff 0xffff_ffff_ffff_ff00) s && has hasLeft s) + digit (has (cond t 0x00ff_ffff_ffff_ffff 0xffff_ffff_ffff_ff00) s && has hasRight s)
     go true = reached-many whitePawnSteps s h ∙ eqb→eq _ _ (all-at 64 (twoSides whitePawnSteps (ranksBefore 0)) (true-T white-sides) s h)
     go false = reached-many blackPawnSteps s h ∙ eqb→eq _ _ (all-at 64 (twoSides blackPawnSteps (ranksBefore 1)) (true-T black-sides) s h)
 
 -- what all pawns of a colour attack; who stands where makes no difference
 pub by-masks : (pawns colour occ ahead : ℕ) → ahead ≡ bitAnd pawns (ranksBefore colour)
-    → howMany 64 (has (bitAnd ahead leftOf)) + howMany 64 (has (bitAnd ahead rightOf)) ≡ attackedFrom (λ s. attacks 0 colour s occ) pawns
+    → howMany 64 (has (bitAnd ahead hasLeft)) + howMany 64 (has (bitAnd ahead hasRight)) ≡ attackedFrom (λ s. attacks 0 colour s occ) pawns
 unfolding attackedFrom attacks
 by-masks pawns colour occ ahead e =
     sym
-    (both (λ s. howMany 64 (has (attacks 0 colour s 0))) (λ s. has (ranksBefore colour) s && has leftOf s) (λ s. has (ranksBefore colour) s && has rightOf s) pawns (bitAnd ahead leftOf) (bitAnd ahead rightOf)
-    (one leftOf) (one rightOf) (sides colour))
+    (both (λ s. howMany 64 (has (attacks 0 colour s 0))) (λ s. has (ranksBefore colour) s && has hasLeft s) (λ s. has (ranksBefore colour) s && has hasRight s) pawns (bitAnd ahead hasLeft) (bitAnd ahead hasRight)
+    (one hasLeft) (one hasRight) (sides colour))
   where
     one : (side s : ℕ) → has (bitAnd ahead side) s ≡ (has pawns s && (has (ranksBefore colour) s && has side s))
     one side s =

@@ -4,11 +4,11 @@ use Prim.Native.Nat.{ℕ}
 use lib.Dec.{eqb}
 
 -- the files that have one to their left, to their right
-abbrev pub leftOf : ℕ
-leftOf = 0xfefe_fefe_fefe_fefe
+abbrev pub hasLeft : ℕ
+hasLeft = 0xfefe_fefe_fefe_fefe
 
-abbrev pub rightOf : ℕ
-rightOf = 0x7f7f_7f7f_7f7f_7f7f
+abbrev pub hasRight : ℕ
+hasRight = 0x7f7f_7f7f_7f7f_7f7f
 
 -- the ranks that have one before a pawn
 abbrev pub ranksBefore : ℕ → ℕ

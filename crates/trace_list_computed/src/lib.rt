@@ -41,9 +41,9 @@ pub struct ListTraced {
 }
 
 // The files that have one to their left, to their right; the ranks that have one before a pawn of White, of Black.
-const LEFT_OF: u64 = 0xfefe_fefe_fefe_fefe;
+const HAS_LEFT: u64 = 0xfefe_fefe_fefe_fefe;
 
-const RIGHT_OF: u64 = 0x7f7f_7f7f_7f7f_7f7f;
+const HAS_RIGHT: u64 = 0x7f7f_7f7f_7f7f_7f7f;
 
 const BEFORE_WHITE: u64 = 0x00ff_ffff_ffff_ffff;
 
@@ -64,7 +64,7 @@ fn attacked_by_pawns(pawns: u64, color: u8) -> u32
     ensures { λ r. ⌜ (r ≡ attackedFrom (λ s. attacks 0 color s 0) pawns) × (r ≤ 128) ⌝ }
 {
     let pawns = with_rank(pawns, color);
-    bits::count(pawns & LEFT_OF) + bits::count(pawns & RIGHT_OF)
+    bits::count(pawns & HAS_LEFT) + bits::count(pawns & HAS_RIGHT)
 }
 
 // How many squares the pieces of a kind and a colour attack.

@@ -6,7 +6,7 @@ use borrow.Author.Needs.{needs}
 use lib.Bits.{bitAnd}
 use Rattle.bits.specs.Bitboard.{has}
 use Rattle.bits.proofs.Counts.{many-le}
-use Rattle.trace_list_computed.specs.PrivatePawns.{leftOf, rightOf}
+use Rattle.trace_list_computed.specs.PrivatePawns.{hasLeft, hasRight}
 use Rattle.trace_list_computed.proofs.Pawns.{by-masks}
 use Rattle.trace_list_computed.proofs.attacked_by_pawns.Statement.{statement}
 use Rattle.trace_list_computed.proofs.attacked_by_pawns.Tie as tie
@@ -23,7 +23,7 @@ count-requires-2 c κs = search needs
 -- both counts, no more than 64 each
 room : (c : tie.After-count2) → c .before .count .result + c .count2 .result ≤ 128
 room c =
-    omega (arith, c .before .count .ensures, c .count2 .ensures, many-le 64 (has (bitAnd (c .before .before .with-rank .result) leftOf)), many-le 64 (has (bitAnd (c .before .before .with-rank .result) rightOf)))
+    omega (arith, c .before .count .ensures, c .count2 .ensures, many-le 64 (has (bitAnd (c .before .before .with-rank .result) hasLeft)), many-le 64 (has (bitAnd (c .before .before .with-rank .result) hasRight)))
 
 add-result : tie.Need-add-result
 add-result c = record { fits = omega (arith, room c) }

@@ -41,6 +41,7 @@ mod ledger;
 mod ours;
 mod processor;
 mod rays;
+mod whole_fits;
 
 use processor::seconds;
 use std::hint::black_box;
@@ -80,6 +81,7 @@ fn usage() -> ! {
     eprintln!("functions COUNT ROUNDS    each function over so many positions");
     eprintln!("rays ROUNDS               a queen's attacks on boards from empty to crowded");
     eprintln!("fits ROUNDS               gradients and steps over 40 and 500 positions");
+    eprintln!("fit PROGRAM POSITIONS      a whole fit by PROGRAM, what bin/fit has built, against the original's tune with one thread");
     eprintln!("ledgers MOST ROUNDS       both ledgers over 10,000 lines, ten times as many, .. up to MOST");
     eprintln!("errors LINES ROUNDS       the sum of errors over so many lines, beside their ledger");
     eprintln!("lines COUNT               a collection of so many lines on standard output");
@@ -98,6 +100,7 @@ fn main() -> io::Result<()> {
     match words.as_slice() {
         ["functions", count, rounds] => functions::measure(number(count), number(rounds)),
         ["fits", rounds] => fits::table(number(rounds)),
+        ["fit", program, count] => whole_fits::table(program, number(count))?,
         ["rays", rounds] => rays::measure(number(rounds)),
         ["ledgers", most, rounds] => ledgers(number(most), number(rounds)),
         ["errors", count, rounds] => errors::table(&drawn::lines(number(count)), number(count), number(rounds)),

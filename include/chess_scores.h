@@ -181,6 +181,12 @@ chess_code chess_gradient_add(const int32_t counts[CHESS_COUNTS], const int32_t 
 chess_code chess_adam_step(const double *gradient, size_t gradient_length, double *first_moments, size_t first_length, double *second_moments,
                         size_t second_length, double *weights, size_t weights_length, uint64_t iteration, double rate);
 
+/* A line's coefficient by the table of expected results (chess_expected), with no power of ten: whole numbers and IEEE 754's operations alone, so the same bits
+ * on every machine. The score is k times the line's double, rounded down to a whole number; beyond 1600 and -1600 it is the end's, as for the infinities, and a
+ * NaN stays a NaN. *expected is what the table has for it, in points; *coefficient is what the original's compute_gradient makes of it, by the line's half points
+ * and how many lines there are. SHAPE (no lines), RESULT. */
+chess_code chess_table_coefficient(double value, uint8_t half_points, double k, uint64_t lines, double *expected, double *coefficient);
+
 /* ---- a trace's list, beside its counts
  *
  * In the place of the 768 entries at most 64 of three bytes: list[3 * i] is the kind, list[3 * i + 1] the square (Black's xor 56) and list[3 * i + 2] the

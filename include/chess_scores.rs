@@ -36,6 +36,7 @@ pub(crate) mod doors {
         pub fn chess_trace_eval(counts: *const i32, mobility: *const i32, sign: i32, pieces: i32, entries: *const i32, e: usize, weights: *const f64, squares: *const f64, w: usize, value: *mut f64) -> Code;
         pub fn chess_gradient_add(counts: *const i32, mobility: *const i32, sign: i32, pieces: i32, entries: *const i32, e: usize, coefficient: f64, gradient: *mut f64, g: usize) -> Code;
         pub fn chess_adam_step(gradient: *const f64, g: usize, m: *mut f64, f: usize, v: *mut f64, s: usize, weights: *mut f64, w: usize, iteration: u64, rate: f64) -> Code;
+        pub fn chess_table_coefficient(value: f64, half_points: u8, k: f64, lines: u64, expected: *mut f64, coefficient: *mut f64) -> Code;
         pub fn chess_compute_list(bitboards: *const u64, b: usize, board: *const u8, s: usize, side: u8, counts: *mut i32, mobility: *mut i32, sign: *mut i32, pieces: *mut i32, used: *mut u8, list: *mut u8) -> Code;
         pub fn chess_list_of(counts: *const i32, mobility: *const i32, sign: i32, pieces: i32, entries: *const i32, e: usize, used: *mut u8, list: *mut u8) -> Code;
         pub fn chess_flat_of(counts: *const i32, mobility: *const i32, sign: i32, pieces: i32, used: u8, list: *const u8, entries: *mut i32, e: usize) -> Code;
@@ -610,6 +611,22 @@ impl Fit {
         weights.squares.copy_from_slice(&self.weights[11..]);
         weights
     }
+}
+
+/// What a line of a fit lets expect, in points, and its coefficient, by the table of [`expected`] results: whole numbers and IEEE 754's operations alone, so the
+/// same bits on every machine. The score is `k` times the line's double, rounded down to a whole number; an infinity counts as the table's end, a NaN stays a NaN.
+/// SHAPE (no lines), RESULT.
+///
+/// ```
+/// # use chess_scores::{table_coefficient, Refusal};
+/// assert_eq!(table_coefficient(117.0, 2, 1.0, 1), Ok((0.660999, -0.0008745576722974041)));
+/// assert_eq!(table_coefficient(117.0, 3, 1.0, 0), Err(Refusal::Shape));
+/// ```
+pub fn table_coefficient(value: f64, half_points: u8, k: f64, lines: u64) -> Result<(f64, f64), Refusal> {
+    let (mut expected, mut coefficient) = (0.0, 0.0);
+    // SAFETY: the pointers are those of two locals.
+    let code = unsafe { doors::chess_table_coefficient(value, half_points, k, lines, &mut expected, &mut coefficient) };
+    given(code, (expected, coefficient))
 }
 
 /// The ledger of a collection, fed in pieces of any size: a row for each line, and a last row with the totals.

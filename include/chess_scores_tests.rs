@@ -281,6 +281,32 @@ fn steps() {
 }
 
 #[test]
+fn table_coefficients() {
+    let expects = |value: f64| table_coefficient(value, 1, 1.0, 1).unwrap().0;
+    // rounded down, not toward zero: the least double below zero counts as -1, and -1 as -4
+    assert_eq!([0.0, -0.0, 3.9, 4.0, -5e-324, -4.0, -4.5].map(expects), [0.5, 0.5, 0.5, 0.505756, 0.494243, 0.494243, 0.488489]);
+    assert_eq!([1599.9, 1600.0, 1e300, f64::INFINITY].map(expects), [0.999897, 0.9999, 0.9999, 0.9999]);
+    assert_eq!([-1599.9, -1600.0, -1600.1, f64::NEG_INFINITY].map(expects), [0.000099; 4]);
+    // every score of the table, beside `expected`
+    for score in -1700i16..1700 {
+        assert_eq!(expects(score.into()), f64::from(expected(score)) / 1e6);
+        assert_eq!(expects(f64::from(score) + 0.5), f64::from(expected(score)) / 1e6);
+    }
+    // the source's operations, each rounded once, over half points, K and counts; -2 * error first
+    for (value, half, k, lines) in [(117.0, 2, 1.0, 1), (-33.25, 0, 1.3, 7), (250.5, 1, 0.7, 100_000), (-1e9, 2, 2.5, (1 << 53) + 1), (5.0, 1, -1.0, u64::MAX)] {
+        let (s, coefficient) = table_coefficient(value, half, k, lines).unwrap();
+        let slope = s * (1.0 - s) * k * std::f64::consts::LN_10 / 400.0;
+        let error = f64::from(half) / 2.0 - s;
+        assert_eq!(coefficient.to_bits(), (-2.0 * error * slope / lines as f64).to_bits());
+    }
+    let (s, coefficient) = table_coefficient(f64::NAN, 1, 1.0, 1).unwrap();
+    assert!(s.is_nan() && coefficient.is_nan());
+    assert!(table_coefficient(0.0, 1, f64::INFINITY, 1).unwrap().0.is_nan());
+    assert_eq!(table_coefficient(0.0, 3, 1.0, 0), Err(Refusal::Shape));
+    assert_eq!(table_coefficient(0.0, 3, 1.0, 1), Err(Refusal::Result));
+}
+
+#[test]
 fn expected_results() {
     assert_eq!([0, 3, 4, -1, -4].map(expected), [500_000, 500_000, 505_756, 494_243, 494_243]);
     assert_eq!([-1600, -1601, i16::MIN].map(expected), [99; 3]);

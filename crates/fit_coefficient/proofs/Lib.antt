@@ -1,0 +1,3 @@
+pub mod Scores
+pub mod Examples
+pub mod Determined

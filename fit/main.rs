@@ -150,7 +150,7 @@ fn stop_if_refused(fit: &Fit, collection: &Collection) -> Result<(), String> {
 /// All files beside their places first, so that where one can't be written none is put; without `--out` the weights go to standard output.
 fn keep(fit: &Fit, file: &File, out: Option<&Place>, report: Option<(&Place, String)>) -> Result<(), String> {
     let named = |name: &Option<OsString>, error: io::Error| {
-        format!("{}: {}; nothing was put there", name.as_deref().unwrap_or_default().display(), reason(&error))
+        format!("{}: {}; it was not put there", name.as_deref().unwrap_or_default().display(), reason(&error))
     };
     let text = file.text();
     let page = report.map(|(place, html)| place.write(html.as_bytes()).map_err(|error| named(&fit.report, error))).transpose()?;

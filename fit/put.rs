@@ -18,6 +18,10 @@ pub struct Written<'a> {
     beside: Option<PathBuf>,
 }
 
+fn folder(path: &Path) -> &Path {
+    path.parent().filter(|folder| !folder.as_os_str().is_empty()).unwrap_or(Path::new("."))
+}
+
 impl Place {
     /// The place, if a file can be put there, which is tried. A link is followed.
     pub fn new(name: &OsStr) -> io::Result<Place> {
@@ -41,15 +45,11 @@ impl Place {
         Ok(self)
     }
 
-    fn folder(&self) -> &Path {
-        self.path.parent().filter(|folder| !folder.as_os_str().is_empty()).unwrap_or(Path::new("."))
-    }
-
     /// A new file beside the place. What a run left that was killed keeps its name.
     fn beside(&self) -> io::Result<(File, PathBuf)> {
         let mut number = 0;
         loop {
-            let path = self.folder().join(format!(".fit-{}-{number}.partial", std::process::id()));
+            let path = folder(&self.path).join(format!(".fit-{}-{number}.partial", std::process::id()));
             match File::create_new(&path) {
                 Err(error) if error.kind() == io::ErrorKind::AlreadyExists => number += 1,
                 made => return Ok((made?, path)),
@@ -57,10 +57,12 @@ impl Place {
         }
     }
 
-    /// Whether a file of this name is the one that stands here.
+    /// Whether a file of this name is the one that stands here, or would.
     pub fn is(&self, name: &OsStr) -> bool {
-        let place = |path: &Path| fs::metadata(path).map(|found| (found.dev(), found.ino())).ok();
-        !self.stream && (self.path == Path::new(name) || place(&self.path).is_some_and(|here| Some(here) == place(Path::new(name))))
+        let number = |path: &Path| fs::metadata(path).map(|found| (found.dev(), found.ino())).ok();
+        let alike = |one: &Path, other: &Path| number(one).is_some_and(|here| Some(here) == number(other));
+        let name = Path::new(name);
+        !self.stream && (alike(&self.path, name) || self.path.file_name() == name.file_name() && alike(folder(&self.path), folder(name)))
     }
 
     /// The bytes on the disk, beside the place. A stream has them now, for good.
@@ -86,7 +88,7 @@ impl Written<'_> {
         let Some(beside) = &self.beside else { return Ok(()) };
         fs::rename(beside, &self.place.path)?;
         self.beside = None;
-        File::open(self.place.folder())?.sync_all()
+        File::open(folder(&self.place.path))?.sync_all()
     }
 }
 
@@ -117,6 +119,8 @@ mod tests {
         assert!(fs::symlink_metadata(&link).unwrap().is_symlink());
         assert_eq!(fs::read_dir(&folder).unwrap().count(), 2);
         assert!(place.is(link.as_os_str()) && !place.is(folder.as_os_str()));
+        let (new, dotted) = (Place::new(folder.join("new").as_os_str()).unwrap(), folder.join(".").join("new"));
+        assert!(new.is(dotted.as_os_str()) && !new.is(file.as_os_str()) && !new.is(OsStr::new("new")));
         assert!(Place::new(folder.as_os_str()).is_err() && Place::new(folder.join("no/file").as_os_str()).is_err());
         assert!(Place::new(OsStr::new("/dev/full")).unwrap().write(b"x").is_err());
         fs::remove_dir_all(&folder).unwrap();

@@ -27,17 +27,20 @@ pub fn fit(plan: &Plan, start: &Weights, tell: &mut dyn FnMut(u64, f64) -> Resul
     let mut errors = Vec::new();
     for iteration in 1..=plan.iterations {
         let (error, gradient) = plan.pass(&fit.weights);
-        tell(iteration - 1, error)?;
+        tell(iteration - 1, finite(error, iteration - 1)?)?;
         errors.push(error);
         fit.step(&gradient, iteration, plan.rate).map_err(|refusal| format!("iteration {iteration}: {refusal}"))?;
-        if fit.weights.iter().any(|weight| !weight.is_finite()) {
-            return Err(format!("a weight is no finite number after iteration {iteration}: take a smaller --rate"));
-        }
+        fit.weights.iter().try_for_each(|&weight| finite(weight, iteration).map(|_| ()))?;
     }
-    let error = plan.error(&fit.weights);
+    let error = finite(plan.error(&fit.weights), plan.iterations)?;
     tell(plan.iterations, error)?;
     errors.push(error);
     Ok(Fitted { weights: fit.weights, errors })
+}
+
+/// A weight or an error, if it is a number that a fit can go on with.
+fn finite(number: f64, done: u64) -> Result<f64, String> {
+    if number.is_finite() { Ok(number) } else { Err(format!("the numbers leave the doubles after iteration {done}: take a smaller --rate")) }
 }
 
 impl Plan<'_> {

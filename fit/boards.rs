@@ -22,12 +22,14 @@ impl Scale {
         Scale { above, below, most: numbers.fold(1e-9, |most, number| most.max(number.abs())) }
     }
 
-    /// The colour of a number, and whether it is a dark one.
+    /// The colour of a number, and whether it is a dark one, which wants a light text: by its luminance, about.
     fn colour(&self, number: f64) -> (String, bool) {
         let part = (number.abs() / self.most).min(1.0).powf(0.8);
         let end = if number < 0.0 { self.below } else { self.above };
-        let [red, green, blue] = end.map(|end| (250.0 + (end - 250.0) * part).round() as u8);
-        (format!("#{red:02x}{green:02x}{blue:02x}"), part > 0.85)
+        let mixed = end.map(|end| 250.0 + (end - 250.0) * part);
+        let luminance: f64 = mixed.iter().zip([0.2126, 0.7152, 0.0722]).map(|(colour, share)| share * (colour / 255.0).powi(2)).sum();
+        let [red, green, blue] = mixed.map(|colour| colour.round() as u8);
+        (format!("#{red:02x}{green:02x}{blue:02x}"), luminance < 0.25)
     }
 }
 

@@ -28,6 +28,8 @@ pub enum Expected {
 /// As many as the fitting step numbers.
 const MOST_ITERATIONS: u64 = 1_000_000;
 
+type Options = Vec<(String, OsString)>;
+
 const OPTIONS: [&str; 7] = ["--rate", "--k", "--out", "--from", "--report", "--refused", "--expected"];
 
 pub fn asked(words: Vec<OsString>) -> Result<Asked, String> {
@@ -43,12 +45,12 @@ pub fn asked(words: Vec<OsString>) -> Result<Asked, String> {
     let expected = match given("--expected") {
         None => Expected::Power,
         Some(word) if word == "table" => Expected::Table,
-        Some(word) => return Err(format!("--expected takes `table`, not `{}`; without it the original's powers are taken", word.display())),
+        Some(word) => return Err(format!("--expected takes `table`, not `{}`; without it the original's powers are taken", word.to_string_lossy())),
     };
     let allowed = match given("--refused") {
         None => false,
         Some(word) if word == "allow" => true,
-        Some(word) => return Err(format!("--refused takes `allow`, not `{}`; without it a refused line stops the fit", word.display())),
+        Some(word) => return Err(format!("--refused takes `allow`, not `{}`; without it a refused line stops the fit", word.to_string_lossy())),
     };
     let (from, out, report) = (given("--from"), given("--out"), given("--report"));
     let Ok([collection, iterations]) = <[OsString; 2]>::try_from(names) else {
@@ -58,8 +60,8 @@ pub fn asked(words: Vec<OsString>) -> Result<Asked, String> {
 }
 
 /// The words that are no options, and each option once with its word.
-fn parted(words: Vec<OsString>) -> Result<(Vec<OsString>, Vec<(String, OsString)>), String> {
-    let (mut names, mut options) = (Vec::new(), Vec::<(String, OsString)>::new());
+fn parted(words: Vec<OsString>) -> Result<(Vec<OsString>, Options), String> {
+    let (mut names, mut options) = (Vec::new(), Options::new());
     let mut words = words.into_iter();
     while let Some(word) = words.next() {
         let text = word.to_string_lossy().into_owned();
@@ -84,13 +86,13 @@ fn parted(words: Vec<OsString>) -> Result<(Vec<OsString>, Vec<(String, OsString)
 fn positive(word: Option<OsString>, option: &str) -> Result<f64, String> {
     let Some(word) = word else { return Ok(1.0) };
     let number = word.to_str().and_then(|text| text.parse::<f64>().ok());
-    number.filter(|number| number.is_finite() && *number > 0.0).ok_or_else(|| format!("{option} takes a number above 0, not `{}`", word.display()))
+    number.filter(|number| number.is_finite() && *number > 0.0).ok_or_else(|| format!("{option} takes a number above 0, not `{}`", word.to_string_lossy()))
 }
 
 fn number(word: &OsString) -> Result<u64, String> {
     let text = word.to_str().filter(|text| !text.is_empty() && text.bytes().all(|byte| byte.is_ascii_digit()));
     let number = text.and_then(|text| text.parse::<u64>().ok()).filter(|number| (1..=MOST_ITERATIONS).contains(number));
-    number.ok_or_else(|| format!("ITERATIONS is a whole number from 1 to 1000000, not `{}`", word.display()))
+    number.ok_or_else(|| format!("ITERATIONS is a whole number from 1 to 1000000, not `{}`", word.to_string_lossy()))
 }
 
 #[cfg(test)]

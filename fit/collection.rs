@@ -45,7 +45,7 @@ const LAST_ROWS: usize = 116;
 
 /// `-` is standard input. With `keep` the samples are held; without it the collection is only counted.
 pub fn read(name: &OsStr, keep: bool) -> Result<Collection, String> {
-    let said = |error: io::Error| format!("{}: {}", name.display(), crate::reason(&error));
+    let said = |error: io::Error| format!("{}: {}", name.to_string_lossy(), crate::reason(&error));
     let mut input: Box<dyn Read> = if name == "-" { Box::new(io::stdin().lock()) } else { Box::new(File::open(name).map_err(said)?) };
     let mut feeder = Feeder { state: [0; 4], line: [0; 256], samples: Vec::new(), rows: Vec::new() };
     let mut all = Collection { counted: Counted::default(), refused: Vec::new(), held: Held::default() };

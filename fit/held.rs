@@ -42,7 +42,7 @@ impl Held {
         let used = sample[USED] as usize;
         assert!(used <= ENTRIES / 3 && sample[LIST + 3 * used..].iter().all(|&byte| byte == 0), "a sample is not what its door promises");
         let words = NUMBERS + words_after(used);
-        if self.blocks.last().is_none_or(|block| block.capacity() - block.len() < words) {
+        if self.blocks.last().map_or(true, |block| block.capacity() - block.len() < words) {
             let mut block = Vec::new();
             block.try_reserve_exact(BLOCK)?;
             self.blocks.try_reserve(1)?;

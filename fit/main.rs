@@ -62,7 +62,7 @@ pub fn reason(error: &io::Error) -> String {
 }
 
 fn naming<T>(name: &OsStr, result: io::Result<T>) -> Result<T, String> {
-    result.map_err(|error| format!("{}: {}", name.display(), reason(&error)))
+    result.map_err(|error| format!("{}: {}", name.to_string_lossy(), reason(&error)))
 }
 
 // ---- a fit
@@ -97,7 +97,7 @@ fn fitted(fit: &Fit) -> Result<(), String> {
 fn began(fit: &Fit) -> Result<Option<(Weights, String)>, String> {
     let Some(name) = &fit.from else { return Ok(None) };
     let bytes = naming(name, std::fs::read(name))?;
-    let file = File::read(&bytes).map_err(|wrong| format!("{}: {wrong}", name.display()))?;
+    let file = File::read(&bytes).map_err(|wrong| format!("{}: {wrong}", name.to_string_lossy()))?;
     Ok(Some((file.weights, sha256::sum_of(&bytes))))
 }
 
@@ -105,9 +105,9 @@ fn began(fit: &Fit) -> Result<Option<(Weights, String)>, String> {
 fn place(fit: &Fit, name: &Option<OsString>) -> Result<Option<Place>, String> {
     let Some(name) = name else { return Ok(None) };
     let place = naming(name, Place::new(name)).map_err(|wrong| format!("{wrong}; nothing was fitted"))?;
-    refuse_over(&place, &fit.collection, &format!("{} is the collection", name.display()))?;
+    refuse_over(&place, &fit.collection, &format!("{} is the collection", name.to_string_lossy()))?;
     if let Some(from) = &fit.from {
-        refuse_over(&place, from, &format!("{} is what the fit begins with", name.display()))?;
+        refuse_over(&place, from, &format!("{} is what the fit begins with", name.to_string_lossy()))?;
     }
     Ok(Some(place))
 }
@@ -138,19 +138,25 @@ fn stop_if_refused(fit: &Fit, collection: &Collection) -> Result<(), String> {
     if refused > 0 {
         tell_refused(collection);
     }
-    match (refused, fit.allowed) {
-        _ if lines == 0 => Err("the collection is empty; nothing was fitted".into()),
-        _ if loaded == 0 => Err(format!("no line of {lines} is loaded; nothing was fitted")),
-        (0, _) => Ok(()),
-        (_, true) => Ok(say(&format!("goes on with the {loaded} lines that are loaded, as --refused allow says"))),
-        _ => Err(format!("{refused} of {lines} lines are refused; nothing was fitted. Mend them, or say --refused allow to fit to the other {loaded}")),
+    if lines == 0 {
+        return Err("the collection is empty; nothing was fitted".into());
     }
+    if loaded == 0 {
+        return Err(format!("no line of {lines} is loaded; nothing was fitted"));
+    }
+    if refused > 0 && !fit.allowed {
+        return Err(format!("{refused} of {lines} lines are refused; nothing was fitted. Mend them, or say --refused allow to fit to the other {loaded}"));
+    }
+    if refused > 0 {
+        say(&format!("goes on with the {loaded} lines that are loaded, as --refused allow says"));
+    }
+    Ok(())
 }
 
 /// All files beside their places first, so that where one can't be written none is put; without `--out` the weights go to standard output.
 fn keep(fit: &Fit, file: &File, out: Option<&Place>, report: Option<(&Place, String)>) -> Result<(), String> {
     let named = |name: &Option<OsString>, error: io::Error| {
-        format!("{}: {}; it was not put there", name.as_deref().unwrap_or_default().display(), reason(&error))
+        format!("{}: {}; it was not put there", name.as_deref().unwrap_or_default().to_string_lossy(), reason(&error))
     };
     let text = file.text();
     let page = report.map(|(place, html)| place.write(html.as_bytes()).map_err(|error| named(&fit.report, error))).transpose()?;
@@ -170,7 +176,7 @@ fn keep(fit: &Fit, file: &File, out: Option<&Place>, report: Option<(&Place, Str
 /// Whether the collection is the one that the weights say they were fitted to.
 fn checked(weights: &OsStr, collection: &OsStr) -> Result<(), String> {
     let bytes = naming(weights, std::fs::read(weights))?;
-    let said = File::read(&bytes).map_err(|wrong| format!("{}: {wrong}", weights.display()))?.counted;
+    let said = File::read(&bytes).map_err(|wrong| format!("{}: {wrong}", weights.to_string_lossy()))?.counted;
     let found = collection::read(collection, false)?.counted;
     let rows = [
         ("lines", said.lines.to_string(), found.lines.to_string()),
@@ -185,9 +191,12 @@ fn checked(weights: &OsStr, collection: &OsStr) -> Result<(), String> {
         wrote = wrote.and_then(|()| writeln!(output, "{row}"));
     }
     wrote.and_then(|()| output.flush()).map_err(|error| format!("standard output: {}", reason(&error)))?;
-    match (said.sha256 == found.sha256, said == found) {
-        (_, true) => Ok(say("the weights were fitted to this collection")),
-        (true, _) => Err("the bytes are the same and the counts are not: the weights are of another version of the library".into()),
-        _ => Err("the weights were NOT fitted to this collection".into()),
+    if said.sha256 != found.sha256 {
+        return Err("the weights were NOT fitted to this collection".into());
     }
+    if said != found {
+        return Err("the bytes are the same and the counts are not: the weights are of another version of the library".into());
+    }
+    say("the weights were fitted to this collection");
+    Ok(())
 }

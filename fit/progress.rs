@@ -24,7 +24,7 @@ impl Progress {
             self.clear();
             let head = if done == 0 { "Iteration,Error\n" } else { "" };
             let mut output = io::stdout().lock();
-            let wrote = write!(output, "{head}{done},{error:.6}\n").and_then(|()| output.flush());
+            let wrote = writeln!(output, "{head}{done},{error:.6}").and_then(|()| output.flush());
             wrote.map_err(|error| format!("standard output: {}", crate::reason(&error)))?;
         }
         self.show(done, error);

@@ -1,5 +1,7 @@
 """The recorded fits. Questions of a fit go on from one to the next, so each set is asked whole and in order."""
 
+import math
+
 from reference.seeded import SPECIALS, stream, to_bits
 
 from . import voices
@@ -73,7 +75,24 @@ def of_rates():
         yield from shown()
 
 
+def by_the_table():
+    """Coefficients by the table: every special double as a line's and as K; scores at whole numbers and beside them, at the ends and past them; SHAPE, RESULT."""
+    for half_points, bits in enumerate(SPECIALS):
+        yield f"weigh {bits} {half_points % 3} {ONE} 1000"
+        yield f"weigh {to_bits(117.0)} {half_points % 3} {bits} 1000"
+    for whole in (-1700, -1601, -1600, -1599, -1597, -1596, -401, -5, -4, -3, -1, 0, 1, 3, 4, 5, 117, 400, 1596, 1599, 1600, 1601, 1700):
+        for near in (math.nextafter(whole, -math.inf), float(whole), math.nextafter(whole, math.inf), whole + 0.5):
+            yield f"weigh {to_bits(near)} {whole % 3} {ONE} 7"
+    draws = stream(212)
+    for _ in range(64):
+        value = (next(draws) % 2**20 - 2**19) / 256
+        yield f"weigh {to_bits(value)} {next(draws) % 3} {to_bits((next(draws) % 25 + 1) / 10)} {next(draws) % 10**6 + 1}"
+    for lines in (0, 1, 3, 100_000, 2**53 + 1, 2**64 - 1):
+        for half_points in (0, 1, 2, 3, 255):
+            yield f"weigh {to_bits(-33.25)} {half_points} {ONE} {lines}"
+
+
 def asked_of_the_reference():
-    """What only the reference answers: moments, states that no fit reaches, refusals."""
+    """What only the reference answers: moments, states that no fit reaches, refusals, coefficients by the table."""
     return [*of_coefficients(), *of_traces(), *of_iterations(), *of_specials(1, ONE),
-            *of_specials(1000, TENTH), *of_rates()]
+            *of_specials(1000, TENTH), *of_rates(), *by_the_table()]

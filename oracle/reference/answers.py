@@ -6,7 +6,7 @@ from functools import lru_cache
 
 from . import attack, bitboard, exchange, score
 from .double import Weights, trace_eval
-from .fit import WEIGHTS, Fit, adam_step, gradient_add, root
+from .fit import WEIGHTS, Fit, adam_step, gradient_add, root, weigh
 from .line import read_line
 from .position import Position, placed
 from .refusal import SCORE, Refused
@@ -147,6 +147,7 @@ WORDS = {
     "of": FITTING.whole,
     "at": FITTING.at,
     "root": lambda number: bits(root(from_bits(number))),
+    "weigh": lambda value, half_points, k, lines: numbers(bits(number) for number in weigh(from_bits(value), half_points, from_bits(k), lines)),
     "piece_attacks": attack.piece_attacks,
     "pst": lambda piece, square, phase: PST[piece][square][phase],
     "knight": lambda square: attack.KNIGHT_STEPS[square],

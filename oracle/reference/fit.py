@@ -7,8 +7,9 @@ source's. Python's floats are IEEE 754 doubles, rounded once an operation.
 import math
 
 from .double import MOVERS, in_ranges, shipped
+from .error import MILLION, expected
 from .pieces import BLACK, WHITE
-from .refusal import ITERATION, SHAPE, TRACE, refuse_unless
+from .refusal import ITERATION, RESULT, SHAPE, TRACE, refuse_unless
 from .trace import COUNTED, ENTRIES, weight_place
 
 WEIGHTS = 779
@@ -21,6 +22,24 @@ MOST_ITERATIONS = 1_000_000
 def root(number):
     """The nearest double; of a number below zero none. A zero keeps its sign."""
     return math.nan if number < 0 else math.sqrt(number)
+
+
+def points(score):
+    """What a score lets expect by 02's table, rounded down; an infinity counts as the end on its side, a NaN stays one."""
+    if math.isnan(score):
+        return score
+    whole = math.floor(score) if math.isfinite(score) else int(math.copysign(MILLION, score))
+    return expected(whole) / 1e6
+
+
+def weigh(value, half_points, k, lines):
+    """What a line lets expect, in points, and its coefficient, in the order of `compute_gradient`."""
+    refuse_unless(lines > 0, SHAPE)
+    refuse_unless(half_points in (0, 1, 2), RESULT)
+    s = points(k * value)
+    error = half_points / 2 - s
+    slope = s * (1.0 - s) * k * math.log(10) / 400.0
+    return s, -2.0 * error * slope / float(lines)
 
 
 def gradient_add(trace, coefficient, sums):

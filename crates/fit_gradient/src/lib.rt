@@ -199,16 +199,24 @@ pub fn add(trace: Trace, entries: &[i32], coefficient: f64, gradient: &mut [f64]
     Added::Refused(Refusal::Trace)
 }
 
-// The entries of a list, one after the other.
+// The entries of a list, one after the other. White's part and Black's stand side by side and are picked by the colour: there is no jump on it to be guessed, and no
+// part is worked out again.
 fn list_added(gradient: &mut [f64], parts: Parts, used: usize, bytes: &[u8; BYTES])
     requires { ⌜ (length (now gradient) ≡ 779) × T (isList used (now bytes)) ⌝ }
     ensures { λ _. ⌜ now (gradient .exit) ≡ over (markOne parts) (now (gradient .entry)) (listPlaces (now (bytes .entry)) used) ⌝ }
 {
+    let opening = [parts.white_opening, parts.black_opening];
+    let ending = [parts.white_ending, parts.black_ending];
     let mut i: usize = 0;
     while i < used {
         let at = PER_ENTRY * i;
         let k = places::inner::entry(bytes[at], bytes[at + 1], bytes[at + 2]);
-        mark(gradient, parts, k, 1);
+        raise(
+            gradient,
+            k,
+            opening[k % Color::COUNT],
+            ending[k % Color::COUNT],
+        );
         i += 1;
     }
 }

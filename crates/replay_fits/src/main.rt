@@ -2,6 +2,7 @@
 // file stdout holds what the Rust and the reference answered, a double as its bits (oracle/README.md).
 use crate::reply::Reply;
 use fit_adam::Stepped;
+use fit_coefficient::Weighed;
 use places::weight::Weight;
 use replay_question::NUMBERS;
 use text_in::inner::is;
@@ -68,6 +69,9 @@ fn answer(
     if is(word, b"root") {
         return Reply::Double(fit_root::sqrt(lists::of_bits(n[0])));
     }
+    if is(word, b"weigh") {
+        return weighed(n);
+    }
     if is(word, b"of") {
         return Reply::Number(of(n[0], sums, first, second, weights));
     }
@@ -75,6 +79,15 @@ fn answer(
         return Reply::Double(at(n, sums, first, second, weights));
     }
     gradients::answer(word, n, replay_question::position(question), sums)
+}
+
+// What a line lets expect, and its coefficient, by the table: its double, its half points, K and how many lines there are.
+fn weighed(n: [u64; NUMBERS]) -> Reply {
+    let half = (n[1] % 256) as u8;
+    match fit_coefficient::weigh(lists::of_bits(n[0]), half, lists::of_bits(n[2]), n[3]) {
+        Weighed::Line(share) => Reply::Doubles(share.expected, share.coefficient),
+        Weighed::Refused(refusal) => Reply::Refused(refusal),
+    }
 }
 
 fn stepped(answer: Stepped) -> Reply {

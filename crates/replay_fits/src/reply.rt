@@ -6,6 +6,7 @@ pub(crate) enum Reply {
     Refused(Refusal),
     Number(u64),
     Double(f64),
+    Doubles(f64, f64),
 }
 
 // The answer as a line of standard output.
@@ -15,6 +16,7 @@ pub(crate) fn print(reply: Reply) {
         Reply::Refused(r) => refused(r),
         Reply::Number(n) => natural(n),
         Reply::Double(x) => bits(x),
+        Reply::Doubles(x, y) => both(x, y),
     }
     write(b"\n");
 }
@@ -30,6 +32,12 @@ fn natural(n: u64) {
 fn refused(r: Refusal) {
     write(b"refused ");
     natural(r.number() as u64);
+}
+
+fn both(x: f64, y: f64) {
+    bits(x);
+    write(b" ");
+    bits(y);
 }
 
 // The bits of a double, but a NaN has many.

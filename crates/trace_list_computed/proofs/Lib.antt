@@ -1,4 +1,5 @@
 pub mod Flipped
+pub mod Pawns
 pub mod Squares
 pub mod Sums
 pub mod Doors

@@ -1,7 +1,7 @@
 -- A position's list, square by square: each square of a kind has two places in the trace, White's and then Black's, and where neither piece
 -- stands nothing is added. So the walk over the squares of either leaves out nothing. Assumes nothing.
 use mathlib.Core.Path.{_≡_, refl, sym, ap, ap₂, _∙_}
-use mathlib.Core.Bool.{Bool, true, false, _||_}
+use mathlib.Core.Bool.{Bool, true, false, cond, _&&_, _||_, true≢false}
 use mathlib.Core.List.{List, []}
 use Prim.Native.Nat.{ℕ, suc, _+_, _*_, _^_, _<_}
 use native.Mathlib.Omega.{arith}
@@ -22,7 +22,7 @@ use Rattle.trace_list.specs.Ones.{ones}
 use Rattle.trace_list.specs.Form.{isOne, onesIn, listBytes}
 use Rattle.trace_list.proofs.Ones.{ones-zero, ones-no}
 use Rattle.trace_list_turn.proofs.Ways.{room, length-yes, length-no, bytes-yes, bytes-no}
-use Rattle.trace_list_computed.specs.PrivateWalk.{Few, onesBefore, entryPut, putWhere, turnedOver}
+use Rattle.trace_list_computed.specs.PrivateWalk.{Few, onesBefore, entryPut, putWhere, bothPut, turnedOver}
 use Rattle.trace_list_computed.proofs.Flipped.{has-turned}
 
 -- ---- what stands at a place
@@ -145,3 +145,35 @@ none-before bbs e = (ap length (sym (ones-zero (isOne (entriesOf bbs)))), e ∙ 
 pub all-before : (bbs : List ℕ) → onesBefore bbs 768 ≡ onesIn (entriesOf bbs)
 unfolding onesBefore onesIn
 all-before bbs = refl
+
+-- ---- what a square has, as the code puts it
+module _ (kind square n : ℕ) (bytes : List ℕ) where
+  pub both-room : (w b : Bool) → (w || b) ≡ true → (w ≡ true → n < 64) → (b ≡ true → n + digit w < 64) → n < 64
+  both-room true b e p q = p refl
+  both-room false true e p q = omega (arith, q refl)
+  both-room false false e p q = absurd (true≢false (sym e))
+
+  pub second-room : (w b : Bool) → (w && b) ≡ true → (b ≡ true → n + digit w < 64) → n + 1 < 64
+  second-room true true e q = q refl
+  second-room true false e q = absurd (true≢false (sym e))
+  second-room false b e q = absurd (true≢false (sym e))
+
+  pub two-put : (w b : Bool) (col : ℕ) (mid last : List ℕ) → (w && b) ≡ true → col ≡ cond w 0 1 → mid ≡ entryPut kind square col n bytes → last ≡ entryPut kind square 1 (n + 1) mid
+      → (n + 2 ≡ n + digit w + digit b) × (last ≡ bothPut w b kind square n bytes)
+  two-put true true col mid last e q p l = (omega arith, l ∙ ap (entryPut kind square 1 (n + 1)) (p ∙ ap (λ (c : ℕ). entryPut kind square c n bytes) q))
+  two-put true false col mid last e q p l = absurd (true≢false (sym e))
+  two-put false b col mid last e q p l = absurd (true≢false (sym e))
+
+  pub one-put : (w b : Bool) (col : ℕ) (mid : List ℕ) → (w || b) ≡ true → (w && b) ≡ false → col ≡ cond w 0 1 → mid ≡ entryPut kind square col n bytes
+      → (n + 1 ≡ n + digit w + digit b) × (mid ≡ bothPut w b kind square n bytes)
+  one-put true true col mid e f q p = absurd (true≢false f)
+  one-put true false col mid e f q p = (omega arith, p ∙ ap (λ (c : ℕ). entryPut kind square c n bytes) q)
+  one-put false true col mid e f q p =
+      let z : n ≡ n + 0 = omega arith in
+      (omega arith, p ∙ ap (λ (c : ℕ). entryPut kind square c n bytes) q ∙ ap (λ (m : ℕ). entryPut kind square 1 m bytes) z)
+  one-put false false col mid e f q p = absurd (true≢false (sym e))
+
+  pub none-put : (w b : Bool) → (w || b) ≡ false → (n ≡ n + digit w + digit b) × (bytes ≡ bothPut w b kind square n bytes)
+  none-put true b e = absurd (true≢false e)
+  none-put false true e = absurd (true≢false e)
+  none-put false false e = (omega arith, refl)

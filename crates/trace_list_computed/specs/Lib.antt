@@ -1,2 +1,3 @@
+pub mod PrivatePawns
 pub mod PrivateWalk
 pub mod Promises

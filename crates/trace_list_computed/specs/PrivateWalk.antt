@@ -5,7 +5,7 @@ use Prim.Native.Nat.{ℕ, _+_, _*_, _≤_}
 use lib.Bits.{bitXor}
 use lib.ListN.{set}
 use Rattle.refusal.specs.declared.Refusal.{Refusal}
-use Rattle.bits.specs.Bitboard.{has, those, howMany}
+use Rattle.bits.specs.Bitboard.{has, digit, those, howMany}
 use Rattle.position.specs.declared.Checked.the-variants.{Refused}
 use Rattle.trace.specs.Trace.{entriesOf, noTrace}
 use Rattle.trace_list.specs.Ones.{ones}
@@ -28,6 +28,10 @@ entryPut kind square colour n bytes = set (set (set bytes (3 * n) kind) (3 * n +
 -- or not
 abbrev pub putWhere : Bool → ℕ → ℕ → ℕ → ℕ → List ℕ → List ℕ
 putWhere there kind square colour n bytes = cond there (entryPut kind square colour n bytes) bytes
+
+-- White's, then Black's
+abbrev pub bothPut : Bool → Bool → ℕ → ℕ → ℕ → List ℕ → List ℕ
+bothPut white black kind square n bytes = putWhere black kind square 1 (n + digit white) (putWhere white kind square 0 n bytes)
 
 -- "black xor 56": each square's place as Black's
 unfoldable pub turnedOver : ℕ → ℕ

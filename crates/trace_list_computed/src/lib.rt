@@ -1,6 +1,6 @@
 // The trace of a position as a list, straight from the bitboards: its counts by value, its entries lent.
 ghost use mathlib.Core.Path.{_≡_};
-ghost use mathlib.Core.Bool.{true};
+ghost use mathlib.Core.Bool.{true, cond};
 ghost use mathlib.Core.List.{[]};
 ghost use Prim.Native.Nat.{_+_, _*_, _<_, _≤_};
 ghost use lib.Dec.{T};
@@ -11,7 +11,9 @@ ghost use Rattle.attack_rays.specs.PrivateMirror.{partner, paired};
 ghost use Rattle.score_tally.specs.Mobility.{attackedFrom};
 ghost use Rattle.trace.specs.Trace.{mobilityOf, entriesOf};
 ghost use Rattle.trace_list.specs.Form.{onesIn, listBytes};
-ghost use Rattle.trace_list_computed.specs.PrivateWalk.{Few, onesBefore, entryPut, putWhere, turnedOver, refusedList};
+ghost use lib.Bits.{bitAnd};
+ghost use Rattle.trace_list_computed.specs.PrivatePawns.{ranksBefore};
+ghost use Rattle.trace_list_computed.specs.PrivateWalk.{Few, onesBefore, entryPut, bothPut, turnedOver, refusedList};
 ghost use Rattle.trace_list_computed.specs.Promises.{ComputesList};
 use attack::inner::attacks_from;
 use attack::inner::occupied;
@@ -21,6 +23,7 @@ use chess::color::BLACK;
 use chess::color::WHITE;
 use chess::inner::index;
 use chess::kind::KINDS;
+use chess::kind::PAWN;
 use chess::piece::PIECES;
 use chess::piece::Piece;
 use position::Checked;
@@ -37,10 +40,40 @@ pub struct ListTraced {
     pub used: u8,
 }
 
+// The files that have one to their left, to their right; the ranks that have one before a pawn of White, of Black.
+const LEFT_OF: u64 = 0xfefe_fefe_fefe_fefe;
+
+const RIGHT_OF: u64 = 0x7f7f_7f7f_7f7f_7f7f;
+
+const BEFORE_WHITE: u64 = 0x00ff_ffff_ffff_ffff;
+
+const BEFORE_BLACK: u64 = 0xffff_ffff_ffff_ff00;
+
+// The pawns with a rank before them.
+fn with_rank(pawns: u64, color: u8) -> u64
+    ensures { λ r. ⌜ r ≡ bitAnd pawns (ranksBefore color) ⌝ }
+{
+    if color == WHITE {
+        return pawns & BEFORE_WHITE;
+    }
+    pawns & BEFORE_BLACK
+}
+
+// How many squares the pawns of a colour attack, all at once: one on each side that a pawn has.
+fn attacked_by_pawns(pawns: u64, color: u8) -> u32
+    ensures { λ r. ⌜ (r ≡ attackedFrom (λ s. attacks 0 color s 0) pawns) × (r ≤ 128) ⌝ }
+{
+    let pawns = with_rank(pawns, color);
+    bits::count(pawns & LEFT_OF) + bits::count(pawns & RIGHT_OF)
+}
+
 // How many squares the pieces of a kind and a colour attack.
 fn attacked(pieces: u64, kind: u8, color: u8, occupied: u64) -> u32
     ensures { λ r. ⌜ (r ≡ attackedFrom (λ s. attacks kind color s occupied) pieces) × (r ≤ 4096) ⌝ }
 {
+    if kind == PAWN {
+        return attacked_by_pawns(pieces, color);
+    }
     let mut rest = pieces;
     let mut sum: u32 = 0;
     loop {
@@ -103,20 +136,32 @@ fn put(bytes: &mut [u8; BYTES], n: usize, kind: u8, square: u8, color: u8)
     bytes[at + 2] = color;
 }
 
-// The same where such a piece stands: how many entries there are then.
-fn put_where(
-    there: bool,
+// The colour of the first piece that a square has.
+fn first(white: bool) -> u8
+    ensures { λ r. ⌜ r ≡ cond white 0 1 ⌝ }
+{
+    if white { WHITE } else { BLACK }
+}
+
+// The pieces that a square has, White's before Black's: how many entries there are then. The first of them is written by a choice of its colour and no jump, since
+// which colour stands on a square can't be guessed.
+fn put_both(
+    white: bool,
+    black: bool,
     bytes: &mut [u8; BYTES],
     n: usize,
     kind: u8,
     square: u8,
-    color: u8,
 ) -> usize
-    requires { ⌜ (there ≡ true → n < 64) ⌝ }
-    ensures { λ r. ⌜ (r ≡ n + digit there) × (now (bytes .exit) ≡ putWhere there kind square color n (now (bytes .entry))) ⌝ }
+    requires { ⌜ (white ≡ true → n < 64) × (black ≡ true → n + digit white < 64) ⌝ }
+    ensures { λ r. ⌜ (r ≡ n + digit white + digit black) × (now (bytes .exit) ≡ bothPut white black kind square n (now (bytes .entry))) ⌝ }
 {
-    if there {
-        put(bytes, n, kind, square, color);
+    if white | black {
+        put(bytes, n, kind, square, first(white));
+        if white & black {
+            put(bytes, n + 1, kind, square, BLACK);
+            return n + 2;
+        }
         return n + 1;
     }
     n
@@ -136,8 +181,7 @@ fn kind_listed(bitboards: &[u64], kind: u8, used: usize, bytes: &mut [u8; BYTES]
         let Lowest::At(s, r) = next else {
             return n;
         };
-        let m = put_where(stands(white, s), bytes, n, kind, s, WHITE);
-        n = put_where(stands(black, s), bytes, m, kind, s, BLACK);
+        n = put_both(stands(white, s), stands(black, s), bytes, n, kind, s);
         rest = r;
     }
 }

@@ -1,14 +1,15 @@
 // The double of a trace from its list: the flat form's, bit for bit, in one pass over the entries that there are.
 ghost use mathlib.Core.Path.{_≡_};
-ghost use lib.Dec.{T};
+ghost use mathlib.Core.Bool.{cond};
+ghost use lib.Dec.{T, eqb};
 ghost use lib.ListN.{length};
 ghost use Prim.Native.Nat.{_<_};
+ghost use Rattle.doubles.specs.Doubles.{d1, minus1};
 ghost use Rattle.places.specs.Places.{entryPlace};
 ghost use Rattle.trace_list.specs.Ones.{over};
 ghost use Rattle.trace_list.specs.Form.{isList, listPlaces};
 ghost use Rattle.trace_list_double.specs.Promises as P;
 ghost use Rattle.trace_list_double.specs.Promises.{DoublesList};
-use chess::color::WHITE;
 use chess::inner::index;
 use places::weight::SquareWeight;
 use refusal::Refusal;
@@ -18,6 +19,14 @@ use trace_double::Doubled;
 use trace_list::BYTES;
 use trace_list::PER_ENTRY;
 
+// 1 for White, −1 for Black, worked out: a jump on the colour can't be guessed.
+fn sign(color: u8) -> f64
+    requires { ⌜ color < 2 ⌝ }
+    ensures { λ r. ⌜ r ≡ cond (eqb color 0) d1 minus1 ⌝ }
+{
+    1.0 - 2.0 * (color as f64)
+}
+
 // From the score so far that with one entry more: White's is added, Black's subtracted.
 fn weighed(squares: &[f64], x: f64, score: f64, kind: u8, square: u8, color: u8) -> f64
     requires { ⌜ (length (now squares) ≡ 768) × (kind < 6) × (square < 64) × (color < 2) ⌝ }
@@ -25,11 +34,8 @@ fn weighed(squares: &[f64], x: f64, score: f64, kind: u8, square: u8, color: u8)
 {
     let at = SquareWeight::PER_KIND * index(kind) + index(square);
     let later = at + SquareWeight::PER_PHASE;
-    let value = 1.0 * ((squares[at] * (2.0 - x) + squares[later] * (x - 32.0)) / (2.0 - 32.0));
-    if color == WHITE {
-        return score + value;
-    }
-    score - value
+    let value = (squares[at] * (2.0 - x) + squares[later] * (x - 32.0)) / (2.0 - 32.0);
+    score + sign(color) * value
 }
 
 // All that are used, one after the other, from a score on.

@@ -1,5 +1,6 @@
 -- `fit_gradient::list_added` meets its contract. The loop's invariant: the sums have the entries passed in them. Assumes nothing.
 use mathlib.Core.Path.{_≡_, refl, sym, ap, _∙_}
+use mathlib.Core.List.{[], _∷_}
 use Prim.Native.Nat.{ℕ, _-_, _*_, _≤_}
 use native.Mathlib.Omega.{arith}
 use borrow.Author.Needs.{needs}
@@ -10,14 +11,15 @@ use Rattle.trace_list.proofs.Tests.{place-is}
 use Rattle.trace_list.proofs.There.{is-listed, place-below}
 use Rattle.trace_list.proofs.Folds.{fold-none, fold-more}
 use Rattle.fit_gradient.specs.Lists.{markOne}
+use Rattle.fit_gradient.proofs.Pairs.{pairs, paired}
 use Rattle.fit_gradient.proofs.list_added.Statement.{statement}
 use Rattle.fit_gradient.proofs.list_added.Tie as tie
 
 abbrev Inv-loop : tie.InvT-loop
-Inv-loop gradient₀ parts used bytes i₀ gradient i = (i ≤ used) × (length gradient ≡ 779) × (gradient ≡ over (markOne parts) gradient₀ (listPlaces bytes i))
+Inv-loop gradient₀ used bytes opening ending i₀ gradient i = (i ≤ used) × (length gradient ≡ 779) × (gradient ≡ over (markOne (pairs opening ending)) gradient₀ (listPlaces bytes i))
 
 abbrev μ-loop : tie.MeasureT-loop
-μ-loop gradient₀ parts used bytes i₀ gradient i = used - i
+μ-loop gradient₀ used bytes opening ending i₀ gradient i = used - i
 
 loop-holds : tie.Need-loop-holds Inv-loop μ-loop
 loop-holds c =
@@ -63,8 +65,20 @@ element-copy-out-entry-3 c =
 entry-requires : tie.Need-entry-requires Inv-loop μ-loop
 entry-requires c κs = search needs
 
-mark-requires : tie.Need-mark-requires Inv-loop μ-loop
-mark-requires c κs =
+mul-raise : tie.Need-mul-raise Inv-loop μ-loop
+mul-raise c = omega arith
+
+array-read-raise : tie.Need-array-read-raise Inv-loop μ-loop
+array-read-raise c = omega arith
+
+mul-raise-2 : tie.Need-mul-raise-2 Inv-loop μ-loop
+mul-raise-2 c = omega arith
+
+array-read-raise-2 : tie.Need-array-read-raise-2 Inv-loop μ-loop
+array-read-raise-2 c = omega arith
+
+raise-requires : tie.Need-raise-requires Inv-loop μ-loop
+raise-requires c κs =
     let e = c .before in
     let n = e .before .before .before .before in
     let l = n .before .loop in
@@ -89,8 +103,11 @@ loop-again c =
     let bs = s .args .bytes .now in
     let at = place-is bs (l .i) (3 * l .i) refl (e .entry .ensures) in
     let h = place-below (s .args .used) bs (is-listed (s .args .used) bs (s .pre .1)) (l .i) (n .loop-test .taken) in
-    let m = c .before .before .mark in
-    (omega arith, m .ensures .1, fold-more bs (markOne (s .args .parts)) (s .args .gradient .now) (l .i) (l .inv .2) (m .ensures .0 ∙ ap (markOne (s .args .parts) (l .gradient)) at))
+    let m = c .before .before .raise in
+    let p = s .args .parts in
+    let o = p .«white_opening» ∷ p .«black_opening» ∷ [] in
+    let d = p .«white_ending» ∷ p .«black_ending» ∷ [] in
+    (omega arith, m .ensures .1, fold-more bs (markOne (s .args .parts)) (s .args .gradient .now) (l .i) (l .inv .2) (paired o d (l .gradient) _ (e .entry .result) (m .ensures .0) ∙ ap (markOne p (l .gradient)) at))
 
 same-length : tie.Need-same-length Inv-loop μ-loop
 same-length c =
@@ -118,7 +135,11 @@ list-added-spec =
     add-entry-2
     element-copy-out-entry-3
     entry-requires
-    mark-requires
+    mul-raise
+    array-read-raise
+    mul-raise-2
+    array-read-raise-2
+    raise-requires
     add-i
     loop-less
     loop-again

@@ -1,6 +1,6 @@
 -- `trace_list_computed::kind_listed` meets its contract. The loop's invariant: the entries are those of the places up to the next square that a
 -- piece of either colour has. Assumes nothing.
-use mathlib.Core.Path.{_≡_, sym, ap, _∙_}
+use mathlib.Core.Path.{_≡_, refl, sym, ap, _∙_}
 use mathlib.Core.List.{_∷_}
 use Prim.Native.Nat.{_<_}
 use native.Mathlib.Omega.{arith}
@@ -75,48 +75,43 @@ made c =
 stands-requires : tie.Need-stands-requires Inv-loop μ-loop
 stands-requires c κs = came c .1
 
-put-where-requires : tie.Need-put-where-requires Inv-loop μ-loop
-put-where-requires c κs u =
-    let d = c .before in
-    let k = d .before in
-    let l = k .before .before .before .before in
-    let t = l .before in
-    let s = t .before .before .before .before in
-    white-room (s .args .bitboards .now) (s .args .kind) (k .before .next2 .given .0 .0) (t .before .before .standing .result) (t .turned .result) (s .pre .0) (came k .1)
-    (t .before .before .standing .ensures) (t .turned .ensures ∙ ap turnedOver (t .before .standing2 .ensures)) (s .pre .1) (l .loop .n) (l .loop .bytes) (made k) (d .stands .result) (d .stands .ensures) u
-
 stands-requires-2 : tie.Need-stands-requires-2 Inv-loop μ-loop
-stands-requires-2 c κs = came (c .before .before .before) .1
+stands-requires-2 c κs = came (c .before) .1
 
-put-where-requires-2 : tie.Need-put-where-requires-2 Inv-loop μ-loop
-put-where-requires-2 c κs u =
+put-both-requires : tie.Need-put-both-requires Inv-loop μ-loop
+put-both-requires c κs =
     let e = c .before in
-    let p = e .before in
-    let d = p .before .before in
+    let d = e .before in
     let k = d .before in
     let l = k .before .before .before .before in
     let t = l .before in
     let s = t .before .before .before .before in
-    black-room (s .args .bitboards .now) (s .args .kind) (k .before .next2 .given .0 .0) (t .before .before .standing .result) (t .turned .result) (s .pre .0) (came k .1)
-    (t .before .before .standing .ensures) (t .turned .ensures ∙ ap turnedOver (t .before .standing2 .ensures)) (s .pre .1) (l .loop .n) (l .loop .bytes) (made k) (d .stands .result) (d .stands .ensures)
-    (p .put-where .result) _ (p .put-where .ensures .0) (p .put-where .ensures .1) (e .stands2 .result) (e .stands2 .ensures) u
+    let b = s .args .bitboards .now in
+    let q = k .before .next2 .given .0 .0 in
+    let w = t .before .before .standing in
+    let v = t .turned .ensures ∙ ap turnedOver (t .before .standing2 .ensures) in (
+      white-room b (s .args .kind) q (w .result) (t .turned .result) (s .pre .0) (came k .1) (w .ensures) v (s .pre .1) (l .loop .n) (l .loop .bytes) (made k) (d .stands .result) (d .stands .ensures),
+      black-room b (s .args .kind) q (w .result) (t .turned .result) (s .pre .0) (came k .1) (w .ensures) v (s .pre .1) (l .loop .n) (l .loop .bytes) (made k) (d .stands .result) (d .stands .ensures) _ _ refl refl (e .stands2 .result) (e .stands2 .ensures),
+    )
 
 loop-less : tie.Need-loop-less Inv-loop μ-loop
-loop-less c = omega (arith, ap length (came (c .before .before .before .before .before .before) .0))
+loop-less c = omega (arith, ap length (came (c .before .before .before .before) .0))
 
 loop-again : tie.Need-loop-again Inv-loop μ-loop
 loop-again c =
     let e = c .before .before in
-    let p = e .before in
-    let d = p .before .before in
+    let d = e .before in
     let k = d .before in
     let l = k .before .before .before .before in
     let t = l .before in
     let s = t .before .before .before .before in
-    walk.walk-on (madeTo (s .args .bitboards .now) (s .args .kind)) 64 (l .loop .n, l .loop .bytes) (l .loop .rest) (k .before .next2 .given .0 .0) (k .before .next2 .given .0 .1 .0) (l .loop .inv) (came k .0) _ (omega arith)
-    (square-on (s .args .bitboards .now) (s .args .kind) (k .before .next2 .given .0 .0) (t .before .before .standing .result) (t .turned .result) (s .pre .0) (came k .1)
-    (t .before .before .standing .ensures) (t .turned .ensures ∙ ap turnedOver (t .before .standing2 .ensures)) (s .pre .1) (l .loop .n) (l .loop .bytes) (made k) (d .stands .result) (d .stands .ensures)
-    (p .put-where .result) _ (p .put-where .ensures .0) (p .put-where .ensures .1) (e .stands2 .result) (e .stands2 .ensures) (c .put-where2 .result) _ (c .put-where2 .ensures .0) (c .put-where2 .ensures .1))
+    let b = s .args .bitboards .now in
+    let q = k .before .next2 .given .0 .0 in
+    let w = t .before .before .standing in
+    let v = t .turned .ensures ∙ ap turnedOver (t .before .standing2 .ensures) in
+    walk.walk-on (madeTo b (s .args .kind)) 64 (l .loop .n, l .loop .bytes) (l .loop .rest) q (k .before .next2 .given .0 .1 .0) (l .loop .inv) (came k .0) _ (omega arith)
+    (square-on b (s .args .kind) q (w .result) (t .turned .result) (s .pre .0) (came k .1) (w .ensures) v (s .pre .1) (l .loop .n) (l .loop .bytes) (made k) (d .stands .result) (d .stands .ensures)
+    _ _ refl refl (e .stands2 .result) (e .stands2 .ensures) (c .put-both .result) _ (c .put-both .ensures .0) (c .put-both .ensures .1))
 
 pub kind-listed-spec : {M : Type 1} → statement M
 kind-listed-spec =
@@ -133,8 +128,7 @@ kind-listed-spec =
     enum-told
     returns
     stands-requires
-    put-where-requires
     stands-requires-2
-    put-where-requires-2
+    put-both-requires
     loop-less
     loop-again)

@@ -1,7 +1,7 @@
 -- `trace_list_double::weighed` meets its contract. Assumes nothing.
 use Prim.Native.Nat.{_+_, _*_}
 use native.Mathlib.Omega.{arith}
-use Rattle.trace_list_double.proofs.Colours.{white, black}
+use Rattle.trace_list_double.proofs.Colours.{by-sign}
 use borrow.Author.Needs.{needs}
 use Rattle.trace_list_double.proofs.weighed.Statement.{statement}
 use Rattle.trace_list_double.proofs.weighed.Tie as tie
@@ -33,21 +33,17 @@ mul-value-2 c = search needs
 shared-slice-read-value-2 : tie.Need-shared-slice-read-value-2
 shared-slice-read-value-2 c = search needs
 
+sign-requires : tie.Need-sign-requires
+sign-requires c κs = search needs
+
 returns : tie.Need-returns
 returns c =
     let i = c .before .before .before in
     let s = i .before .before .before in
     let a = s .args in
-    white (a .squares .now) (a .x) (a .score) (a .kind) (a .square) (a .color) (128 * i .before .index .result + i .index2 .result) (128 * i .before .index .result + i .index2 .result + 64)
-    (s .pre .2) (s .pre .3) (omega (arith, i .before .index .ensures, i .index2 .ensures)) (omega arith) (c .if1 .taken)
-
-returns-2 : tie.Need-returns-2
-returns-2 c =
-    let i = c .before .before .before in
-    let s = i .before .before .before in
-    let a = s .args in
-    black (a .squares .now) (a .x) (a .score) (a .kind) (a .square) (a .color) (128 * i .before .index .result + i .index2 .result) (128 * i .before .index .result + i .index2 .result + 64)
-    (s .pre .2) (s .pre .3) (omega (arith, i .before .index .ensures, i .index2 .ensures)) (omega arith) (c .if1 .left)
+    let at = 128 * i .before .index .result + i .index2 .result in
+    by-sign (a .squares .now) (a .x) (a .score) (a .kind) (a .square) (a .color) at (at + 64) (s .pre .2) (s .pre .3) (omega (arith, i .before .index .ensures, i .index2 .ensures)) (omega arith)
+    (c .sign .result) (c .sign .ensures)
 
 pub weighed-spec : {M : Type 1} → statement M
 weighed-spec =
@@ -62,5 +58,5 @@ weighed-spec =
     shared-slice-read-value
     mul-value-2
     shared-slice-read-value-2
-    returns
-    returns-2)
+    sign-requires
+    returns)

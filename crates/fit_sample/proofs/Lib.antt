@@ -1,3 +1,4 @@
 pub mod Parts
 pub mod Sampled
 pub mod Determined
+pub mod Examples

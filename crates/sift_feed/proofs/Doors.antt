@@ -37,7 +37,7 @@ room-holds size n k pos h = go (leb (size * k) n) refl
         not : (a b : ℕ) → b ≤ a → a < b → ⊥
         not a b p q = omega arith
 
-and-false : (a b : Bool) → b ≡ false → (a && b) ≡ false
+pub and-false : (a b : Bool) → b ≡ false → (a && b) ≡ false
 and-false true b e = e
 and-false false b e = refl
 

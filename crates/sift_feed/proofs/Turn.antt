@@ -93,17 +93,17 @@ module _ (most more : ℕ) (old new : List ℕ) (w : ℕ) (f : Filling most more
       ∙ sym (written-is old 0 (take w new) fits)
 
 -- ---- a line more, loaded or refused
-loaded-one : (t : Bool) (n : ℕ) → n + cond t 1 0 ≡ tally n t
-loaded-one true n = refl
-loaded-one false n = omega arith
+pub tally-loaded : (t : Bool) (n : ℕ) → n + cond t 1 0 ≡ tally n t
+tally-loaded true n = refl
+tally-loaded false n = omega arith
 
-refused-one : (t : Bool) (n : ℕ) → n + cond t 0 1 ≡ tally n (not t)
-refused-one true n = omega arith
-refused-one false n = refl
+pub tally-refused : (t : Bool) (n : ℕ) → n + cond t 0 1 ≡ tally n (not t)
+tally-refused true n = omega arith
+tally-refused false n = refl
 
-both-one : (t : Bool) (a b loaded refused : ℕ) → a ≡ cond t 1 0 → b ≡ cond t 0 1 → loaded + a + (refused + b) ≡ loaded + refused + 1
-both-one true a b loaded refused e f = omega arith
-both-one false a b loaded refused e f = omega arith
+pub tally-either : (t : Bool) (a b loaded refused : ℕ) → a ≡ cond t 1 0 → b ≡ cond t 0 1 → loaded + a + (refused + b) ≡ loaded + refused + 1
+tally-either true a b loaded refused e f = omega arith
+tally-either false a b loaded refused e f = omega arith
 
 abbrev pub begunAt : SoFar → Begun
 begunAt state = record { held = state .held; cr = state .cr }
@@ -162,11 +162,11 @@ module _ (form : Form) (whole : CutSoFar Sifting) (chunk made₀ rows₀ line ma
       let s′ : Sifting = sifting (loaded + c .loaded) (refused + c .refused) (take (c .made) made′) (take (c .rows) rows′) in
       let next : s′ ≡ close so-far line′ (r .size) =
       sifting-same
-      (ap (λ (n : ℕ). loaded + n) (k .loaded) ∙ loaded-one (isLoaded said) loaded)
-      (ap (λ (n : ℕ). refused + n) (k .refused) ∙ refused-one (isLoaded said) refused)
+      (ap (λ (n : ℕ). loaded + n) (k .loaded) ∙ tally-loaded (isLoaded said) loaded)
+      (ap (λ (n : ℕ). refused + n) (k .refused) ∙ tally-refused (isLoaded said) refused)
       (fill-front (roomOf form) many fewer made₀ made w (t .making) b a made′ (c .made) (k .making) short)
       (fill-front 32 many fewer rows₀ rows v (t .rowing) b d rows′ (c .rows) (k .rowing) low) in
-      let both = both-one (isLoaded said) (c .loaded) (c .refused) loaded refused (k .loaded) (k .refused) in
+      let both = tally-either (isLoaded said) (c .loaded) (c .refused) loaded refused (k .loaded) (k .refused) in
       record {
         lines = Lines.turn-next close whole 256 chunk line begun so-far i (t .lines) h r line′ p s′ (next ∙ sym (ap (λ (x : Bool). cond x (close so-far line′ (r .size)) so-far) e));
         making = fill-more (roomOf form) many fewer made₀ made w (t .making) b a made′ (c .made) (k .making) short;
@@ -179,7 +179,7 @@ module _ (form : Form) (whole : CutSoFar Sifting) (chunk made₀ rows₀ line ma
       → (loaded + c .loaded < 2 ^ 64) × (refused + c .refused < 2 ^ 64)
   turn-fits e made′ rows′ c k =
       let b = Lines.next-line begun line chunk i r line′ p e in
-      let both = both-one (isLoaded (saidOf line′ (r .size))) (c .loaded) (c .refused) loaded refused (k .loaded) (k .refused) in
+      let both = tally-either (isLoaded (saidOf line′ (r .size))) (c .loaded) (c .refused) loaded refused (k .loaded) (k .refused) in
       (omega (arith, t .counts), omega (arith, t .counts))
 
 -- before the first byte

@@ -1,0 +1,1 @@
+// A whole collection sifted, however it is cut: a claim, and no code.

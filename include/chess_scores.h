@@ -236,6 +236,33 @@ chess_code chess_ledger_feed(uint64_t state[CHESS_LEDGER_STATE], uint8_t *line, 
 chess_code chess_ledger_finish(const uint64_t state[CHESS_LEDGER_STATE], const uint8_t *line, size_t line_length, uint8_t *out,
                                size_t out_length, size_t *wrote);
 
+/* ---- the samples of a collection for a fit, fed in pieces of any size
+ *
+ * What a fit keeps of a loaded line: what chess_compute_list gives of its position, and its half points. It is as the doors write it, 300 bytes with the lowest byte of
+ * a number first: on a little-endian machine this struct. A fit sees what the ledger shows: state and line buffer are the ledger's, and the counts of both are equal. */
+enum { CHESS_SAMPLE = 300 };
+
+typedef struct {
+    int32_t counts[CHESS_COUNTS];
+    int32_t mobility[CHESS_COUNTS];
+    int32_t sign;
+    int32_t piece_count;
+    uint8_t used;
+    uint8_t half_points;
+    uint8_t list[CHESS_LIST];
+    uint8_t zero[2];
+} chess_sample;
+
+/* The samples of the loaded lines that end in a piece, and the ledger's rows of the refused ones; how many bytes were sampled, and how many bytes of rows written.
+ * SHAPE, LEDGER_MANY, LEDGER_FULL (not CHESS_SAMPLE bytes for samples, and CHESS_LEDGER_ROW for rows, for each LF in the piece). */
+chess_code chess_samples_feed(uint64_t state[CHESS_LEDGER_STATE], uint8_t *line, size_t line_length, const uint8_t *piece, size_t piece_length,
+                              uint8_t *samples, size_t samples_length, uint8_t *rows, size_t rows_length, size_t *sampled, size_t *wrote);
+
+/* The end of the input: the sample of a last line that has no LF, or its row, and the ledger's last row. SHAPE, LEDGER_MANY, LEDGER_FULL (not CHESS_SAMPLE bytes for
+ * samples if a line is unfinished, or not CHESS_LEDGER_LAST for rows). */
+chess_code chess_samples_finish(const uint64_t state[CHESS_LEDGER_STATE], const uint8_t *line, size_t line_length, uint8_t *samples, size_t samples_length,
+                                uint8_t *rows, size_t rows_length, size_t *sampled, size_t *wrote);
+
 /* ---- expected results, and how far a collection's results lie from them */
 
 /* The expected result of a score for White, in millionths of a point: a million times 1/(1 + 10^(-score/400)), cut to a whole number, of

@@ -45,6 +45,8 @@ pub(crate) mod doors {
         pub fn chess_shipped_weights(weights: *mut f64, squares: *mut f64, w: usize) -> Code;
         pub fn chess_ledger_feed(state: *mut u64, line: *mut u8, l: usize, piece: *const u8, p: usize, out: *mut u8, o: usize, wrote: *mut usize) -> Code;
         pub fn chess_ledger_finish(state: *const u64, line: *const u8, l: usize, out: *mut u8, o: usize, wrote: *mut usize) -> Code;
+        pub fn chess_samples_feed(state: *mut u64, line: *mut u8, l: usize, piece: *const u8, p: usize, samples: *mut u8, s: usize, rows: *mut u8, r: usize, sampled: *mut usize, wrote: *mut usize) -> Code;
+        pub fn chess_samples_finish(state: *const u64, line: *const u8, l: usize, samples: *mut u8, s: usize, rows: *mut u8, r: usize, sampled: *mut usize, wrote: *mut usize) -> Code;
         pub fn chess_expected(score: i16) -> u32;
         pub fn chess_error_add(totals: *mut u64, side: u8, some: bool, score: i16, half_points: u8) -> Code;
         pub fn chess_error_feed(state: *mut u64, line: *mut u8, l: usize, piece: *const u8, p: usize) -> Code;
@@ -678,6 +680,106 @@ impl Ledger {
             unsafe { doors::chess_ledger_finish(self.state.as_ptr(), self.line.as_ptr(), 256, out.as_mut_ptr(), out.len(), wrote) }
         });
     }
+}
+
+/// What a fit keeps of a loaded line: its list and its half points, as the doors write them.
+#[repr(C)]
+#[derive(Clone, Copy, Debug, PartialEq, Eq)]
+pub struct Sample {
+    pub counts: [i32; 12],
+    pub mobility: [i32; 12],
+    pub sign: i32,
+    pub piece_count: i32,
+    pub used: u8,
+    pub half_points: u8,
+    pub entries: [[u8; 3]; 64],
+    pub zero: [u8; 2],
+}
+
+const _: () = assert!(std::mem::size_of::<Sample>() == Sample::BYTES);
+
+impl Sample {
+    /// The bytes of a sample.
+    pub const BYTES: usize = 300;
+
+    const NONE: Sample = Sample { counts: [0; 12], mobility: [0; 12], sign: 0, piece_count: 0, used: 0, half_points: 0, entries: [[0; 3]; 64], zero: [0; 2] };
+
+    /// The list of its position.
+    pub fn list(&self) -> TraceList {
+        TraceList { counts: self.counts, mobility: self.mobility, sign: self.sign, piece_count: self.piece_count, used: self.used, entries: self.entries }
+    }
+
+    /// The numbers as this machine has them: they were written with the lowest byte first.
+    fn turn(&mut self) {
+        let numbers = self.counts.iter_mut().chain(&mut self.mobility);
+        numbers.chain([&mut self.sign, &mut self.piece_count]).for_each(|number| *number = i32::from_le(*number));
+    }
+}
+
+/// The samples of a collection for a fit, fed in pieces of any size: a sample for each loaded line, and the ledger's rows of the refused ones with its last row.
+///
+/// ```
+/// let mut collection = chess_scores::Samples::new();
+/// let (mut samples, mut rows) = (Vec::new(), Vec::new());
+/// collection.feed(b"4k3/8/8/8/8/8/4P3/4K3 w;1-0\nx\n8/8/8/8/8/8/8/8 w;1/", &mut samples, &mut rows);
+/// collection.feed(b"2-1/2", &mut samples, &mut rows);
+/// collection.finish(&mut samples, &mut rows);
+/// assert_eq!(rows, b"2 refused 10\nlines 3 loaded 2 refused 1\n");
+/// assert_eq!((samples.len(), samples[0].half_points, samples[1].half_points), (2, 2, 1));
+/// ```
+pub struct Samples {
+    state: [u64; 4],
+    line: [u8; 256],
+}
+
+impl Default for Samples {
+    fn default() -> Samples {
+        Samples::new()
+    }
+}
+
+impl Samples {
+    /// Before anything was read.
+    pub fn new() -> Samples {
+        Samples { state: [0; 4], line: [0; 256] }
+    }
+
+    /// The samples of the loaded lines that end in a piece, and the rows of the refused ones, added. More lines than 64 bits count end in a panic.
+    pub fn feed(&mut self, piece: &[u8], samples: &mut Vec<Sample>, rows: &mut Vec<u8>) {
+        let ends = piece.iter().filter(|&&byte| byte == b'\n').count();
+        sampled(samples, ends, |bytes, sampled| {
+            written(rows, ends * Ledger::ROW, |out, wrote| {
+                // SAFETY: the pointers are those of arrays of `self` and of slices, with their lengths, and none overlap; every byte of a sample may be any.
+                unsafe {
+                    doors::chess_samples_feed(self.state.as_mut_ptr(), self.line.as_mut_ptr(), 256, piece.as_ptr(), piece.len(), bytes.as_mut_ptr().cast(),
+                        bytes.len() * Sample::BYTES, out.as_mut_ptr(), out.len(), sampled, wrote)
+                }
+            })
+        });
+    }
+
+    /// The end of the input: the sample of a last line that has no LF, or its row, and the ledger's last row.
+    pub fn finish(self, samples: &mut Vec<Sample>, rows: &mut Vec<u8>) {
+        sampled(samples, 1, |bytes, sampled| {
+            written(rows, Ledger::LAST_ROWS, |out, wrote| {
+                // SAFETY: as in `feed`.
+                unsafe {
+                    doors::chess_samples_finish(self.state.as_ptr(), self.line.as_ptr(), 256, bytes.as_mut_ptr().cast(), bytes.len() * Sample::BYTES,
+                        out.as_mut_ptr(), out.len(), sampled, wrote)
+                }
+            })
+        });
+    }
+}
+
+/// The samples that a door writes, added where there is room for so many.
+fn sampled(samples: &mut Vec<Sample>, room: usize, door: impl FnOnce(&mut [Sample], &mut usize)) {
+    let start = samples.len();
+    let mut bytes = 0;
+    samples.resize(start + room, Sample::NONE);
+    door(&mut samples[start..], &mut bytes);
+    samples.truncate(start + bytes / Sample::BYTES);
+    samples[start..].iter_mut().for_each(Sample::turn);
 }
 
 /// The expected result of a score for White, in millionths of a point; in steps of four, and beyond 1600 and -1600 that of the end.

@@ -125,6 +125,50 @@ fn ledger_however_it_is_cut() {
 }
 
 #[test]
+fn samples_however_they_are_cut() {
+    let input = format!("{START};1-0\r\n\n4k3/8/8/8/8/8/4P3/4K3 b;0-1\nx;1-0\n8/8/8/8/8/8/8/8 w;1/2-1/2");
+    let cut = |size: usize| {
+        let (mut collection, mut samples, mut rows) = (Samples::new(), Vec::new(), Vec::new());
+        input.as_bytes().chunks(size).for_each(|piece| collection.feed(piece, &mut samples, &mut rows));
+        collection.finish(&mut samples, &mut rows);
+        (samples, String::from_utf8(rows).unwrap())
+    };
+    let (samples, rows) = cut(input.len());
+    assert!((1..input.len()).all(|size| cut(size) == (samples.clone(), rows.clone())));
+    // refused lines have rows and no samples, loaded ones samples and no rows; the counts are the ledger's
+    assert_eq!(rows, "2 refused 10\n4 refused 11\nlines 5 loaded 3 refused 2\n");
+    assert_eq!(samples.iter().map(|sample| sample.half_points).collect::<Vec<_>>(), [2, 0, 1]);
+    let weights = Weights::shipped();
+    for (sample, line) in samples.iter().zip([START, "4k3/8/8/8/8/8/4P3/4K3 b", "8/8/8/8/8/8/8/8 w"]) {
+        let list = position(line).trace_list().unwrap();
+        assert_eq!((sample.list(), sample.zero), (list.clone(), [0, 0]), "{line}");
+        assert_eq!(sample.list().eval(&weights).unwrap().to_bits(), list.eval(&weights).unwrap().to_bits(), "{line}");
+    }
+}
+
+#[test]
+fn samples_with_too_little_room() {
+    let input = b"4k3/8/8/8/8/8/4P3/4K3 w;1-0\n";
+    for (samples, rows, code) in [(300, 32, 0), (299, 32, 254), (300, 31, 254)] {
+        let (mut state, mut line, mut sampled, mut wrote) = ([0u64, 0, 7, 8], [9u8; 256], 5, 6);
+        let (mut made, mut told) = (vec![1u8; samples], vec![2u8; rows]);
+        // SAFETY: the pointers are those of locals, with their lengths.
+        let given = unsafe {
+            doors::chess_samples_feed(state.as_mut_ptr(), line.as_mut_ptr(), 256, input.as_ptr(), input.len(), made.as_mut_ptr(), samples, told.as_mut_ptr(), rows,
+                &mut sampled, &mut wrote)
+        };
+        assert_eq!(given.number, code);
+        if code == 0 {
+            assert_eq!((state, sampled, wrote, made[104], made[105]), ([0, 0, 8, 8], 300, 0, 3, 2));
+        } else {
+            // full, and nothing was written before it was said
+            assert_eq!((state, line, sampled, wrote), ([0, 0, 7, 8], [9; 256], 5, 6));
+            assert!(made.iter().all(|&byte| byte == 1) && told.iter().all(|&byte| byte == 2));
+        }
+    }
+}
+
+#[test]
 fn traces() {
     let trace = position(START).trace().unwrap();
     assert_eq!(trace.counts, [8, 8, 2, 2, 2, 2, 2, 2, 1, 1, 1, 1]);

@@ -3,8 +3,16 @@ use mathlib.Core.Path.{_≡_}
 use mathlib.Core.List.{List}
 use Prim.Native.Nat.{ℕ}
 use Rattle.refusal.proofs.Paper.{one}
-use Rattle.abi_ledgers.specs.Promises.{FeedsLedger, FinishesLedger}
+use Rattle.abi_ledgers.specs.Promises.{ReadsState, GivesState, FeedsLedger, FinishesLedger}
 use Rattle.abi_codes.specs.declared.Code.{Code}
+use Rattle.ledger_feed.specs.declared.SoFar.{SoFar}
+
+-- ---- the state
+pub state-of : (numbers : List ℕ) (r s : SoFar) → ReadsState numbers r → ReadsState numbers s → r ≡ s
+state-of numbers r s p q = one p q
+
+pub numbers-of : (state : SoFar) (r s : List ℕ) → GivesState state r → GivesState state s → r ≡ s
+numbers-of state r s p q = one p q
 
 -- ---- the ledger
 pub ledger-feed : (state line chunk out : List ℕ) (wrote : ℕ) (r s : Code) (t t′ l l′ o o′ : List ℕ) (w w′ : ℕ)

@@ -6,11 +6,19 @@ use lib.ListN.{length}
 use Rattle.abi_codes.specs.declared.Code.{Code}
 use Rattle.text_out.specs.Text.{writtenOf as bufferOf}
 use Rattle.ledger_feed.specs.Machine.{Machine}
+use Rattle.ledger_feed.specs.declared.SoFar.{SoFar}
 use Rattle.ledger_feed.specs.Promises as Rows
 use Rattle.ledger_feed.specs.Promises.{feedOf, lineAfter, textAfter}
 use Rattle.ledger_finish.specs.Promises.{finishOf, lastText}
 use Rattle.abi_ledgers.specs.Ledger as Ledger
 use Rattle.abi_ledgers.specs.Ledger.{stateFrom, stateNumbers}
+
+-- ---- its state, for every door that is fed
+abbrev pub ReadsState : List ℕ → SoFar → Type 0
+ReadsState numbers r = r ≡ stateFrom numbers
+
+abbrev pub GivesState : SoFar → List ℕ → Type 0
+GivesState state r = r ≡ stateNumbers state
 
 -- ---- the ledger
 pub record FeedsLedger (state line chunk out : List ℕ) (wrote : ℕ) (r : Code) (state′ line′ out′ : List ℕ) (wrote′ : ℕ) : Type 0 where

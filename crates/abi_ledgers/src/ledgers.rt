@@ -1,7 +1,5 @@
 // The ledger of a collection, fed in pieces of any size. Its state is lent as four numbers, all 0 before anything was read.
-ghost use mathlib.Core.Path.{_≡_};
-ghost use Rattle.abi_ledgers.specs.Ledger.{stateFrom, stateNumbers};
-ghost use Rattle.abi_ledgers.specs.Promises.{FeedsLedger, FinishesLedger};
+ghost use Rattle.abi_ledgers.specs.Promises.{ReadsState, GivesState, FeedsLedger, FinishesLedger};
 use abi_codes::Code;
 use abi_codes::GIVEN;
 use abi_codes::NO_SQUARE;
@@ -12,25 +10,26 @@ use ledger_feed::SoFar;
 use ledger_finish::Finished;
 
 // Bytes held of the line that has not ended, whether the last was a CR, loaded rows, refused rows.
-const NUMBERS: usize = 4;
+pub const NUMBERS: usize = 4;
 
 // The ledger's own, no refusals of the documents' table: too little room for the rows, and more lines than 64 bits count.
 pub const LEDGER_FULL: u8 = 254;
 
 pub const LEDGER_MANY: u8 = 255;
 
-const FULL: Code = Code {
+pub const FULL: Code = Code {
     number: LEDGER_FULL,
     square: NO_SQUARE,
 };
 
-const MANY: Code = Code {
+pub const MANY: Code = Code {
     number: LEDGER_MANY,
     square: NO_SQUARE,
 };
 
-fn state_of(numbers: &[u64; NUMBERS]) -> SoFar
-    ensures { λ r. ⌜ r ≡ stateFrom (now (numbers .entry)) ⌝ }
+// The state of its numbers.
+pub fn state_of(numbers: &[u64; NUMBERS]) -> SoFar
+    ensures { λ r. ⌜ ReadsState (now (numbers .entry)) r ⌝ }
 {
     SoFar {
         held: numbers[0] as usize,
@@ -40,8 +39,9 @@ fn state_of(numbers: &[u64; NUMBERS]) -> SoFar
     }
 }
 
-fn numbers_of(state: SoFar) -> [u64; NUMBERS]
-    ensures { λ r. ⌜ r ≡ stateNumbers state ⌝ }
+// And back.
+pub fn numbers_of(state: SoFar) -> [u64; NUMBERS]
+    ensures { λ r. ⌜ GivesState state r ⌝ }
 {
     [
         state.held as u64,

@@ -42,6 +42,7 @@ mod ours;
 mod processor;
 mod rays;
 mod records;
+mod whole_fits;
 
 use processor::seconds;
 use std::hint::black_box;
@@ -81,6 +82,7 @@ fn usage() -> ! {
     eprintln!("functions COUNT ROUNDS    each function over so many positions");
     eprintln!("rays ROUNDS               a queen's attacks on boards from empty to crowded");
     eprintln!("fits ROUNDS               gradients and steps over 40 and 500 positions");
+    eprintln!("fit PROGRAM POSITIONS      a whole fit by PROGRAM, what bin/fit has built, against the original's tune with one thread");
     eprintln!("ledgers MOST ROUNDS       both ledgers over 10,000 lines, ten times as many, .. up to MOST");
     eprintln!("records LINES ROUNDS      so many lines read as text, beside their store read by number");
     eprintln!("errors LINES ROUNDS       the sum of errors over so many lines, beside their ledger");
@@ -100,6 +102,7 @@ fn main() -> io::Result<()> {
     match words.as_slice() {
         ["functions", count, rounds] => functions::measure(number(count), number(rounds)),
         ["fits", rounds] => fits::table(number(rounds)),
+        ["fit", program, count] => whole_fits::table(program, number(count))?,
         ["rays", rounds] => rays::measure(number(rounds)),
         ["ledgers", most, rounds] => ledgers(number(most), number(rounds)),
         ["records", count, rounds] => records::table(&drawn::lines(number(count)), number(rounds)),

@@ -45,16 +45,22 @@ pub fn drawn(count: usize) -> Vec<Position> {
     found
 }
 
+/// The results of lines, in turn.
+pub const RESULTS: [&str; 3] = ["1-0", "0-1", "1/2-1/2"];
+
+/// A line of a collection.
+fn line(position: &Position, result: &str) -> String {
+    let line = placement::write(&position.board, position.side);
+    format!("{} - - 0 1;{}\n", line.split(';').next().unwrap(), result)
+}
+
 /// Their lines, results in turn, one in fifty with none that is known.
 pub fn lines(count: usize) -> Vec<u8> {
-    let results = ["1-0", "0-1", "1/2-1/2"];
     let drawn = drawn(count.min(100_000));
-    let mut text = Vec::new();
-    for place in 0..count {
-        let position = &drawn[place % drawn.len()];
-        let line = placement::write(&position.board, position.side);
-        let result = if place % 50 == 49 { "*" } else { results[place % 3] };
-        text.extend(format!("{} - - 0 1;{}\n", line.split(';').next().unwrap(), result).bytes());
-    }
-    text
+    (0..count).flat_map(|place| line(&drawn[place % drawn.len()], if place % 50 == 49 { "*" } else { RESULTS[place % 3] }).into_bytes()).collect()
+}
+
+/// Lines that are loaded, all of them, results in turn.
+pub fn loaded_lines(drawn: &[Position]) -> Vec<u8> {
+    drawn.iter().enumerate().flat_map(|(place, position)| line(position, RESULTS[place % 3]).into_bytes()).collect()
 }

@@ -1,4 +1,4 @@
-// The processor time that this process has used: what else runs on the machine is not in it.
+// The processor time that this process, or those that it has waited for, have used: what else runs on the machine is not in it.
 
 /// `struct rusage` of 64-bit Linux: two pairs of seconds and microseconds, of the process and of the system for it, and what is not read here.
 #[repr(C)]
@@ -14,16 +14,24 @@ extern "C" {
 }
 
 const SELF: i32 = 0;
+const CHILDREN: i32 = -1;
 
-fn used() -> f64 {
+fn used(who: i32) -> f64 {
     let mut usage = Usage::default();
-    assert_eq!(unsafe { getrusage(SELF, &mut usage) }, 0);
+    assert_eq!(unsafe { getrusage(who, &mut usage) }, 0);
     [usage.user, usage.system].iter().map(|[seconds, micros]| *seconds as f64 + *micros as f64 / 1e6).sum()
 }
 
 /// The seconds of processor time that a run takes.
 pub fn seconds(run: impl FnOnce()) -> f64 {
-    let start = used();
+    let start = used(SELF);
     run();
-    used() - start
+    used(SELF) - start
+}
+
+/// The same of the processes that a run waits for.
+pub fn seconds_of_children(run: impl FnOnce()) -> f64 {
+    let start = used(CHILDREN);
+    run();
+    used(CHILDREN) - start
 }

@@ -3,6 +3,7 @@
 SHAPE = 1
 # 2 was BOARD. Document 02 has 14 to 16 in its place, and no other refusal has its number.
 SCORE, SQUARE, MOVE, CROWD, TRACE, LONG, BYTE, FIELD, PLACE, SIDE, RESULT, OVERLAP, UNION, BYTEBOARD = range(3, 17)
+ROOM = 17
 LENGTH = 18
 CODE = 19
 ORDER = 20

@@ -28,18 +28,27 @@ def line_text(board, side, half_points):
     return position_text(board, side) + b";" + RESULT[half_points]
 
 
-def rewritten(collection):
-    """Each loaded line in the one form, with LF; and the rows of the others with the ledger's last row."""
-    lines, rows, number = [], [], 0
-    for number, line in enumerate(lines_of(collection), 1):
+def ended_line(board, side, half_points):
+    return line_text(board, side, half_points) + b"\n"
+
+
+def sifted(pieces, read, make):
+    """What is made of each piece that is loaded; and the rows of the others with the ledger's last row."""
+    made, rows, number = [], [], 0
+    for number, piece in enumerate(pieces, 1):
         try:
-            read = read_line(line)
+            one = read(piece)
         except Refused as refused:
             rows.append(f"{number} refused {refused.number}\n")
             continue
-        lines.append(line_text(read.board, read.side, read.half_points) + b"\n")
-    rows.append(f"lines {number} loaded {len(lines)} refused {len(rows)}\n")
-    return b"".join(lines), "".join(rows)
+        made.append(make(one.board, one.side, one.half_points))
+    rows.append(f"lines {number} loaded {len(made)} refused {len(rows)}\n")
+    return b"".join(made), "".join(rows)
+
+
+def rewritten(collection):
+    """Each loaded line in the one form, with LF."""
+    return sifted(lines_of(collection), read_line, ended_line)
 
 
 if __name__ == "__main__":

@@ -1,5 +1,6 @@
-// A line that ends, by a buffer that holds its first bytes: what is made of it goes into one buffer, or the row of its refusal into the other.
-ghost use Rattle.sift_close.specs.Ended.{ClosesSifted};
+// A line or a record that ends: what is made of it goes into one buffer, or the row of its refusal into the other.
+ghost use Rattle.sift_close.specs.Ended.{ClosesSifted, TellsRead};
+use line::inner::Loaded;
 use line_parse::Read;
 use sift_form::Form;
 
@@ -11,20 +12,18 @@ pub struct Closed {
     pub rows: usize,
 }
 
-// A line of so many bytes is LONG where the buffer does not hold it whole. Where a buffer lacks the room, nothing changes in it.
-pub fn close(
+// What a reader gave decides, whether of a line or of a record. Where a buffer lacks the room, nothing changes in it.
+pub fn tell(
     form: Form,
-    line: &[u8],
-    size: usize,
+    read: Loaded,
     number: u64,
     made: &mut [u8],
     at: usize,
     rows: &mut [u8],
     from: usize,
 ) -> Closed
-    ensures { λ r. ⌜ ClosesSifted form (now (line .entry)) size number (now (made .entry)) at (now (rows .entry)) from r (now (made .exit)) (now (rows .exit)) ⌝ }
+    ensures { λ r. ⌜ TellsRead form read number (now (made .entry)) at (now (rows .entry)) from r (now (made .exit)) (now (rows .exit)) ⌝ }
 {
-    let read = line_held::read(line, size);
     let answer = read.answer;
     match answer {
         Read::Refused(refusal) => Closed {
@@ -44,4 +43,28 @@ pub fn close(
             }
         }
     }
+}
+
+// A line by a buffer that holds its first bytes: one of so many bytes is LONG where the buffer does not hold it whole.
+pub fn close(
+    form: Form,
+    line: &[u8],
+    size: usize,
+    number: u64,
+    made: &mut [u8],
+    at: usize,
+    rows: &mut [u8],
+    from: usize,
+) -> Closed
+    ensures { λ r. ⌜ ClosesSifted form (now (line .entry)) size number (now (made .entry)) at (now (rows .entry)) from r (now (made .exit)) (now (rows .exit)) ⌝ }
+{
+    tell(
+        form,
+        line_held::read(line, size),
+        number,
+        made,
+        at,
+        rows,
+        from,
+    )
 }

@@ -39,13 +39,13 @@ pub record Filling (most more : ℕ) (old new : List ℕ) (w : ℕ) : Type 0 whe
   pub room : w + most * more ≤ length old
   pub rest : drop w new ≡ drop w old
 
-fill-none : (most more : ℕ) (old : List ℕ) → most * more ≤ length old → Filling most more old old 0
+pub fill-none : (most more : ℕ) (old : List ℕ) → most * more ≤ length old → Filling most more old old 0
 fill-none most more old h = record { same = refl; room = start (most * more) (length old) h; rest = refl }
   where
     start : (a b : ℕ) → a ≤ b → 0 + a ≤ b
     start a b q = omega arith
 
-fill-same : (most more more′ : ℕ) (old new : List ℕ) (w : ℕ) → more ≡ more′ → Filling most more old new w → Filling most more′ old new w
+pub fill-same : (most more more′ : ℕ) (old new : List ℕ) (w : ℕ) → more ≡ more′ → Filling most more old new w → Filling most more′ old new w
 fill-same most more more′ old new w e f = subst (λ (n : ℕ). Filling most n old new w) e f
 
 module _ (most more more′ : ℕ) (old new : List ℕ) (w : ℕ) (f : Filling most more old new w) (one : more ≡ more′ + 1) (text new′ : List ℕ) (w′ : ℕ) (a : Adds new w text new′ w′)
@@ -59,10 +59,10 @@ module _ (most more more′ : ℕ) (old new : List ℕ) (w : ℕ) (f : Filling m
       within : (p q n o t : ℕ) → p ≡ q + most → w + p ≤ o → n ≡ o → t ≤ most → w + t ≤ n
       within p q n o t e h s k = omega arith
 
-  fill-front : take w′ new′ ≡ take w new ++ text
+  pub fill-front : take w′ new′ ≡ take w new ++ text
   fill-front = adds-front a fits
 
-  fill-more : Filling most more′ old new′ w′
+  pub fill-more : Filling most more′ old new′ w′
   fill-more = record {
     same = adds-length a fits ∙ f .same;
     room = within (most * more) (most * more′) (length old) (length text) apart (f .room) (adds-to a fits) short;
@@ -77,16 +77,16 @@ module _ (most more more′ : ℕ) (old new : List ℕ) (w : ℕ) (f : Filling m
 
 -- what stands in it then
 module _ (most more : ℕ) (old new : List ℕ) (w : ℕ) (f : Filling most more old new w) where
-  fill-within : w ≤ length old
+  pub fill-within : w ≤ length old
   fill-within = less (most * more) (length old) (f .room)
     where
       less : (a b : ℕ) → w + a ≤ b → w ≤ b
       less a b h = omega arith
 
-  fill-size : length (take w new) ≡ w
+  pub fill-size : length (take w new) ≡ w
   fill-size = length-take-le w new (let s = f .same in omega (arith, fill-within))
 
-  fill-written : new ≡ writtenOf old 0 (take w new)
+  pub fill-written : new ≡ writtenOf old 0 (take w new)
   fill-written =
       let size = fill-size in
       let fits : 0 + length (take w new) ≤ length old = omega (arith, fill-within) in
@@ -112,7 +112,7 @@ begunAt state = record { held = state .held; cr = state .cr }
 abbrev pub sifting : ℕ → ℕ → List ℕ → List ℕ → Sifting
 sifting loaded refused made rows = record { loaded = loaded; refused = refused; made = made; rows = rows }
 
-sifting-same : {l l′ r r′ : ℕ} {m m′ t t′ : List ℕ} → l ≡ l′ → r ≡ r′ → m ≡ m′ → t ≡ t′ → sifting l r m t ≡ sifting l′ r′ m′ t′
+pub sifting-same : {l l′ r r′ : ℕ} {m m′ t t′ : List ℕ} → l ≡ l′ → r ≡ r′ → m ≡ m′ → t ≡ t′ → sifting l r m t ≡ sifting l′ r′ m′ t′
 sifting-same p q r s = cc
 
 pub record Turn (form : Form) (whole : CutSoFar Sifting) (chunk made₀ rows₀ line made rows : List ℕ) (begun : Begun) (loaded refused w v i : ℕ) : Type 0 where

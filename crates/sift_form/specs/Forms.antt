@@ -7,6 +7,7 @@ use Rattle.position.specs.declared.State.{State}
 use Rattle.line_parse.specs.Line.{Line}
 use Rattle.line_text.specs.Lines.{endedLine}
 use Rattle.fit_sample.specs.Sample.{sampleOf}
+use Rattle.store_record.specs.Record.{recordOf}
 use Rattle.sift_form.specs.declared.Form.{Form}
 use Rattle.sift_form.specs.declared.Form.the-variants as F
 
@@ -14,11 +15,13 @@ use Rattle.sift_form.specs.declared.Form.the-variants as F
 abbrev pub roomOf : Form → ℕ
 roomOf F.Sample = 300
 roomOf F.Text = 82
+roomOf F.Record = 34
 
--- the bytes made of a position and half points: its sample, none where it is at odds with itself; its line, with LF
+-- the bytes made of a position and half points: its sample, none where it is at odds with itself; its line, with LF; its record
 abbrev pub madeFrom : Form → List ℕ → List ℕ → State → ℕ → List ℕ
 madeFrom F.Sample bbs board state half = sampleOf bbs board state half
 madeFrom F.Text bbs board state half = endedLine board state half
+madeFrom F.Record bbs board state half = recordOf (record { state = state; half = half; board = board })
 
 -- the bytes made of a loaded line
 abbrev pub madeOf : Form → Line → List ℕ

@@ -3,10 +3,11 @@ ghost use Rattle.sift_form.specs.Promises.{TakesRoom, MakesForm};
 use position::State;
 use text_out::Placed;
 
-// The forms: a sample for a fit; the line written back, with LF.
+// The forms: a sample for a fit; the line written back, with LF; the record of a store.
 pub enum Form {
     Sample,
     Text,
+    Record,
 }
 
 // The most bytes that are made of a line.
@@ -16,6 +17,7 @@ pub fn room(form: Form) -> usize
     match form {
         Form::Sample => fit_sample::SAMPLE,
         Form::Text => line_spell::inner::ENDED,
+        Form::Record => store_record::inner::RECORD,
     }
 }
 
@@ -34,5 +36,9 @@ pub fn make(
     match form {
         Form::Sample => fit_sample::inner::put(bitboards, board, state, half, out, at),
         Form::Text => line_spell::inner::ended(board, state, half, out, at),
+        Form::Record => {
+            let record = store_record::inner::pack(board, state.side, half);
+            text_out::put(out, at, &record)
+        }
     }
 }

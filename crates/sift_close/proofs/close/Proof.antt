@@ -1,75 +1,30 @@
--- `sift_close::close` meets its contract: what was read decides. Assumes nothing.
+-- `sift_close::close` meets its contract: what was read of a line is what it says. Assumes nothing.
 use borrow.Author.Needs.{needs}
 use denote.Ref.{now}
-use Rattle.sift_close.proofs.Said.{close-refused, close-loaded}
+use Rattle.line_held.specs.Held.{saidOf}
+use Rattle.sift_close.proofs.Said.{told-said}
 use Rattle.sift_close.proofs.close.Statement.{statement}
 use Rattle.sift_close.proofs.close.Tie as tie
 
 read-requires : tie.Need-read-requires
 read-requires c κs = search needs
 
-enum-known-answer : tie.Need-enum-known-answer
-enum-known-answer c = search needs
-
-refused-requires : tie.Need-refused-requires
-refused-requires c κs = search needs
-
-or-requires : tie.Need-or-requires
-or-requires c κs = search needs
-
-enum-known-answer-2 : tie.Need-enum-known-answer-2
-enum-known-answer-2 c = search needs
-
-slice-aggregate-make : tie.Need-slice-aggregate-make
-slice-aggregate-make c = search needs
-
-slice-aggregate-make-2 : tie.Need-slice-aggregate-make-2
-slice-aggregate-make-2 c = search needs
-
-make-requires : tie.Need-make-requires
-make-requires c κs = search needs
-
-or-requires-2 : tie.Need-or-requires-2
-or-requires-2 c κs = search needs
+tell-requires : tie.Need-tell-requires
+tell-requires c κs = search needs
 
 same-length : tie.Need-same-length
 same-length c = search needs
 
-returns : tie.Need-returns
-returns c =
-    let a = c .before .before .before .before .before .before .before .before .before .before .before .before .args in
-    let r = c .before .before .before .before .before .before .before .before .read in
-    let k = c .before .before .before .before .before .before .answer .given in
-    let p = c .before .before .before .refused in
-    close-refused (a .form) (now (a .line)) (a .size) (a .number) (r .result) (r .ensures) (now (a .made)) (a .at) (now (a .rows)) (a .from) (k .0 .0) (k .1)
-    (p .last .1 .1 .0) (p .result) (p .ensures) (c .or .result) (c .or .ensures)
-
 same-length-2 : tie.Need-same-length-2
 same-length-2 c = search needs
 
-returns-2 : tie.Need-returns-2
-returns-2 c =
-    let a = c .before .before .before .before .before .before .before .before .before .before .before .before .before .before .before .before .args in
-    let r = c .before .before .before .before .before .before .before .before .before .before .before .before .read in
-    let k = c .before .before .before .before .before .before .before .before .before .before .answer2 .given in
-    let p = c .before .before .before .make in
-    close-loaded (a .form) (now (a .line)) (a .size) (a .number) (r .result) (r .ensures) (now (a .made)) (a .at) (now (a .rows)) (a .from) (k .0 .0) (k .0 .1 .0) (k .1)
-    (p .last .1 .1 .1 .1 .1 .0) (p .result) (p .ensures) (c .or2 .result) (c .or2 .ensures)
+returns : tie.Need-returns
+returns c =
+    let t = c .before .before .before .before .tell in
+    let r = c .before .before .before .before .before .before .before .read in
+    let a = c .before .before .before .before .before .before .before .before .before .before .before .args in
+    told-said (a .form) (r .result) (a .number) (now (a .made)) (a .at) (now (a .rows)) (a .from) (saidOf (now (a .line)) (a .size)) (r .ensures)
+    (t .result) (t .last .1 .1 .1 .0) (t .last .1 .1 .1 .1 .1 .0) (t .ensures)
 
 pub close-spec : {M : Type 1} → statement M
-close-spec =
-    tie.close
-    (tie.spec
-    read-requires
-    enum-known-answer
-    refused-requires
-    or-requires
-    enum-known-answer-2
-    slice-aggregate-make
-    slice-aggregate-make-2
-    make-requires
-    or-requires-2
-    same-length
-    returns
-    same-length-2
-    returns-2)
+close-spec = tie.close (tie.spec read-requires tell-requires same-length same-length-2 returns)

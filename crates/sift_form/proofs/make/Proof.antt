@@ -1,6 +1,9 @@
 -- `sift_form::make` meets its contract: each arm has its form's promise. Assumes nothing.
 use mathlib.Core.Path.{sym, subst}
+use mathlib.Core.List.{List}
+use Prim.Native.Nat.{ℕ}
 use denote.Ref.{now}
+use Rattle.text_out.specs.Text.{Puts}
 use Rattle.sift_form.specs.Promises.{MakesForm}
 use Rattle.sift_form.specs.declared.Form.{Form}
 use borrow.Author.Needs.{needs}
@@ -18,6 +21,18 @@ enum-told-2 c = search needs
 
 ended-requires : tie.Need-ended-requires
 ended-requires c κs = search needs
+
+enum-told-3 : tie.Need-enum-told-3
+enum-told-3 c = search needs
+
+pack-requires : tie.Need-pack-requires
+pack-requires c κs = search needs
+
+slice-aggregate-put : tie.Need-slice-aggregate-put
+slice-aggregate-put c = search needs
+
+put-requires-2 : tie.Need-put-requires-2
+put-requires-2 c κs = search needs
 
 same-length : tie.Need-same-length
 same-length c = search needs
@@ -37,6 +52,17 @@ returns-2 c =
     let p = c .before .before .ended in
     subst (λ (form : Form). MakesForm form (now (a .bitboards)) (now (a .board)) (a .state) (a .half) (now (a .out)) (p .last .1 .1 .1 .0) (a .at) (p .result)) (sym (c .before .before .before .before .enum-told2 .given .1)) (p .ensures)
 
+same-length-3 : tie.Need-same-length-3
+same-length-3 c = search needs
+
+returns-3 : tie.Need-returns-3
+returns-3 c =
+    let k = c .before .before .before .before .before in
+    let a = k .before .before .before .before .before .before .args in
+    let p = c .before .before .put2 in
+    subst (λ (form : Form). MakesForm form (now (a .bitboards)) (now (a .board)) (a .state) (a .half) (now (a .out)) (p .last .0) (a .at) (p .result)) (sym (k .before .enum-told3 .given .1))
+    (subst (λ (text : List ℕ). Puts (now (a .out)) (p .last .0) (a .at) text (p .result)) (k .pack .ensures) (p .ensures))
+
 pub make-spec : {M : Type 1} → statement M
 make-spec =
     tie.close
@@ -45,7 +71,13 @@ make-spec =
     put-requires
     enum-told-2
     ended-requires
+    enum-told-3
+    pack-requires
+    slice-aggregate-put
+    put-requires-2
     same-length
     returns
     same-length-2
-    returns-2)
+    returns-2
+    same-length-3
+    returns-3)

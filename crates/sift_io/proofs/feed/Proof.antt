@@ -1,11 +1,11 @@
--- `rewrite::feed` is safe and ends. Assumes nothing.
+-- `sift_io::feed` is safe and ends. Assumes nothing.
 use mathlib.Core.Path.{sym}
 use native.Mathlib.Omega.{arith}
 use lib.Seq.{length-take-le}
-use Rattle.rewrite.proofs.Within.{made-within, rows-within}
+use Rattle.sift_io.proofs.Within.{made-within, rows-within}
 use borrow.Author.Needs.{needs}
-use Rattle.rewrite.proofs.feed.Statement.{statement}
-use Rattle.rewrite.proofs.feed.Tie as tie
+use Rattle.sift_io.proofs.feed.Statement.{statement}
+use Rattle.sift_io.proofs.feed.Tie as tie
 
 feed-requires : tie.Need-feed-requires
 feed-requires c κs = search needs

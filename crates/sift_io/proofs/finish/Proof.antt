@@ -1,11 +1,11 @@
--- `rewrite::finish` is safe and ends. Assumes nothing.
+-- `sift_io::finish` is safe and ends. Assumes nothing.
 use mathlib.Core.Path.{sym}
 use native.Mathlib.Omega.{arith}
 use lib.Seq.{length-take-le}
-use Rattle.rewrite.proofs.Within.{told-within}
+use Rattle.sift_io.proofs.Within.{told-within}
 use borrow.Author.Needs.{needs}
-use Rattle.rewrite.proofs.finish.Statement.{statement}
-use Rattle.rewrite.proofs.finish.Tie as tie
+use Rattle.sift_io.proofs.finish.Statement.{statement}
+use Rattle.sift_io.proofs.finish.Tie as tie
 
 finish-requires : tie.Need-finish-requires
 finish-requires c κs = search needs

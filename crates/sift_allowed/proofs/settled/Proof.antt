@@ -1,9 +1,9 @@
--- `rewrite::settled` meets its contract. Assumes nothing.
+-- `sift_allowed::settled` meets its contract. Assumes nothing.
 use mathlib.Core.Path.{sym, ap}
 use mathlib.Core.Bool.{Bool, _||_}
 use borrow.Author.Tests.{eq-eqb, ne-eqb}
-use Rattle.rewrite.proofs.settled.Statement.{statement}
-use Rattle.rewrite.proofs.settled.Tie as tie
+use Rattle.sift_allowed.proofs.settled.Statement.{statement}
+use Rattle.sift_allowed.proofs.settled.Tie as tie
 
 returns : tie.Need-returns
 returns c = let a = c .before .args in sym (ap (λ (t : Bool). t || a .allowed) (eq-eqb (a .refused) 0 (c .if1 .taken)))

@@ -1,14 +1,11 @@
--- `rewrite::read_some` is safe and ends. Assumes nothing.
+-- `sift_io::read_some` is safe and ends. Assumes nothing.
 use mathlib.Core.Path.{sym}
 use native.Mathlib.Omega.{arith}
 use lib.Seq.{length-take-le}
 use Rattle.stream_io.proofs.Within.{taken-within}
 use borrow.Author.Needs.{needs}
-use Rattle.rewrite.proofs.read_some.Statement.{statement}
-use Rattle.rewrite.proofs.read_some.Tie as tie
-
-slice-aggregate-read : tie.Need-slice-aggregate-read
-slice-aggregate-read c = search needs
+use Rattle.sift_io.proofs.read_some.Statement.{statement}
+use Rattle.sift_io.proofs.read_some.Tie as tie
 
 read-requires : tie.Need-read-requires
 read-requires c κs = search needs
@@ -62,7 +59,6 @@ pub read-some-spec : {M : Type 1} → statement M
 read-some-spec =
     tie.close
     (tie.spec
-    slice-aggregate-read
     read-requires
     enum-known-n
     slice-reshare-prefix-feed

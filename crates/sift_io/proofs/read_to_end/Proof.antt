@@ -1,19 +1,19 @@
--- `rewrite::read_to_end` is safe and ends: the turns are counted. Assumes nothing.
+-- `sift_io::read_to_end` is safe and ends: the turns are counted. Assumes nothing.
 use mathlib.Core.Path.{_≡_}
 use Prim.Native.Nat.{_≤_, _-_, _^_}
 use native.Mathlib.Omega.{arith}
 use lib.ListN.{length}
 use Rattle.stream.proofs.Calls.{may-count}
 use borrow.Author.Needs.{needs}
-use Rattle.rewrite.proofs.read_to_end.Statement.{statement}
-use Rattle.rewrite.proofs.read_to_end.Tie as tie
+use Rattle.sift_io.proofs.read_to_end.Statement.{statement}
+use Rattle.sift_io.proofs.read_to_end.Tie as tie
 
 abbrev Inv-loop : tie.InvT-loop
-Inv-loop line₀ chunk₀ made₀ rows₀ state₀ turns₀ t8 line chunk made rows state turns =
+Inv-loop form line₀ chunk₀ made₀ rows₀ input output errors state₀ turns₀ t line chunk made rows state turns =
     (turns ≤ 2 ^ 62) × (length chunk ≡ length chunk₀) × (length made ≡ length made₀) × (length rows ≡ length rows₀) × (length line ≡ length line₀)
 
 abbrev μ-loop : tie.MeasureT-loop
-μ-loop line₀ chunk₀ made₀ rows₀ state₀ turns₀ t8 line chunk made rows state turns = 2 ^ 62 - turns
+μ-loop form line₀ chunk₀ made₀ rows₀ input output errors state₀ turns₀ t line chunk made rows state turns = 2 ^ 62 - turns
 
 start-requires : tie.Need-start-requires Inv-loop μ-loop
 start-requires c κs = search needs

@@ -1,0 +1,3 @@
+pub mod Pieces
+pub mod Doors
+pub mod Determined

@@ -1,10 +1,8 @@
 """Totals beside a store (02, W-214): 770 numbers, worked out afresh and kept up to date by adding and replacing records."""
 
-import sys
-
 from .pieces import CODES
-from .refusal import ABSENT, LENGTH, MANY, ROOM, SHAPE, Refused, refuse_unless
-from .store import SIZE, pieces_of, read_piece, read_record, write_record
+from .refusal import ABSENT, LENGTH, MANY, ROOM, SHAPE, refuse_unless
+from .store import SIZE, pieces_of, read_record, write_record
 
 MOST = 10_000_000
 PLACES = 2 + 64 * len(CODES)

@@ -10,7 +10,7 @@ use Rattle.refusal.specs.Answer.{Answer, given, refusalOf, orRefuse}
 use Rattle.refusal.specs.declared.Refusal.the-variants as R
 use Rattle.store_cut.specs.Cut.{PiecesSoFar}
 use Rattle.store_gather.specs.Gather.{Gathered}
-use Rattle.store_gather.specs.Promises.{runGather, piecesGathered, stateIn, bufferAfter, summaryAfter, FeedsSummary, TakesPieces, endFirst, EndsSummary}
+use Rattle.store_gather.specs.Promises.{runGather, piecesGathered, stateIn, gatheredPiece, summaryAfter, FeedsSummary, TakesPieces, endFirst, EndsSummary}
 use Rattle.store_gather.specs.declared.First.{First}
 use Rattle.store_gather.specs.declared.GatheredSoFar.{GatheredSoFar}
 use Rattle.store_gather.specs.declared.Gathering.the-variants as G
@@ -19,7 +19,7 @@ module _ (state : GatheredSoFar) (piece chunk summary : List ℕ) where
   refuses : (eqb (length piece) 34 && eqb (length summary) 770) && ltb (state .held) 34 ≡ false → FeedsSummary state piece chunk summary (G.Refused R.Shape) piece summary
   refuses e =
       let a : refusalOf R.Shape ≡ piecesGathered state piece chunk summary = sym (ap (λ (t : Bool). orRefuse t R.Shape (given (runGather state piece chunk summary))) e) in
-      record { answer = ap stateIn a; kept = ap (λ (x : Answer (PiecesSoFar Gathered)). bufferAfter x piece) a; counts = ap (λ (x : Answer (PiecesSoFar Gathered)). summaryAfter x summary) a }
+      record { answer = ap stateIn a; kept = ap (λ (x : Answer (PiecesSoFar Gathered)). gatheredPiece x piece) a; counts = ap (λ (x : Answer (PiecesSoFar Gathered)). summaryAfter x summary) a }
 
   pub no-buffer : (length piece ≡ 34 → ⊥) → FeedsSummary state piece chunk summary (G.Refused R.Shape) piece summary
   no-buffer n = refuses (ap (λ (t : Bool). (t && eqb (length summary) 770) && ltb (state .held) 34) (ne-eqb (length piece) 34 n))
@@ -40,7 +40,7 @@ module _ (state : GatheredSoFar) (piece chunk summary : List ℕ) where
       let a : given (runGather state piece chunk summary) ≡ piecesGathered state piece chunk summary = sym (ap (λ (t : Bool). orRefuse t R.Shape (given (runGather state piece chunk summary))) held) in
       record {
         answer = ap given (t .answer) ∙ ap stateIn a;
-        kept = t .kept ∙ ap (λ (x : Answer (PiecesSoFar Gathered)). bufferAfter x piece) a;
+        kept = t .kept ∙ ap (λ (x : Answer (PiecesSoFar Gathered)). gatheredPiece x piece) a;
         counts = t .counts ∙ ap (λ (x : Answer (PiecesSoFar Gathered)). summaryAfter x summary) a;
       }
 

@@ -54,9 +54,9 @@ abbrev pub stateIn : Answer (PiecesSoFar Gathered) → Answer GatheredSoFar
 stateIn (given r) = given (soFar r)
 stateIn (refused n v) = refused n v
 
-abbrev pub bufferAfter : Answer (PiecesSoFar Gathered) → List ℕ → List ℕ
-bufferAfter (given r) old = r .left .piece
-bufferAfter (refused n v) old = old
+abbrev pub gatheredPiece : Answer (PiecesSoFar Gathered) → List ℕ → List ℕ
+gatheredPiece (given r) old = r .left .piece
+gatheredPiece (refused n v) old = old
 
 abbrev pub summaryAfter : Answer (PiecesSoFar Gathered) → List ℕ → List ℕ
 summaryAfter (given r) old = r .kept .summary
@@ -64,7 +64,7 @@ summaryAfter (refused n v) old = old
 
 pub record FeedsSummary (state : GatheredSoFar) (piece chunk summary : List ℕ) (r : Gathering) (piece′ summary′ : List ℕ) : Type 0 where
   pub answer : gatheringPaper r ≡ stateIn (piecesGathered state piece chunk summary)
-  pub kept : piece′ ≡ bufferAfter (piecesGathered state piece chunk summary) piece
+  pub kept : piece′ ≡ gatheredPiece (piecesGathered state piece chunk summary) piece
   pub counts : summary′ ≡ summaryAfter (piecesGathered state piece chunk summary) summary
 
 -- ---- the end: "a short last piece", 18

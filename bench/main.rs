@@ -42,6 +42,7 @@ mod ours;
 mod processor;
 mod rays;
 mod records;
+mod summaries;
 mod whole_fits;
 
 use processor::seconds;
@@ -85,6 +86,7 @@ fn usage() -> ! {
     eprintln!("fit PROGRAM POSITIONS      a whole fit by PROGRAM, what bin/fit has built, against the original's tune with one thread");
     eprintln!("ledgers MOST ROUNDS       both ledgers over 10,000 lines, ten times as many, .. up to MOST");
     eprintln!("records LINES ROUNDS      so many lines read as text, beside their store read by number");
+    eprintln!("summaries ROUNDS          a record added to stores of 1,000, 100,000 and 10,000,000");
     eprintln!("errors LINES ROUNDS       the sum of errors over so many lines, beside their ledger");
     eprintln!("lines COUNT               a collection of so many lines on standard output");
     eprintln!("ours, theirs              a ledger of standard input; the peak of memory on standard error");
@@ -106,6 +108,7 @@ fn main() -> io::Result<()> {
         ["rays", rounds] => rays::measure(number(rounds)),
         ["ledgers", most, rounds] => ledgers(number(most), number(rounds)),
         ["records", count, rounds] => records::table(&drawn::lines(number(count)), number(rounds)),
+        ["summaries", rounds] => summaries::table(number(rounds)),
         ["errors", count, rounds] => errors::table(&drawn::lines(number(count)), number(count), number(rounds)),
         ["lines", count] => io::stdout().write_all(&drawn::lines(number(count)))?,
         ["ours"] => ledger::ours(io::stdin().lock(), output)?,

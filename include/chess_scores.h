@@ -117,6 +117,22 @@ chess_code chess_read_record(const uint8_t *run, size_t run_length, uint64_t num
 chess_code chess_write_record(const uint64_t *bitboards, size_t bitboards_length, const uint8_t *board, size_t board_length, uint8_t side,
                               uint8_t half_points, uint8_t *place, size_t place_length);
 
+/* ---- totals beside a store: CHESS_SUMMARY numbers. The records, the half points, and then 64 for each piece in the order of the codes: how
+ * many stand on each square from a1. All 0 for a store without records. Sums wrap where a summary is not its store's. */
+
+enum { CHESS_SUMMARY = 770 };
+
+/* Writes the record of a position and its half points at the number that the summary counts to, and counts it. SHAPE, OVERLAP, UNION, BYTEBOARD,
+ * RESULT, LENGTH (the run is no multiple of 34 bytes), MANY (past the 10,000,000th), ROOM (the run has no place for it). */
+chess_code chess_add_record(const uint64_t *bitboards, size_t bitboards_length, const uint8_t *board, size_t board_length, uint8_t side,
+                            uint8_t half_points, uint8_t *run, size_t run_length, uint64_t *summary, size_t summary_length);
+
+/* Takes the record of a number off the summary and puts another in its place. SHAPE, OVERLAP, UNION, BYTEBOARD, RESULT, LENGTH, ABSENT (of the
+ * run), CODE, SIDE, RESULT (of the old record), ABSENT (the summary counts to the number or less). */
+chess_code chess_replace_record(const uint64_t *bitboards, size_t bitboards_length, const uint8_t *board, size_t board_length, uint8_t side,
+                                uint8_t half_points, uint64_t number, uint8_t *run, size_t run_length, uint64_t *summary,
+                                size_t summary_length);
+
 /* ---- scores: of a position for the side to move */
 
 /* The verdict: fewer than two kings in all is lost or won; fewer than four pieces and only kings, knights and bishops is drawn; else

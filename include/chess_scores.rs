@@ -27,6 +27,8 @@ pub(crate) mod doors {
         pub fn chess_write_line(bitboards: *const u64, b: usize, board: *const u8, s: usize, side: u8, request: u8, half_points: u8, out: *mut u8, n: usize, length: *mut usize) -> Code;
         pub fn chess_read_record(run: *const u8, n: usize, number: u64, bitboards: *mut u64, b: usize, board: *mut u8, s: usize, side: *mut u8, half_points: *mut u8) -> Code;
         pub fn chess_write_record(bitboards: *const u64, b: usize, board: *const u8, s: usize, side: u8, half_points: u8, place: *mut u8, p: usize) -> Code;
+        pub fn chess_add_record(bitboards: *const u64, b: usize, board: *const u8, s: usize, side: u8, half_points: u8, run: *mut u8, n: usize, summary: *mut u64, m: usize) -> Code;
+        pub fn chess_replace_record(bitboards: *const u64, b: usize, board: *const u8, s: usize, side: u8, half_points: u8, number: u64, run: *mut u8, n: usize, summary: *mut u64, m: usize) -> Code;
         pub fn chess_eval_ending(bitboards: *const u64, b: usize, board: *const u8, s: usize, side: u8, verdict: *mut u8) -> Code;
         pub fn chess_eval_material(bitboards: *const u64, b: usize, board: *const u8, s: usize, side: u8, color: u8, material: *mut i16) -> Code;
         pub fn chess_eval(bitboards: *const u64, b: usize, board: *const u8, s: usize, side: u8, verdict: *mut u8, score: *mut i16) -> Code;
@@ -341,6 +343,9 @@ pub fn read_record(run: &[u8], number: u64) -> Result<(Position, u8), Refusal> {
     given(code, (read, half))
 }
 
+/// The numbers of a store's summary: records, half points, and 64 for each piece in the order of the codes. All 0 for a store without records.
+pub const SUMMARY: usize = 770;
+
 /// The squares that a piece of a code attacks from a square, each ray up to and including the first square of `occupied`.
 /// SHAPE, SQUARE.
 pub fn piece_attacks(piece: u8, square: u8, occupied: u64) -> Result<u64, Refusal> {
@@ -374,6 +379,24 @@ impl Position {
         let mut place = [0; RECORD];
         let code = unsafe { doors::chess_write_record(self.bitboards.as_ptr(), 14, self.board.as_ptr(), 64, self.side, half_points, place.as_mut_ptr(), RECORD) };
         given(code, place)
+    }
+
+    /// The record of the position in a run, at the number that the summary counts to, and counted; a refusal changes neither.
+    /// SHAPE, OVERLAP, UNION, BYTEBOARD, RESULT, LENGTH, MANY, ROOM.
+    pub fn add_record(&self, half_points: u8, run: &mut [u8], summary: &mut [u64]) -> Result<(), Refusal> {
+        let code = unsafe {
+            doors::chess_add_record(self.bitboards.as_ptr(), 14, self.board.as_ptr(), 64, self.side, half_points, run.as_mut_ptr(), run.len(), summary.as_mut_ptr(), summary.len())
+        };
+        given(code, ())
+    }
+
+    /// The record of the position in the place of a number's, which is taken off the summary; a refusal changes neither.
+    /// SHAPE, OVERLAP, UNION, BYTEBOARD, RESULT, LENGTH, ABSENT, CODE, SIDE, RESULT, ABSENT.
+    pub fn replace_record(&self, half_points: u8, number: u64, run: &mut [u8], summary: &mut [u64]) -> Result<(), Refusal> {
+        let code = unsafe {
+            doors::chess_replace_record(self.bitboards.as_ptr(), 14, self.board.as_ptr(), 64, self.side, half_points, number, run.as_mut_ptr(), run.len(), summary.as_mut_ptr(), summary.len())
+        };
+        given(code, ())
     }
 
     /// The verdict, or none. SHAPE, OVERLAP, UNION, BYTEBOARD.

@@ -201,6 +201,42 @@ fn records() {
 }
 
 #[test]
+fn summaries() {
+    let pawn = position("8/8/8/8/8/8/8/Pq6 b");
+    let king = position("4k3/8/8/8/8/8/8/4K3 w");
+    let place = |code: usize, square: usize| 2 + 64 * (code - 2) + square;
+    let (mut run, mut summary) = ([0; 3 * RECORD], [0; SUMMARY]);
+    assert_eq!(pawn.add_record(1, &mut run, &mut summary), Ok(()));
+    assert_eq!(king.add_record(2, &mut run, &mut summary), Ok(()));
+    assert_eq!(run[..2 * RECORD], [pawn.record(1).unwrap(), king.record(2).unwrap()].concat()[..]);
+    assert_eq!((summary[0], summary[1], summary[place(2, 0)], summary[place(13, 1)], summary[place(6, 4)]), (2, 3, 1, 1, 1));
+    // A black piece's squares are not turned.
+    assert_eq!((summary[place(7, 60)], summary[place(7, 4)], summary.iter().sum::<u64>()), (1, 0, 9));
+    // The old record is taken off: what is left is the summary of the king's record twice.
+    assert_eq!(king.replace_record(0, 0, &mut run, &mut summary), Ok(()));
+    assert_eq!((summary[0], summary[1], summary[place(2, 0)], summary[place(6, 4)], summary.iter().sum::<u64>()), (2, 2, 0, 2, 8));
+    // Record 2 of the run is there and can be read, but the summary counts two.
+    let (old_run, old_summary) = (run, summary);
+    assert_eq!(king.replace_record(0, 2, &mut run, &mut summary), Err(Refusal::Absent));
+    assert_eq!(king.replace_record(0, 3, &mut run, &mut summary), Err(Refusal::Absent));
+    assert_eq!(king.add_record(3, &mut run, &mut summary), Err(Refusal::Result));
+    assert_eq!(king.add_record(1, &mut run[1..], &mut summary), Err(Refusal::Length));
+    assert_eq!(king.add_record(1, &mut run[..68], &mut summary), Err(Refusal::Room));
+    assert_eq!(king.add_record(1, &mut run, &mut summary[1..]), Err(Refusal::Shape));
+    assert_eq!((run, summary), (old_run, old_summary));
+    // MANY before ROOM; a summary that is not its store's wraps.
+    summary[0] = 10_000_000;
+    assert_eq!(king.add_record(1, &mut run, &mut summary), Err(Refusal::Many));
+    summary[0] = 0;
+    summary[1] = u64::MAX;
+    summary[place(6, 4)] = u64::MAX;
+    assert_eq!(king.add_record(2, &mut run, &mut summary), Ok(()));
+    assert_eq!((summary[0], summary[1], summary[place(6, 4)]), (1, 1, 0));
+    run[34] = 0x0f;
+    assert_eq!(king.replace_record(1, 1, &mut run, &mut summary), Err(Refusal::Code(0)));
+}
+
+#[test]
 fn ledger_however_it_is_cut() {
     let input = b"4k3/8/8/8/8/8/4P3/4K3 w - - 0 1;1-0\r\n\n8/8/8/8/8/8/8/8 w;1/2-1/2\n4k3/8/8/8/8/8/4P3/4K3 b;1/2";
     let ledger = |size: usize| {

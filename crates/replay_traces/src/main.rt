@@ -6,6 +6,7 @@ use places::weight::SquareWeight;
 use position::State;
 use text_in::inner::is;
 use text_in::inner::past;
+use text_in::inner::text_after;
 use text_in::inner::text_before;
 use trace_counts::Trace;
 use trace_double::Doubled;
@@ -33,26 +34,50 @@ fn answer_all(questions: &[u8]) {
     }
 }
 
+// A word that begins with `list_` asks the same by way of the list.
 fn answer(question: &[u8]) {
     let word = replay_question::word(question);
+    let as_list = is_listed(word);
+    let asked = bare(word);
     let n = replay_question::numbers(question);
-    if is(word, b"wild") {
-        return prints::doubled(of_seed(n[2], seeds::PLACES, 0, n[0], n[1], false));
+    if is(asked, b"wild") {
+        return prints::doubled(of_seed(n[2], seeds::PLACES, 0, n[0], n[1], as_list));
     }
-    if is(word, b"odd") {
-        return prints::doubled(of_seed(n[4], n[0] as usize, seeds::value(n[1]), n[2], n[3], false));
+    if is(asked, b"odd") {
+        return prints::doubled(of_seed(
+            n[4],
+            n[0] as usize,
+            seeds::value(n[1]),
+            n[2],
+            n[3],
+            as_list,
+        ));
     }
-    if is(word, b"list_wild") {
-        return prints::doubled(of_seed(n[2], seeds::PLACES, 0, n[0], n[1], true));
+    of_text(
+        asked,
+        n[0],
+        n[1],
+        replay_question::position(question),
+        as_list,
+    )
+}
+
+fn is_listed(word: &[u8]) -> bool {
+    is(text_before(word, b'_'), b"list")
+}
+
+fn bare(word: &[u8]) -> &[u8] {
+    if is_listed(word) {
+        return text_after(word, b'_');
     }
-    if is(word, b"list_odd") {
-        return prints::doubled(of_seed(n[4], n[0] as usize, seeds::value(n[1]), n[2], n[3], true));
+    word
+}
+
+fn of_text(asked: &[u8], kind: u64, seed: u64, text: &[u8], as_list: bool) {
+    if as_list {
+        return by_list(asked, kind, seed, text);
     }
-    let position = replay_question::position(question);
-    if is(word, b"list_trace") | is(word, b"list_double") {
-        return by_list(word, n[0], n[1], position);
-    }
-    of_position(word, n[0], n[1], position)
+    of_position(asked, kind, seed, text)
 }
 
 // The double of a seed's trace, one of whose numbers is set to a value, if it has the place; as it is, or by way of its list.
@@ -101,7 +126,7 @@ fn by_list(word: &[u8], kind: u64, seed: u64, text: &[u8]) {
     let computed = trace_list_computed::compute_list(&bitboards, &board, state(read), &mut bytes);
     let t = computed.trace;
     let used = computed.used;
-    if is(word, b"list_trace") {
+    if is(word, b"trace") {
         let mut entries = [0i32; Entry::COUNT];
         trace_list_turn::flat_of(t, used, &bytes, &mut entries);
         return prints::trace(t, &entries);

@@ -13,7 +13,7 @@ use Rattle.position_odds.specs.Named.{lowestWrong}
 use Rattle.ledger_row.specs.Row.{rowOf}
 use Rattle.ledger_row.proofs.Lengths.{test-small, answer-32}
 use Rattle.store_record.specs.Record.{boardIn, sideIn, halfIn, isCode, recordSays, pieceSays}
-use Rattle.store_same.proofs.Trips.{spells}
+use Rattle.store_same.proofs.Trips.{halves-back}
 
 piece-small : (piece : List ℕ) (n : ℕ) (v : List ℕ) → refused n v ≡ pieceSays piece → n < 100
 unfolding pieceSays recordSays
@@ -24,4 +24,4 @@ piece-small piece n v =
 
 pub piece-32 : (number : ℕ) (piece : List ℕ) → length (rowOf number (pieceSays piece)) ≤ 32
 piece-32 number piece =
-    answer-32 number (pieceSays piece) (piece-small piece) (λ l e. let s = spells piece l (sym e) in omega (arith, s .half, s .half-3))
+    answer-32 number (pieceSays piece) (piece-small piece) (λ l e. let s = halves-back piece l (sym e) in omega (arith, s .half, s .half-3))

@@ -27,7 +27,7 @@ use Rattle.store_record.specs.Record.{recordOf, pieceSays, storedSays}
 use Rattle.store_record.specs.Promises.{storeOf, isStored, placeAfter}
 use Rattle.store_record.proofs.Records.{record-34}
 use Rattle.store_same.specs.Same.{WroteRecord, ReadBack, Again, Back, TwoHaveTwo}
-use Rattle.store_same.proofs.Trips.{says-it, spells, read-64, record-back}
+use Rattle.store_same.proofs.Trips.{says-it, halves-back, read-64, record-back}
 
 -- a record alone is record 0 of its run
 alone : (bytes : List ℕ) → length bytes ≡ 34 → storedSays bytes 0 ≡ pieceSays bytes
@@ -98,7 +98,7 @@ module _ (w : WroteRecord) where
 -- ---- READ, THEN WRITTEN
 pub back : (bytes : List ℕ) (l : Line) → ((i : ℕ) → getD bytes i 0 < 256) → pieceSays bytes ≡ given l → Back bytes l
 back bytes l small e =
-    record { boards = read-64 bytes l e; fits = made-consistent (l .board) (spells bytes l e .codes); same = record-back bytes l e small }
+    record { boards = read-64 bytes l e; fits = made-consistent (l .board) (halves-back bytes l e .codes); same = record-back bytes l e small }
 
 -- ---- two have two
 pub two-have-two : (w v : WroteRecord) → TwoHaveTwo w v

@@ -1,10 +1,10 @@
-"""A collection packed into a store (02, W-205)."""
+"""A collection packed into a store (02, W-205), and with `back` a store unpacked into lines: python3 -m reference.pack [back]"""
 
 import sys
 
 from .line import lines_of, read_line
-from .store import record
-from .writer import sifted
+from .store import pieces_of, read_piece, record
+from .writer import ended_line, sifted
 
 
 def packed(collection):
@@ -12,7 +12,12 @@ def packed(collection):
     return sifted(lines_of(collection), read_line, record)
 
 
+def unpacked(store):
+    """The line of each record that is loaded."""
+    return sifted(pieces_of(store), read_piece, ended_line)
+
+
 if __name__ == "__main__":
-    written, told = packed(sys.stdin.buffer.read())
+    written, told = (unpacked if sys.argv[1:] == ["back"] else packed)(sys.stdin.buffer.read())
     sys.stdout.buffer.write(written)
     sys.stderr.write(told)

@@ -1,0 +1,101 @@
+-- `unpack::finish` is safe and ends. Assumes nothing.
+use mathlib.Core.Path.{sym}
+use native.Mathlib.Omega.{arith}
+use lib.Seq.{length-take-le}
+use Rattle.unpack.proofs.Within.{told-within}
+use borrow.Author.Needs.{needs}
+use Rattle.unpack.proofs.finish.Statement.{statement}
+use Rattle.unpack.proofs.finish.Tie as tie
+
+finish-requires : tie.Need-finish-requires
+finish-requires c κs = search needs
+
+enum-known-told : tie.Need-enum-known-told
+enum-known-told c = search needs
+
+slice-reshare-prefix-tell : tie.Need-slice-reshare-prefix-tell
+slice-reshare-prefix-tell c = omega (arith, told-within (c .before .before .before .before .before .finish .ensures) _ (c .before .told .given .1), c .before .before .before .before .before .finish .kept)
+
+slice-aggregate-tell : tie.Need-slice-aggregate-tell
+slice-aggregate-tell c = sym (length-take-le _ _ (omega (arith, told-within (c .before .before .before .before .before .before .finish .ensures) _ (c .before .before .told .given .1), c .before .before .before .before .before .before .finish .kept)))
+
+tell-requires : tie.Need-tell-requires
+tell-requires c κs = search needs
+
+enum-told : tie.Need-enum-told
+enum-told c = search needs
+
+slice-aggregate-stop : tie.Need-slice-aggregate-stop
+slice-aggregate-stop c = search needs
+
+stop-requires : tie.Need-stop-requires
+stop-requires c κs = search needs
+
+enum-told-2 : tie.Need-enum-told-2
+enum-told-2 c = search needs
+
+slice-aggregate-stop-2 : tie.Need-slice-aggregate-stop-2
+slice-aggregate-stop-2 c = search needs
+
+stop-requires-2 : tie.Need-stop-requires-2
+stop-requires-2 c κs = search needs
+
+enum-told-3 : tie.Need-enum-told-3
+enum-told-3 c = search needs
+
+slice-aggregate-stop-3 : tie.Need-slice-aggregate-stop-3
+slice-aggregate-stop-3 c = search needs
+
+stop-requires-3 : tie.Need-stop-requires-3
+stop-requires-3 c κs = search needs
+
+same-length : tie.Need-same-length
+same-length c = search needs
+
+returns : tie.Need-returns
+returns c = search needs
+
+same-length-2 : tie.Need-same-length-2
+same-length-2 c = search needs
+
+returns-2 : tie.Need-returns-2
+returns-2 c = search needs
+
+same-length-3 : tie.Need-same-length-3
+same-length-3 c = search needs
+
+returns-3 : tie.Need-returns-3
+returns-3 c = search needs
+
+same-length-4 : tie.Need-same-length-4
+same-length-4 c = search needs
+
+returns-4 : tie.Need-returns-4
+returns-4 c = search needs
+
+pub finish-spec : {M : Type 1} → statement M
+finish-spec =
+    tie.close
+    (tie.spec
+    finish-requires
+    enum-known-told
+    slice-reshare-prefix-tell
+    slice-aggregate-tell
+    tell-requires
+    enum-told
+    slice-aggregate-stop
+    stop-requires
+    enum-told-2
+    slice-aggregate-stop-2
+    stop-requires-2
+    enum-told-3
+    slice-aggregate-stop-3
+    stop-requires-3
+    same-length
+    returns
+    same-length-2
+    returns-2
+    same-length-3
+    returns-3
+    same-length-4
+    returns-4)

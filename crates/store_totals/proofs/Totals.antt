@@ -22,7 +22,7 @@ use Rattle.store_record.specs.declared.Stored.{Stored}
 use Rattle.store_record.proofs.Records.{record-34, record-half}
 use Rattle.store_counts.specs.Summary.{countPlace, countedCode, countedSquare, recordBrings, summaryAfresh, summaryMore, summaryLess}
 use Rattle.store_summary.specs.Promises.{Store, recordsIn, withRecord, ifGiven, blank, withNew, addNew, addOf, replaceOld, replaceOf, KeepsStore}
-use Rattle.store_totals.specs.Totals.{SummaryCall, adding, replacing, Calls, emptySummary, piecesIn, Totals}
+use Rattle.store_totals.specs.Totals.{SummaryCall, adding, replacing, Calls, emptySummary, piecesIn, FromEmpty}
 use Rattle.store_totals.proofs.Kept.{Kept, at, summary-at, records-are, kept-none, kept-added, kept-replaced}
 
 -- ---- a call
@@ -156,7 +156,7 @@ pieces run records code l u =
         ∙ ap₂ (λ (x y : ℕ). cond (eqb (codeIn r x) y) 1 0) a c
 
 -- FROM AN EMPTY STORE: for every run, any calls on it and its summary, refused ones too
-pub totals : (run : List ℕ) (calls : List SummaryCall) (last lastSummary : List ℕ) → Calls run emptySummary calls last lastSummary → Totals last lastSummary
+pub totals : FromEmpty
 totals run calls last lastSummary made =
     let k = all run emptySummary calls last lastSummary (kept-none run) made in
     let a : lastSummary ≡ summaryAfresh last (recordsIn lastSummary) = k .is ∙ ap (summaryAfresh last) (sym (ap recordsIn (k .is) ∙ records-are last (k .n))) in

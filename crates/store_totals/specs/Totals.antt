@@ -33,9 +33,14 @@ emptySummary = replicate 770 0
 abbrev pub piecesIn : ℕ → List ℕ → ℕ
 piecesIn code bytes = howMany 64 (λ k. eqb (codeIn bytes k) code)
 
--- FROM AN EMPTY STORE, OVER ANY CALLS: "it equals the summary worked out afresh from the records", as many as it says; "and the piece totals
--- over all squares equal the pieces counted in the records"
+-- "it equals the summary worked out afresh from the records", as many as it says; "and the piece totals over all squares equal the pieces
+-- counted in the records"
 pub record Totals (last lastSummary : List ℕ) : Type 0 where
   pub afresh : lastSummary ≡ summaryAfresh last (recordsIn lastSummary)
   pub pieces : (code : ℕ) → 2 ≤ code → code ≤ 13
       → sumN 64 (λ k. getD lastSummary (countPlace code k) 0) ≡ sumN (recordsIn lastSummary) (λ i. piecesIn code (recordAt last i))
+
+-- THE CLAIM: "From an empty store, over any calls", whatever the lent run held
+abbrev pub FromEmpty : Type 0
+FromEmpty =
+    (run : List ℕ) (calls : List SummaryCall) (last lastSummary : List ℕ) → Calls run emptySummary calls last lastSummary → Totals last lastSummary

@@ -1,8 +1,11 @@
--- A worked example, by computation: the first step of a weight of 304 whose gradient is 1, at rate 1. Assumes nothing.
+-- Worked examples, by computation: the first step of a weight of 304 whose gradient is 1, at rate 1, and which numbers are iterations. Assumes nothing.
 use mathlib.Core.Path.{_≡_, refl}
+use mathlib.Core.Bool.{true, false}
+use mathlib.Core.List.{[], _∷_}
 use lib.Ieee.{Float, binary64, ofBits, round, add, sub, mul, div}
 use Rattle.fit_root.specs.Root.{rootOf}
 use Rattle.fit_adam.specs.Adam.{beta1, beta2, power, firstMoment, secondMoment, weightMoved}
+use Rattle.fit_adam.specs.Promises.{isIteration}
 
 abbrev g : Float
 g = ofBits binary64 0x3ff0_0000_0000_0000
@@ -23,3 +26,7 @@ second = refl
 weight : weightMoved (power beta1 1) (power beta2 1) g (firstMoment zero g) (secondMoment zero g) (ofBits binary64 0x4073_0000_0000_0000) ≡ ofBits binary64 0x4072_f000_0002_af32
 unfolding weightMoved power firstMoment secondMoment rootOf ofBits add sub mul div round
 weight = refl
+
+-- "an iteration number of zero or above 1,000,000"
+iterations : isIteration 0 ∷ isIteration 1 ∷ isIteration 1000000 ∷ isIteration 1000001 ∷ [] ≡ false ∷ true ∷ true ∷ false ∷ []
+iterations = refl

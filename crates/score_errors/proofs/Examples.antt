@@ -26,11 +26,11 @@ kinds : totalsWith (three 4 7 9) 0 (given (score (pos 117))) 2 ∷ totalsWith (t
 unfolding table
 kinds = refl
 
--- the 1,000,001st of its own kind; a sum that 64 bits just hold, and one more; SHAPE before RESULT before MANY
-refusals : totalsWith (three 1000000 0 0) 0 (given (score (pos 0))) 1 ∷ totalsWith (three 1000000 0 0) 0 (given (verdict won)) 1
+-- the millionth of its kind, and the 1,000,001st; a sum that 64 bits just hold, and one more; SHAPE before RESULT before MANY
+refusals : totalsWith (three 999999 0 0) 0 (given (score (pos 0))) 1 ∷ totalsWith (three 1000000 0 0) 0 (given (score (pos 0))) 1 ∷ totalsWith (three 1000000 0 0) 0 (given (verdict won)) 1
     ∷ totalsWith (three 0 0 18446744073676408566) 1 (given (score (pos 3))) 1 ∷ totalsWith (three 0 0 18446744073676408567) 1 (given (score (pos 3))) 1
     ∷ totalsWith (three 0 1000000 0) 2 (refused 3 []) 3 ∷ totalsWith (three 0 1000000 0) 1 (refused 3 []) 3 ∷ totalsWith (three 0 1000000 0) 1 (refused 3 []) 2 ∷ []
-    ≡ refused 22 [] ∷ given (three 1000000 1 0) ∷ given (three 1 0 18446744073709551615) ∷ refused 22 [] ∷ refused 1 [] ∷ refused 13 [] ∷ refused 22 [] ∷ []
+    ≡ given (three 1000000 0 0) ∷ refused 22 [] ∷ given (three 1000000 1 0) ∷ given (three 1 0 18446744073709551615) ∷ refused 22 [] ∷ refused 1 [] ∷ refused 13 [] ∷ refused 22 [] ∷ []
 unfolding table
 refusals = refl
 

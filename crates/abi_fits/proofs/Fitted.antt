@@ -17,11 +17,11 @@ use Rattle.abi_fits.specs.Promises.{StepsAdam}
 use Rattle.abi_codes.specs.declared.Code.{Code}
 
 -- ---- the gradient
-sums-code : (a : Answer (List Float)) → answerNumber (G.addedByValue a) ≡ answerNumber a
+pub sums-code : (a : Answer (List Float)) → answerNumber (G.addedByValue a) ≡ answerNumber a
 sums-code (given g) = refl
 sums-code (refused n l) = refl
 
-sums-after : (a : Answer (List Float)) (old : List Float) → G.gradientAfter a old ≡ lentAfter (λ (g : List Float). g) old a
+pub sums-after : (a : Answer (List Float)) (old : List Float) → G.gradientAfter a old ≡ lentAfter (λ (g : List Float). g) old a
 sums-after (given g) old = refl
 sums-after (refused n l) old = refl
 

@@ -17,6 +17,7 @@ use Rattle.fit_gradient.specs.Lists as L
 use Rattle.fit_gradient.specs.declared.Added.{Added}
 use Rattle.abi_codes.specs.Codes.{answerNumber, lentAfter, Door, asItIs}
 use Rattle.abi_records.specs.Records.{countsOf, traceOfNumbers}
+use Rattle.abi_fits.proofs.Fitted.{sums-code, sums-after}
 use Rattle.abi_lists.specs.Promises.{ListsTrace, ComputesTraceList}
 use Rattle.abi_codes.specs.declared.Code.{Code}
 
@@ -45,14 +46,6 @@ flat-passed {u = u} {used = used} {list = list} {old = old} {new = new} {r = r} 
     record { code = h ∙ ap (λ (y : Flattened). answerNumber (T.flattenedPaper y new)) (sym m) ∙ flat-code r new (q .answer); lent = q .lent ∙ flat-after a old }
 
 -- ---- the gradient
-sums-code : (a : Answer (List Float)) → answerNumber (G.addedByValue a) ≡ answerNumber a
-sums-code (given g) = refl
-sums-code (refused n l) = refl
-
-sums-after : (a : Answer (List Float)) (old : List Float) → G.gradientAfter a old ≡ lentAfter asItIs old a
-sums-after (given g) old = refl
-sums-after (refused n l) old = refl
-
 pub line-passed : {t u : Trace} {used : ℕ} {list : List ℕ} {c : Float} {old new : List Float} {r x : Added} {n : Code} → L.AddsList t used list c old r new → t ≡ u → r ≡ x
     → n ≡ answerNumber (G.paper x) → Door (L.listAddedOf u used list c old) asItIs old n new
 line-passed {u = u} {used = used} {list = list} {c = c} {old = old} {new = new} {r = r} p e m h =

@@ -23,7 +23,7 @@ use Rattle.ledger_feed.specs.Promises.{stateOf, MakesState}
 use Rattle.ledger_feed.specs.declared.SoFar.{SoFar}
 use Rattle.ledger_feed.specs.declared.Fed.the-variants as F
 use Rattle.ledger_feed.proofs.Counted.{tally-both}
-use Rattle.ledger_feed.proofs.Turn.{begunIn, rows}
+use Rattle.ledger_feed.proofs.Turn.{begunIn, rows, rows-same}
 use Rattle.ledger_finish.specs.Promises.{lastLines}
 use Rattle.captures_row.specs.Rows.{countsRow}
 use Rattle.captures_row.proofs.Fits.{fits-counts}
@@ -32,9 +32,6 @@ use Rattle.captures_close.proofs.Room.{held-2048}
 use Rattle.captures_feed.specs.Machine.{closeTold, runTold, lastTold, finishedTold}
 use Rattle.captures_feed.specs.Promises.{keptIn, ReadyLine, CountsQuestion, ReadyChunk, TakesChunk}
 use Rattle.captures_feed.specs.declared.Written.{Written}
-
-same : {loaded loaded′ refused refused′ : ℕ} {text text′ : List ℕ} → loaded ≡ loaded′ → refused ≡ refused′ → text ≡ text′ → rows loaded refused text ≡ rows loaded′ refused′ text′
-same p q r = cc
 
 -- what is alike from a place on is alike from any later one
 beyond : (w k : ℕ) (x y : List ℕ) → w ≤ k → drop w x ≡ drop w y → drop k x ≡ drop k y
@@ -66,7 +63,7 @@ count-line w line ended size out ready e out′ w′ a is il loaded refused l q 
     let both = tally-both is (w .loaded) (w .refused) in
     subst (λ (t : Bool). CountsQuestion w line t size out (record { loaded = loaded; refused = refused; wrote = w′ }) out′) (sym e)
     (record {
-      kept = same (l ∙ ap (tally (w .loaded)) il) (q ∙ ap (λ (x : Bool). tally (w .refused) (not x)) il) (adds-front a fits);
+      kept = rows-same (l ∙ ap (tally (w .loaded)) il) (q ∙ ap (λ (x : Bool). tally (w .refused) (not x)) il) (adds-front a fits);
       sum = ap₂ _+_ l q ∙ both;
       from = omega arith;
       to = omega arith;

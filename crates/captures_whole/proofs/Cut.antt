@@ -1,12 +1,12 @@
 -- THE ROWS OF ALL QUESTIONS, however the input is cut: the calls of `feed` and `finish` write what the machine writes over the whole input. Assumes nothing.
 use mathlib.Core.Path.{_≡_, refl, sym, ap, ap₂, subst, _∙_}
 use mathlib.Core.Bool.{Bool, true, false, cond, not}
-use mathlib.Core.List.{List, [], _∷_, _++_, append-assoc, append-nil}
+use mathlib.Core.List.{List, [], _∷_, _++_, append-assoc}
 use Prim.Native.Nat.{ℕ, suc, _+_, _*_, _^_, _≤_, _<_}
-use native.Mathlib.Nat.{add-zero, zero-add}
+use native.Mathlib.Nat.{add-zero}
 use native.Mathlib.Omega.{arith}
 use lib.Dec.{ltb, leb, eqb}
-use lib.ListN.{length, take}
+use lib.ListN.{length}
 use borrow.Author.Tests.{lt-ltb, le-leb}
 use Rattle.refusal.specs.Answer.{Answer}
 use Rattle.exchange.specs.Exchange.{Capture}
@@ -14,7 +14,6 @@ use Rattle.exchange_value.proofs.Stopping.{adds-up}
 use Rattle.exchange_told.specs.Told.{valuesTaken}
 use Rattle.ledger_row.specs.Row.{isLoaded}
 use Rattle.text_out.specs.Text.{writtenOf, roomFor}
-use Rattle.text_out.proofs.Wrote.{written-front}
 use Rattle.line_cut.specs.Lines.{lf, ends}
 use Rattle.line_cut.specs.Cut.{Open, lineEmptied, pushed, bareOf, CutSoFar, runBy}
 use Rattle.line_cut.proofs.Machine.{run-append, run-told, run-size}
@@ -26,10 +25,10 @@ use Rattle.ledger_feed.specs.declared.Fed.{Fed}
 use Rattle.ledger_feed.specs.declared.Fed.the-variants as F
 use Rattle.ledger_feed.proofs.Counted.{tally-both}
 use Rattle.ledger_feed.proofs.Doors.{fit-came}
-use Rattle.ledger_finish.specs.Promises.{lastLines, finishPaper, lengthOf, lastText}
+use Rattle.ledger_finish.specs.Promises.{lastLines, lengthOf, lastText}
 use Rattle.ledger_finish.specs.declared.Finished.{Finished}
-use Rattle.ledger_finish.specs.declared.Finished.the-variants as E
 use Rattle.ledger_whole.proofs.Machines.{linesIn}
+use Rattle.ledger_whole.proofs.Cut.{shift, afterText, quiet, split, taken, rows-of, last-of, Given, part-counts}
 use Rattle.ledger_whole.specs.Calls.{Call, Last, next, rowsOf, lastRowsOf, allWritten, input, fresh}
 use Rattle.captures_question.specs.Question.{questionOf}
 use Rattle.captures_row.specs.Rows.{countsRow}
@@ -42,22 +41,16 @@ use Rattle.captures_whole.specs.Whole.{TellsMade, RoomyTold, WholeTold, 
 use Rattle.captures_whole.proofs.Machines.{machine-answers, machine-lines}
 
 -- ---- each call begins with no text: the texts that the calls write are joined
-abbrev shift : List ℕ → Kept → Kept
-shift t r = record { loaded = r .loaded; refused = r .refused; text = t ++ r .text }
-
 close-shift : (t : List ℕ) (r : Kept) (line : List ℕ) (size : ℕ) → closeTold (shift t r) line size ≡ shift t (closeTold r line size)
 close-shift t r line size =
     let a : Answer (List Capture) = heldAnswer line size in
     ap (λ (u : List ℕ). record { loaded = tally (r .loaded) (isLoaded a); refused = tally (r .refused) (not (isLoaded a)); text = u })
     (append-assoc t (r .text) (answerRows (r .loaded + r .refused + 1) a))
 
-abbrev after : List ℕ → Machine → Machine
-after t m = record { line = m .line; held = m .held; cr = m .cr; loaded = m .loaded; refused = m .refused; text = t ++ m .text }
-
-run-after : (t : List ℕ) (m : Machine) (s : List ℕ) → runTold (after t m) s ≡ after t (runTold m s)
+run-after : (t : List ℕ) (m : Machine) (s : List ℕ) → runTold (afterText t m) s ≡ afterText t (runTold m s)
 run-after t m s = ap machineOf (run-told (shift t) closeTold closeTold (close-shift t) (openOf m) (keptOf m) s)
 
-finished-after : (t : List ℕ) (m : Machine) → finishedTold (after t m) ≡ t ++ finishedTold m
+finished-after : (t : List ℕ) (m : Machine) → finishedTold (afterText t m) ≡ t ++ finishedTold m
 finished-after t m = go (ltb 0 (m .held))
   where
     r : Kept
@@ -67,14 +60,7 @@ finished-after t m = go (ltb 0 (m .held))
     go true = ap lastTold (close-shift t (keptOf m) (m .line) (m .held)) ∙ append-assoc t (r .text) (countsRow (r .loaded + r .refused) (r .loaded) (r .refused))
     go false = append-assoc t (m .text) (countsRow (m .loaded + m .refused) (m .loaded) (m .refused))
 
--- a machine is what it has written, and the machine that has written nothing
-abbrev quiet : Machine → Machine
-quiet m = at (stateOf m) (m .line) []
-
-split : (m : Machine) → m ≡ after (m .text) (quiet m)
-split m = ap (λ (t : List ℕ). record { line = m .line; held = m .held; cr = m .cr; loaded = m .loaded; refused = m .refused; text = t }) (sym (append-nil (m .text)))
-
-pieces : (m : Machine) (s t : List ℕ) → runTold m (s ++ t) ≡ after (runTold m s .text) (runTold (quiet (runTold m s)) t)
+pieces : (m : Machine) (s t : List ℕ) → runTold m (s ++ t) ≡ afterText (runTold m s .text) (runTold (quiet (runTold m s)) t)
 pieces m s t =
     ap machineOf (run-append closeTold (openOf m) (keptOf m) s t) ∙ ap (λ (x : Machine). runTold x t) (split (runTold m s)) ∙ run-after (runTold m s .text) (quiet (runTold m s)) t
 
@@ -101,31 +87,6 @@ run-counts o r (b ∷ s) = go (eqb b lf) (run-counts (lineEmptied o) (closeTold 
     go false p q = q
 
 -- ---- a call with room
-taken : (out out′ text : List ℕ) → out′ ≡ writtenOf out 0 text → length text ≤ length out → take (length text) out′ ≡ text
-taken out out′ text e h =
-    ap (take (length text)) e ∙ ap (λ (n : ℕ). take n (writtenOf out 0 text)) (sym (zero-add (length text)))
-    ∙ written-front out 0 text (let z : 0 + length text ≤ length out = omega arith in z)
-
-rows-of : (r : Fed) (state : SoFar) (n : ℕ) → fed r ≡ came (state, n) → r ≡ F.Rows state n
-rows-of (F.Rows s k) state n e =
-    let both : _≡_ {A = SoFar × ℕ} (s, k) (state, n) = cc in
-    ap₂ F.Rows (ap (λ (p : SoFar × ℕ). p .0) both) (ap (λ (p : SoFar × ℕ). p .1) both)
-rows-of F.Full state n e = absurd (let z : _≡_ {A = ℕ} 0 1 = cc in omega arith)
-rows-of F.Many state n e = absurd (let z : _≡_ {A = ℕ} 0 1 = cc in omega arith)
-rows-of (F.Refused q) state n e = absurd (let z : _≡_ {A = ℕ} 0 1 = cc in omega arith)
-
-last-of : (r : Finished) (n : ℕ) → finishPaper r ≡ came n → r ≡ E.Rows n
-last-of (E.Rows k) n e = ap E.Rows (cc)
-last-of E.Full n e = absurd (let z : _≡_ {A = ℕ} 0 1 = cc in omega arith)
-last-of E.Many n e = absurd (let z : _≡_ {A = ℕ} 0 1 = cc in omega arith)
-last-of (E.Refused q) n e = absurd (let z : _≡_ {A = ℕ} 0 1 = cc in omega arith)
-
--- what a call hands on
-record Given (m : Machine) (r : Fed) (line′ out′ : List ℕ) : Type 0 where
-  answer : r ≡ F.Rows (stateOf m) (length (m .text))
-  kept : line′ ≡ m .line
-  rows : rowsOf r out′ ≡ m .text
-
 feed-given : (state : SoFar) (line chunk out : List ℕ) (r : Fed) (line′ out′ : List ℕ) → TellsQuestions state line chunk out r line′ out′
     → length line ≡ 256 → state .loaded + state .refused + ends chunk < 2 ^ 64 → 2048 * ends chunk ≤ length out → Given (runTold (at state line []) chunk) r line′ out′
 feed-given state line chunk out r line′ out′ f size counts room =
@@ -154,9 +115,6 @@ finish-given state line out r out′ f size counts room =
     ∙ taken out out′ t (f .rows ∙ ap (λ (x : Came (List ℕ)). writtenOf out 0 (lastText x)) e) (omega arith)
 
 -- ---- all calls
-less : (a b c d : ℕ) (n : ℕ) → a ≡ b + (c + d) → a + n < 2 ^ 64 → b + c < 2 ^ 64
-less a b c d n e h = omega arith
-
 all : (state : SoFar) (line : List ℕ) (calls : List Call) (last : Last) → length line ≡ 256 → RoomyTold calls last
     → linesIn (runTold (at state line []) (input calls)) < 2 ^ 64 → TellsMade state line calls last
     → allWritten calls last ≡ finishedTold (runTold (at state line []) (input calls))
@@ -165,10 +123,10 @@ all state line [] last size room counts made = finish-given state line (last .ou
 all state line (c ∷ cs) last size room counts made =
     let m : Machine = runTold (at state line []) (c .chunk) in
     let s : List ℕ = input cs in
-    let cut : runTold (at state line []) (c .chunk ++ s) ≡ after (m .text) (runTold (quiet m) s) = pieces (at state line []) (c .chunk) s in
+    let cut : runTold (at state line []) (c .chunk ++ s) ≡ afterText (m .text) (runTold (quiet m) s) = pieces (at state line []) (c .chunk) s in
     let total = run-counts (openOf (at state line [])) (keptOf (at state line [])) (c .chunk ++ s) ∙ ap (λ (n : ℕ). state .loaded + state .refused + n) (ends-append (c .chunk) s) in
     let g = feed-given state line (c .chunk) (c .out) (c .fed) (c .line′) (c .out′) (made .0) size
-    (less _ (state .loaded + state .refused) (ends (c .chunk)) (ends s) _ total counts) (room .0) in
+    (part-counts _ (state .loaded + state .refused) (ends (c .chunk)) (ends s) _ total counts) (room .0) in
     let rest : TellsMade (stateOf m) (m .line) cs last =
     subst (λ (l : List ℕ). TellsMade (stateOf m) l cs last) (g .kept)
     (subst (λ (r : Fed). TellsMade (next r state) (c .line′) cs last) (g .answer) (made .1)) in

@@ -19,10 +19,10 @@ use Rattle.line_cut.specs.Promises.{freshLine}
 use Rattle.line_cut.proofs.Views.{Holds}
 use Rattle.line_cut.proofs.Folded.{Follows, folded}
 use Rattle.line_held.proofs.Said.{long-line}
-use Rattle.ledger_feed.specs.Machine.{Kept, at, machineOf, tally}
-use Rattle.ledger_feed.proofs.Counted.{tally-both}
+use Rattle.ledger_feed.specs.Machine.{Kept, noRows, at, machineOf, tally}
+use Rattle.ledger_feed.proofs.Counted.{tally-both, loaded-more, refused-more}
 use Rattle.ledger_whole.specs.Calls.{fresh}
-use Rattle.ledger_whole.proofs.Machines.{linesIn}
+use Rattle.ledger_whole.proofs.Machines.{linesIn, allCounted}
 use Rattle.captures_question.specs.Question.{moveField, orderField, nthSquare, kindsIn, answerTo, questionOf}
 use Rattle.captures_row.specs.Rows.{countsRow}
 use Rattle.captures_close.specs.Answered.{answerRows, heldAnswer}
@@ -46,14 +46,6 @@ abbrev rest : List ℕ → ℕ → ℕ → List (List ℕ) → List ℕ
 rest text loaded refused ls =
     text ++ (answersFrom (loaded + refused + 1) ls ++ countsRow (loaded + refused + length ls) (loaded + toldIn ls) (refused + untoldIn ls))
 
-loaded-more : (t : Bool) (n k : ℕ) → tally n t + k ≡ n + (cond t 1 0 + k)
-loaded-more true n k = omega arith
-loaded-more false n k = omega arith
-
-refused-more : (t : Bool) (n k : ℕ) → tally n (not t) + k ≡ n + (cond t 0 1 + k)
-refused-more true n k = omega arith
-refused-more false n k = omega arith
-
 -- a question more, of which the answer is known
 rest-cons : (text : List ℕ) (loaded refused : ℕ) (a : Answer (List Capture)) (l : List ℕ) (ls : List (List ℕ)) → a ≡ questionOf l
     → rest (text ++ answerRows (loaded + refused + 1) a) (tally loaded (isLoaded a)) (tally refused (not (isLoaded a))) ls ≡ rest text loaded refused (l ∷ ls)
@@ -72,10 +64,6 @@ rest-nil : (text : List ℕ) (loaded refused : ℕ) → text ++ countsRow (loade
 unfolding answersFrom toldIn untoldIn
 rest-nil text loaded refused = rw (add-zero (loaded + refused), add-zero loaded, add-zero refused)
 
--- before any line
-abbrev none : Kept
-none = record { loaded = 0; refused = 0; text = [] }
-
 -- ---- what a question does to what is kept, by the question itself
 abbrev rowLine : Kept → List ℕ → Kept
 rowLine r l = toldMore r (questionOf l)
@@ -92,30 +80,27 @@ fold-rest r (l ∷ ls) = fold-rest (rowLine r l) ls ∙ rest-cons (r .text) (r .
 pub machine-answers : (line s : List ℕ) → length line ≡ 256 → finishedTold (runTold (at fresh line []) s) ≡ answersOf s
 unfolding answersOf
 machine-answers line s h =
-    ap lastTold (folded closeTold rowLine follows-told line none s h) ∙ fold-rest none (linesOf s)
+    ap lastTold (folded closeTold rowLine follows-told line noRows s h) ∙ fold-rest noRows (linesOf s)
     ∙ rw (zero-add (length (linesOf s)), zero-add (toldIn (linesOf s)), zero-add (untoldIn (linesOf s)))
 
 -- ---- how many lines there are
-abbrev counted : Kept → ℕ
-counted r = r .loaded + r .refused
-
-lines-end : (r : CutSoFar Kept) → linesIn (machineOf r) ≡ counted (endBy closeTold r)
+lines-end : (r : CutSoFar Kept) → linesIn (machineOf r) ≡ allCounted (endBy closeTold r)
 lines-end r = go (ltb 0 (r .left .held))
   where
     a : Answer (List Capture)
     a = heldAnswer (r .left .line) (r .left .held)
 
-    go : (t : Bool) → r .kept .loaded + r .kept .refused + cond t 1 0 ≡ counted (cond t (toldMore (r .kept) a) (r .kept))
+    go : (t : Bool) → r .kept .loaded + r .kept .refused + cond t 1 0 ≡ allCounted (cond t (toldMore (r .kept) a) (r .kept))
     go true = sym (tally-both (isLoaded a) (r .kept .loaded) (r .kept .refused))
     go false = add-zero (r .kept .loaded + r .kept .refused)
 
-fold-count : (r : Kept) (ls : List (List ℕ)) → counted (foldLines rowLine r ls) ≡ counted r + length ls
+fold-count : (r : Kept) (ls : List (List ℕ)) → allCounted (foldLines rowLine r ls) ≡ allCounted r + length ls
 unfolding foldLines
-fold-count r [] = sym (add-zero (counted r))
+fold-count r [] = sym (add-zero (allCounted r))
 fold-count r (l ∷ ls) =
     fold-count (rowLine r l) ls ∙ (let both = tally-both (isLoaded (questionOf l)) (r .loaded) (r .refused) in omega arith)
 
 pub machine-lines : (line s : List ℕ) → length line ≡ 256 → linesIn (runTold (at fresh line []) s) ≡ length (linesOf s)
 machine-lines line s h =
-    lines-end (runBy closeTold (freshLine line) none s) ∙ ap counted (folded closeTold rowLine follows-told line none s h) ∙ fold-count none (linesOf s)
+    lines-end (runBy closeTold (freshLine line) noRows s) ∙ ap allCounted (folded closeTold rowLine follows-told line noRows s h) ∙ fold-count noRows (linesOf s)
     ∙ zero-add (length (linesOf s))

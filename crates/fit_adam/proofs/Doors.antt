@@ -1,6 +1,7 @@
 -- What the doors return: one law for each return. Assumes nothing.
 use mathlib.Core.Path.{_≡_, refl, sym, ap, subst, _∙_}
 use mathlib.Core.Bool.{Bool, true, false, _&&_, _||_}
+use mathlib.Mathlib.Data.Bool.Basic.{or-eq-false-eq-eq-false-and-eq-false}
 use mathlib.Core.List.{List}
 use Prim.Native.Nat.{ℕ, _≤_, _<_}
 use native.Mathlib.Omega.{arith}
@@ -55,13 +56,9 @@ module _ (g : List Float) (s : Fit) (rate : Float) where
       subst (λ (a : Answer Fit). Answers a s r t) q h
 
 -- ---- the test of the number
-either : (a b : Bool) → (a || b) ≡ false → (a ≡ false) × (b ≡ false)
-either false b e = (refl, e)
-either true b e = absurd (subst (λ (x : Bool). lib.Dec.T x) e tt)
-
 pub within : (n : ℕ) → (eqb n 0 || ltb 1000000 n) ≡ false → isIteration n ≡ true
 within n e =
-    let t = either (eqb n 0) (ltb 1000000 n) e in
+    let t = or-eq-false-eq-eq-false-and-eq-false (eqb n 0) (ltb 1000000 n) .0 e in
     let p : n ≡ 0 → ⊥ = eqb-false n 0 (t .0) in
     let a : 1 ≤ n = omega (arith, p) in
     let b : n ≤ 1000000 = ltb-false 1000000 n (t .1) in

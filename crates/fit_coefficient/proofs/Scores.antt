@@ -19,7 +19,8 @@ use mir.Val.{SFits, toZ}
 use mir.ValLaws.{toZ-pos}
 use Rattle.laws.proofs.Words.{held, held-is, fits-abs}
 use Rattle.refusal.proofs.Paper.{one}
-use Rattle.doubles.specs.Doubles.{dbl, _⊘_, d2}
+use Rattle.doubles.specs.Doubles.{dbl, _⊘_, d0, d2}
+use Rattle.fit_root.proofs.Fields.{both-l}
 use Rattle.score_expected.specs.Expected.{expectedOf}
 use Rattle.score_expected.proofs.Counts.{counts-as}
 use Rattle.fit_coefficient.specs.Coefficient.{d1000000, minus2, expectedPoints, pointsAt}
@@ -100,13 +101,6 @@ lt-cases a b h = go (ltb a b) (eqb a b) refl refl h
 both-r : (p q : Bool) → p && q ≡ true → q ≡ true
 both-r true q e = e
 both-r false q e = absurd (true≢false (sym e))
-
-both-l : (p q : Bool) → p && q ≡ true → p ≡ true
-both-l true q e = refl
-both-l false q e = e
-
-abbrev pub zero-double : Float
-zero-double = ofBits binary64 0
 
 abbrev pub d1600 : Float
 d1600 = ofBits binary64 0x4099_0000_0000_0000
@@ -196,7 +190,7 @@ above-some m e most = record {
     second : (n d : ℕ) → 0 < d → n * 1 < 1600 * d → n * 1 < 1 * 18446744073709551616 * d
     second n d p g = omega arith
 
-pub above : (x : Float) → le d1600 x ≡ false → le zero-double x ≡ true → Above x
+pub above : (x : Float) → le d1600 x ≡ false → le d0 x ≡ true → Above x
 unfolding le lt eq ofBits pointsAt toUnsigned
 above nan h k = absurd (true≢false (sym k))
 above (inf true) h k = absurd (true≢false (sym k))
@@ -278,7 +272,7 @@ module _ (m : ℕ) (e : ℤ) (most : m * up e * 1 ≤ 1600 * down e) where
       second : (n d : ℕ) → 0 < d → n * 1 ≤ 1600 * d → n * 1 < 1 * 18446744073709551616 * d
       second n d p g = omega arith
 
-pub below : (x : Float) → T (not (isNan x)) → lt x (neg d1600) ≡ false → le zero-double x ≡ false → Below x
+pub below : (x : Float) → T (not (isNan x)) → lt x (neg d1600) ≡ false → le d0 x ≡ false → Below x
 unfolding le lt eq ofBits neg isNan
 below nan f h k = absurd f
 below (inf true) f h k = absurd (true≢false h)

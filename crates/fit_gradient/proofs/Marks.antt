@@ -7,16 +7,15 @@ use native.Mathlib.Nat.{zero-add}
 use native.Mathlib.Numerals.{add-one}
 use native.Mathlib.Omega.{arith}
 use borrow.Author.Tests.{eq-eqb, ne-eqb}
-use lib.Dec.{T, eqb, leb→le}
+use lib.Dec.{T, eqb}
 use lib.IntN.{ℤ, pos, negsuc, natAbs}
-use lib.Signed.{mag, leZ}
+use lib.Signed.{mag}
 use lib.ListN.{getD, set, length, length-set}
 use lib.Ieee.{Float, nan, ofInt, ofBits}
 use mir.Syntax.{w32}
 use mir.Val.{ofZ}
 use Rattle.laws.proofs.Words.{held}
 use Rattle.trace_counts.proofs.Held.{read}
-use Rattle.laws.proofs.Truth.{and-r}
 use Rattle.laws.proofs.Tests.{all-at}
 use Rattle.trace_counts.specs.Ranges.{within, areEntries}
 use Rattle.doubles.specs.Doubles.{_⊕_, dbl, d1, minus1}
@@ -25,6 +24,7 @@ use Rattle.fit_gradient.specs.Gradient.{raised, placeAt, openingPart, en
 use Rattle.fit_gradient.specs.Marks.{partsOf, bothRaised, colourPart, markedBy, entryBy, squaresBy}
 use Rattle.trace_marks.specs.Marks.{foldFrom}
 use Rattle.trace_marks.proofs.Folds as folds
+use Rattle.trace_list.proofs.Flat.{Mark, no, yes, mark-of}
 use Rattle.fit_gradient.specs.declared.Parts.{Parts}
 
 -- ---- a test of its bits says whether an entry is 0
@@ -69,16 +69,6 @@ from-0 p es start (suc n) = ap₂ (entryBy p es) (from-0 p es start n) (zero-add
 one-is : dbl (pos 1) ≡ d1
 unfolding ofInt ofBits
 one-is = refl
-
-data Mark : ℤ → Type 0 where
-  no : Mark (pos 0)
-  yes : Mark (pos 1)
-
-mark-of : (z : ℤ) → T (within (pos 1) z) → Mark z
-mark-of (pos zero) t = no
-mark-of (pos (suc zero)) t = yes
-mark-of (pos (suc (suc n))) t = absurd (omega (arith, leb→le (suc (suc n)) 1 (and-r (leZ (pos 0) (pos (suc (suc n)))) (leZ (pos (suc (suc n))) (pos 1)) t)))
-mark-of (negsuc n) t = absurd t
 
 by-parts : (c x : Float) (g : List Float) (k : ℕ) {z : ℤ} → Mark z → entryRaised c x g k z ≡ markedBy (partsOf c x) g k z
 unfolding entryRaised markedBy

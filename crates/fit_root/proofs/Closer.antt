@@ -13,7 +13,7 @@ use Rattle.fit_root.specs.Root.{wholeRoot, nearestRoot}
 use Rattle.fit_root.specs.Whole.{IsRoot}
 use Rattle.fit_root.specs.Closest.{IsDouble, IsNearest, Nearest}
 use Rattle.fit_root.proofs.Whole.{whole-is, whole-fits, doubled-or-not}
-use Rattle.fit_root.proofs.Rounded.{odd-square, root-value, root-low, itself-at-least, scaled-units, halved}
+use Rattle.fit_root.proofs.Rounded.{scaled-square, odd-square, root-value, root-low, itself-at-least, scaled-units, halved}
 
 -- ---- doubles next to N·2^k
 multiple : (p j k : ℕ) → k ≤ j → p * 2 ^ j ≡ p * 2 ^ (j - k) * 2 ^ k
@@ -75,21 +75,18 @@ module _ (N k w : ℕ) (d : IsDouble w) where
 square-lt : (a b : ℕ) → a < b → a * a < b * b
 square-lt a b h = lt-of-le-of-lt (mul-le-mul-left a (le-of-lt h)) (mul-lt-mul-of-pos-right h (lt-of-le-of-lt zero-le h))
 
-scaled : (q U : ℕ) → q * U * (q * U) ≡ q * q * (U * U)
-scaled q U = mul-mul-mul-comm q U q U
-
 -- Q U² is four times the number rooted, in units; q is the whole part of √Q
 module _ (Q q U : ℕ) (P : 0 < U) (r : IsRoot Q q) where
   pub middle-over : (X : ℕ) → suc q * U ≤ X → Q * (U * U) < X * X
   middle-over X h =
-      lt-of-lt-of-le (mul-lt-mul-of-pos-right (r .high) (mul-pos P P)) (le-trans (le-of-eq (sym (scaled (suc q) U))) (mul-le-mul h h))
+      lt-of-lt-of-le (mul-lt-mul-of-pos-right (r .high) (mul-pos P P)) (le-trans (le-of-eq (sym (scaled-square (suc q) U))) (mul-le-mul h h))
 
   pub middle-under : (X : ℕ) → X < q * U → X * X < Q * (U * U)
-  middle-under X h = lt-of-lt-of-le (square-lt X (q * U) h) (le-trans (le-of-eq (scaled q U)) (mul-le-mul-right (U * U) (r .low)))
+  middle-under X h = lt-of-lt-of-le (square-lt X (q * U) h) (le-trans (le-of-eq (scaled-square q U)) (mul-le-mul-right (U * U) (r .low)))
 
   pub middle-odd : (X : ℕ) → (q * q ≡ Q → ⊥) → X ≤ q * U → X * X < Q * (U * U)
   middle-odd X n h =
-      lt-of-le-of-lt (le-trans (mul-le-mul h h) (le-of-eq (scaled q U))) (mul-lt-mul-of-pos-right (lt-of-le-ne (r .low) n) (mul-pos P P))
+      lt-of-le-of-lt (le-trans (mul-le-mul h h) (le-of-eq (scaled-square q U))) (mul-lt-mul-of-pos-right (lt-of-le-ne (r .low) n) (mul-pos P P))
 
 -- ---- the nearest of all
 fourfold : (a M h : ℕ) → M * (2 ^ h * 2 ^ h) ≡ a * 2 ^ 60 → 4 * (a * 2 ^ 1074) ≡ M * 2 ^ 54 * (2 ^ (h + 481) * 2 ^ (h + 481))
@@ -168,7 +165,7 @@ record Normal (m : ℕ) : Type 0 where
   from : 2 ^ 52 ≤ M
   under : M < 2 ^ 53
 
-moved-up : (p e : ℕ) → 0 < e → p * 2 * 2 ^ (e - 1) ≡ p * 2 ^ e
+pub moved-up : (p e : ℕ) → 0 < e → p * 2 * 2 ^ (e - 1) ≡ p * 2 ^ e
 moved-up p zero h = absurd (omega arith)
 moved-up p (suc e) h = let z : suc e - 1 ≡ e = omega arith in rw (z, pow-suc 2 e, mul-comm (2 ^ e) 2) (mul-assoc p 2 (2 ^ e))
 

@@ -17,7 +17,7 @@ use borrow.Author.Tests.{eq-eqb, ne-eqb, eqb-true, ltb-true, ltb-false, leb-fals
 use Rattle.doubles.specs.Doubles.{d0}
 use Rattle.fit_root.specs.Root.{nearestRoot, rootOf}
 
-both-l : (a b : Bool) → a && b ≡ true → a ≡ true
+pub both-l : (a b : Bool) → a && b ≡ true → a ≡ true
 both-l true b e = refl
 both-l false b e = e
 

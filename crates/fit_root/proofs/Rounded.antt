@@ -16,9 +16,9 @@ use lib.Ieee.Bits.{ofBits-toBits, nanBits-above}
 use lib.Ieee.Nearest.{closest}
 use lib.Ieee.Order.{drop}
 use borrow.Author.Tests.{le-ltb}
+use Rattle.trace_rounding.proofs.Nearest.{Half, closest-off}
 use Rattle.fit_root.specs.Root.{left, wholeRoot, nearestRoot}
 use Rattle.fit_root.specs.Whole.{IsRoot}
-use Rattle.fit_root.proofs.Closest.{Half, closest-off}
 use Rattle.fit_root.proofs.Whole.{root-lt, square, whole-is, whole-fits, short-root}
 
 -- ---- the only number strictly nearest
@@ -71,7 +71,7 @@ bits-of f (fin s m e) N k h lo hi =
     rw (h .0, n, d, mul-div-cancel N (pow-pos k)) (ap (λ (z : ℕ). z + N) (zero-add (k * hid f)))
 
 -- ---- C. roots
-scaled-square : (q W : ℕ) → q * W * (q * W) ≡ q * q * (W * W)
+pub scaled-square : (q W : ℕ) → q * W * (q * W) ≡ q * q * (W * W)
 scaled-square q W = mul-mul-mul-comm q W q W
 
 module _ (t q W s : ℕ) (P : 0 < W) (r : IsRoot t q) (R : IsRoot (t * (W * W)) s) where

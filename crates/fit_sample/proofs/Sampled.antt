@@ -1,12 +1,9 @@
 -- What is put is the sample of what `compute_list` answers. Assumes nothing.
 use mathlib.Core.Path.{_≡_, refl, sym, ap, _∙_}
-use mathlib.Core.Bool.{cond}
 use mathlib.Core.List.{List, []}
-use Prim.Native.Nat.{ℕ, _*_, _/_, _%_, _≤_}
+use Prim.Native.Nat.{ℕ, _≤_}
 use native.Mathlib.Omega.{arith}
-use lib.Dec.{ltb}
-use lib.ListN.{length, getD, length-append}
-use Rattle.laws.proofs.Tables.{tabulate-length}
+use lib.ListN.{length, length-append}
 use Rattle.refusal.specs.Answer.{Answer, given, refused}
 use Rattle.refusal.specs.declared.Refusal.{Refusal}
 use Rattle.position.specs.declared.State.{State}
@@ -17,18 +14,15 @@ use Rattle.score_material.specs.Pieces.{pieces}
 use Rattle.trace_counts.specs.declared.Trace.{Trace}
 use Rattle.trace.specs.Trace.{traceOf, entriesOf}
 use Rattle.trace.specs.Promises.{paperOf, traceFrom}
-use Rattle.trace_list.specs.Form.{onesIn, entryByte, listBytes}
+use Rattle.trace_list.specs.Form.{onesIn, listBytes}
+use Rattle.trace_list.proofs.Bytes.{bytes-length}
 use Rattle.trace_list_computed.specs.Promises.{listTracedOf, usedAfter, listAfter, ComputesList}
 use Rattle.trace_list_computed.specs.declared.ListTraced.{ListTraced}
 use Rattle.fit_sample.specs.Sample.{numberBytes, entryBytes, sampleBy, sampleOf}
 use Rattle.fit_sample.proofs.Parts.{numbers-104, entries-long}
 
-pub list-192 : (places : List ℕ) → length (listBytes places) ≡ 192
-unfolding listBytes
-list-192 places = tabulate-length 192 (λ j. cond (ltb j (3 * length places)) (entryByte (j % 3) (getD places (j / 3) 0)) 0)
-
 listed-192 : (a : Answer Trace) (bbs before : List ℕ) → length before ≡ 192 → length (listAfter a bbs before) ≡ 192
-listed-192 (given t) bbs before h = list-192 (onesIn (entriesOf bbs))
+listed-192 (given t) bbs before h = bytes-length (onesIn (entriesOf bbs))
 listed-192 (refused n l) bbs before h = h
 
 -- a trace that is given is the position's
@@ -76,5 +70,5 @@ sample-most bbs board state half = go (listTracedOf bbs board state) refl
     list = listBytes (onesIn (entriesOf bbs))
 
     go : (a : Answer Trace) → a ≡ listTracedOf bbs board state → length (sampleBy a (pieces bbs) half list) ≤ 300
-    go (given t) e = let h = sample-300 t (pieces bbs) half list (twelve bbs board state t e) (list-192 (onesIn (entriesOf bbs))) in omega arith
+    go (given t) e = let h = sample-300 t (pieces bbs) half list (twelve bbs board state t e) (bytes-length (onesIn (entriesOf bbs))) in omega arith
     go (refused n v) e = omega arith

@@ -24,6 +24,9 @@ fed-back F.Full = refl
 fed-back F.Many = refl
 fed-back (F.Refused q) = ap F.Refused (number-back q)
 
+pub fed-one : (r s : Fed) → fed r ≡ fed s → r ≡ s
+fed-one = retract fed fedFrom fed-back
+
 -- ---- the functions
 pub start : (r s : SoFar) → Starts r → Starts s → r ≡ s
 start r s p q = one p q
@@ -34,4 +37,4 @@ countable loaded others more r s p q = one p q
 pub feed : (profile : Profile) (state : SoFar) (line chunk out : List ℕ) (r s : Fed) (line₁ out₁ line₂ out₂ : List ℕ)
     → Feeds profile state line chunk out r line₁ out₁ → Feeds profile state line chunk out s line₂ out₂ → (r ≡ s) × (line₁ ≡ line₂) × (out₁ ≡ out₂)
 feed profile state line chunk out r s line₁ out₁ line₂ out₂ p q =
-    (retract fed fedFrom fed-back r s (one (p .answer) (q .answer)), one (p .kept) (q .kept), one (p .rows) (q .rows))
+    (fed-one r s (one (p .answer) (q .answer)), one (p .kept) (q .kept), one (p .rows) (q .rows))

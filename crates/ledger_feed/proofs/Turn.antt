@@ -38,8 +38,8 @@ pub record Turn (profile : Profile) (whole : CutSoFar Kept) (chunk out₀ line o
   pub counts : loaded + refused + ends (drop i chunk) < 2 ^ 64
   pub rest : drop w out ≡ drop w out₀
 
-same : {loaded loaded′ refused refused′ : ℕ} {text text′ : List ℕ} → loaded ≡ loaded′ → refused ≡ refused′ → text ≡ text′ → rows loaded refused text ≡ rows loaded′ refused′ text′
-same p q r = cc
+pub rows-same : {loaded loaded′ refused refused′ : ℕ} {text text′ : List ℕ} → loaded ≡ loaded′ → refused ≡ refused′ → text ≡ text′ → rows loaded refused text ≡ rows loaded′ refused′ text′
+rows-same p q r = cc
 
 module _ (profile : Profile) (whole : CutSoFar Kept) (chunk out₀ line out : List ℕ) (begun : Begun) (loaded refused w i : ℕ) (h : i < length chunk)
     (t : Turn profile whole chunk out₀ line out begun loaded refused w i) (r : Cut) (line′ : List ℕ) (p : CutsNext begun line chunk i r line′) where
@@ -73,7 +73,7 @@ module _ (profile : Profile) (whole : CutSoFar Kept) (chunk out₀ line out : Li
       let both = tally-both is loaded refused in
       let s : Kept = rows loaded refused (take w out) in
       let s′ : Kept = rows loaded′ refused′ (take w′ out′) in
-      let now : s′ ≡ closeRow profile s line′ (r .size) = same (l ∙ ap (tally loaded) il) (q ∙ ap (λ (x : Bool). tally refused (not x)) il) (adds-front a fits) in
+      let now : s′ ≡ closeRow profile s line′ (r .size) = rows-same (l ∙ ap (tally loaded) il) (q ∙ ap (λ (x : Bool). tally refused (not x)) il) (adds-front a fits) in
       record {
         lines = Lines.turn-next (closeRow profile) whole 256 chunk line begun s i (t .lines) h r line′ p s′ (now ∙ sym (ap (λ (x : Bool). cond x (closeRow profile s line′ (r .size)) s) e));
         kept = adds-length a fits ∙ t .kept;

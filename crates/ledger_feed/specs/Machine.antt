@@ -1,10 +1,11 @@
 -- The ledger as a consumer of the line machine (line_cut/specs/Cut): what it keeps beside the lines, and what a line that ends does to it.
 -- Definitions only.
 use mathlib.Core.Bool.{Bool, cond, not}
-use mathlib.Core.List.{List, _++_}
+use mathlib.Core.List.{List, [], _++_}
 use Prim.Native.Nat.{ℕ, _+_}
 use Rattle.refusal.specs.Answer.{Answer}
 use Rattle.line_parse.specs.Line.{Line}
+use Rattle.ledger_totals.specs.Totals.{lastRow}
 use Rattle.line_cut.specs.Cut.{Open, lineEmptied, CutSoFar, runBy}
 use Rattle.line_profile.specs.Under.{saidUnder}
 use Rattle.line_profile.specs.declared.Profile.{Profile}
@@ -31,6 +32,14 @@ pub record Kept : Type 0 where
   pub loaded : ℕ
   pub refused : ℕ
   pub text : List ℕ
+
+-- before the first line
+abbrev pub noRows : Kept
+noRows = record { loaded = 0; refused = 0; text = [] }
+
+-- the rows, and the totals of the same lines
+abbrev pub withTotals : Kept → List ℕ
+withTotals rows = rows .text ++ lastRow (rows .loaded + rows .refused) (rows .loaded) (rows .refused)
 
 abbrev pub openOf : Machine → Open
 openOf m = record { line = m .line; held = m .held; cr = m .cr }

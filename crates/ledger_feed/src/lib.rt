@@ -1,9 +1,7 @@
 // The ledger as a machine over bytes: any number of bytes at a time go in, whole rows come out.
 ghost use mathlib.Core.Path.{_≡_};
-ghost use Prim.Native.Nat.{_+_, _^_, _<_};
 ghost use Rattle.attack_steps.specs.Steps.{stepTables};
 ghost use Rattle.score_pst.specs.Pst.{pstTable};
-ghost use Rattle.ledger_feed.specs.Machine.{tally as tallyOf};
 ghost use Rattle.ledger_feed.specs.Promises.{Starts, Countable, Feeds, MakesState, Ready, Takes};
 use attack_steps::inner::ROWS;
 use chess::square::Square;
@@ -45,13 +43,6 @@ pub fn start() -> SoFar
         loaded: 0,
         refused: 0,
     }
-}
-
-fn tally(n: u64, holds: bool) -> u64
-    requires { ⌜ n + 1 < 2 ^ 64 ⌝ }
-    ensures { λ r. ⌜ r ≡ tallyOf n holds ⌝ }
-{
-    if holds { n + 1 } else { n }
 }
 
 // Whether so many lines and more are counted in 64 bits.
@@ -116,8 +107,8 @@ fn take(
             let placed = row.placed;
             let is_loaded = row.loaded;
             wrote = placed.or(wrote);
-            loaded = tally(loaded, is_loaded);
-            refused = tally(refused, !is_loaded);
+            loaded += is_loaded as u64;
+            refused += !is_loaded as u64;
         }
     }
     Fed::Rows(made(begun.held, begun.cr, loaded, refused), wrote)

@@ -1,4 +1,4 @@
--- The public function is determined by its promise: two answers, and two contents of the lent memory, that it allows are equal.
+-- Each public function is determined by its promise: two answers, and two contents of the lent memory, that it allows are equal.
 -- Assumes nothing.
 use mathlib.Core.Path.{_≡_, refl, ap}
 use mathlib.Core.List.{List}
@@ -7,7 +7,7 @@ use Rattle.refusal.proofs.Paper.{one, retract, ofNumber, number-back}
 use Rattle.line_profile.specs.declared.Profile.{Profile}
 use Rattle.ledger_feed.specs.Promises.{Came, turned, many, full, came}
 use Rattle.ledger_feed.specs.declared.SoFar.{SoFar}
-use Rattle.ledger_finish.specs.Promises.{finishPaper, Finishes}
+use Rattle.ledger_finish.specs.Promises.{CountsUnfinished, finishPaper, Finishes}
 use Rattle.ledger_finish.specs.declared.Finished.{Finished}
 use Rattle.ledger_finish.specs.declared.Finished.the-variants as E
 
@@ -26,6 +26,9 @@ finished-back (E.Refused q) = ap E.Refused (number-back q)
 
 pub finished-one : (r s : Finished) → finishPaper r ≡ finishPaper s → r ≡ s
 finished-one = retract finishPaper finishedFrom finished-back
+
+pub unfinished : (held r s : ℕ) → CountsUnfinished held r → CountsUnfinished held s → r ≡ s
+unfinished held r s p q = one p q
 
 pub finish : (profile : Profile) (state : SoFar) (line out : List ℕ) (r s : Finished) (out₁ out₂ : List ℕ)
     → Finishes profile state line out r out₁ → Finishes profile state line out s out₂ → (r ≡ s) × (out₁ ≡ out₂)

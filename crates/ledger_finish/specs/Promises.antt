@@ -1,4 +1,4 @@
--- What the function promises, for all inputs. Definitions only.
+-- What each function promises, for all inputs. Definitions only.
 use mathlib.Core.Path.{_≡_}
 use mathlib.Core.Bool.{cond}
 use mathlib.Core.List.{List, []}
@@ -17,6 +17,9 @@ use Rattle.ledger_finish.specs.declared.Finished.the-variants as E
 -- one line more where some of it was held
 abbrev pub unfinished : ℕ → ℕ
 unfinished held = cond (ltb 0 held) 1 0
+
+abbrev pub CountsUnfinished : ℕ → ℕ → Type 0
+CountsUnfinished held r = r ≡ unfinished held
 
 abbrev pub lastLines : SoFar → ℕ
 lastLines state = state .loaded + state .refused + unfinished (state .held)

@@ -1,12 +1,11 @@
 // The end of the input: the row of a last line with no LF, and the totals.
-ghost use mathlib.Core.Path.{_≡_};
 ghost use mathlib.Core.List.{[]};
 ghost use Prim.Native.Nat.{_^_, _≤_, _<_};
 ghost use lib.ListN.{length};
 ghost use Rattle.text_out.specs.Text.{Adds};
 ghost use Rattle.ledger_feed.specs.Machine.{at};
 ghost use Rattle.ledger_finish.specs.Last.{finished};
-ghost use Rattle.ledger_finish.specs.Promises.{unfinished, lastLines, Finishes};
+ghost use Rattle.ledger_finish.specs.Promises.{CountsUnfinished, lastLines, Finishes};
 use ledger_feed::SoFar;
 use line_profile::Profile;
 use refusal::Refusal;
@@ -23,9 +22,9 @@ pub enum Finished {
     Refused(Refusal),
 }
 
-// One more line where some of it was held.
-fn more(held: usize) -> usize
-    ensures { λ r. ⌜ r ≡ unfinished held ⌝ }
+// How many lines are unfinished: one where some of it was held.
+pub fn unfinished(held: usize) -> usize
+    ensures { λ r. ⌜ CountsUnfinished held r ⌝ }
 {
     if 0 < held { 1 } else { 0 }
 }
@@ -64,7 +63,7 @@ pub fn finish(profile: Profile, state: SoFar, line: &[u8], out: &mut [u8]) -> Fi
     if line.len() != line_cut::LINE {
         return Finished::Refused(Refusal::Shape);
     }
-    if !ledger_feed::countable(state.loaded, state.refused, more(state.held)) {
+    if !ledger_feed::countable(state.loaded, state.refused, unfinished(state.held)) {
         return Finished::Many;
     }
     let mut rows = [0u8; ROWS];

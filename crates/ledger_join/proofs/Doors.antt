@@ -1,6 +1,6 @@
 -- What `feed`, `next_part` and `finish` answer, test by test. Assumes nothing.
 use mathlib.Core.Path.{_≡_, refl, sym, ap, subst, _∙_}
-use mathlib.Core.Bool.{Bool, true, false, cond, not, _&&_, false≢true}
+use mathlib.Core.Bool.{Bool, true, false, cond, not, _&&_}
 use mathlib.Core.List.{List, []}
 use Prim.Native.Nat.{ℕ, _+_, _*_, _/_, _^_, _≤_, _<_}
 use native.Mathlib.Omega.{arith}
@@ -14,6 +14,7 @@ use Rattle.line_cut.specs.Lines.{ends}
 use Rattle.ledger_totals.proofs.Fits.{fits-last}
 use Rattle.ledger_feed.specs.Promises.{Came, turnedBy, many, full, came}
 use Rattle.ledger_feed.proofs.Doors.{written-nothing}
+use Rattle.ledger_joined_row.proofs.Laws.{and-left, and-right}
 use Rattle.ledger_join.specs.Machine.{Joint, joint, ownNumber, bytesOn}
 use Rattle.ledger_join.specs.Promises.{countsFit, feedPart, fedPart, jointByValue, rowAfter, jointText, wroteOf, FeedsPart, RowReady, TakesBytes}
 use Rattle.ledger_join.specs.Promises.{PartEnd, onward, noLedgerAt, tooMany, noRoom, nextPart, nextPartOf, isBetween, totalsOfAll, endJoinOf, endSaid, endByValue, endText, endWrote, EndsJoin}
@@ -22,14 +23,6 @@ use Rattle.ledger_join.specs.declared.FedPart.{FedPart}
 use Rattle.ledger_join.specs.declared.FedPart.the-variants as F
 use Rattle.ledger_join.specs.declared.EndedJoin.{EndedJoin}
 use Rattle.ledger_join.specs.declared.EndedJoin.the-variants as E
-
-and-left : (a b : Bool) → (a && b) ≡ true → a ≡ true
-and-left true b e = refl
-and-left false b e = e
-
-and-right : (a b : Bool) → (a && b) ≡ true → b ≡ true
-and-right true b e = e
-and-right false b e = absurd (false≢true e)
 
 -- ---- the counts
 module _ (s : Joining) (more : ℕ) (e : countsFit s more ≡ true) where

@@ -26,9 +26,9 @@ pub record Turn (whole : Joint) (chunk out₀ row out : List ℕ) (s : Joining) 
   pub rest : drop w out ≡ drop w out₀
   pub within : i ≤ length chunk
 
-bytes-more : (m : Joint) (b : ℕ) (t : List ℕ) → bytesOn m (b ∷ t) ≡ bytesOn (byteOn m b) t
+pub byte-then : (m : Joint) (b : ℕ) (t : List ℕ) → bytesOn m (b ∷ t) ≡ bytesOn (byteOn m b) t
 unfolding bytesOn
-bytes-more m b t = refl
+byte-then m b t = refl
 
 bytes-none : (m : Joint) → bytesOn m [] ≡ m
 unfolding bytesOn
@@ -57,7 +57,7 @@ module _ (whole : Joint) (chunk out₀ row out : List ℕ) (s : Joining) (w i : 
         ran =
             ap (λ (k : ℕ). bytesOn (joint row′ (r .state) (take (r .end) out′)) (drop k chunk)) (add-one i)
             ∙ ap (λ (x : Joint). bytesOn x (drop (suc i) chunk)) (same (p .kept) (p .state) (adds-front (p .text) fits) ∙ sym (byte-after row s (take w out) b))
-            ∙ sym (bytes-more (joint row s (take w out)) b (drop (suc i) chunk)) ∙ sym (ap (bytesOn (joint row s (take w out))) (drop-cons chunk i 0 h)) ∙ t .ran;
+            ∙ sym (byte-then (joint row s (take w out)) b (drop (suc i) chunk)) ∙ sym (ap (bytesOn (joint row s (take w out))) (drop-cons chunk i 0 h)) ∙ t .ran;
         size = ap length (p .kept) ∙ q .size ∙ t .size;
         kept = adds-length (p .text) fits ∙ t .kept;
         ready = subst (λ (x : Joining). RowReady x out₀ (r .end) (ends (drop (i + 1) chunk))) (sym (p .state))

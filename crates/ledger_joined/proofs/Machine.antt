@@ -18,6 +18,7 @@ use Rattle.ledger_totals.specs.Totals.{lastRow}
 use Rattle.ledger_totals.proofs.Fits.{fits-last}
 use Rattle.ledger_feed.specs.Machine.{tally}
 use Rattle.ledger_whole.specs.Whole.{piecesFrom, endsInLF}
+use Rattle.ledger_whole.proofs.Once.{lf-last}
 use Rattle.ledger_joined_row.specs.Rows.{beginsWith, behindNumber, afterNumber, saysRefused, saysLoaded, isRow}
 use Rattle.ledger_joined_row.specs.Promises.{rowIs, textOf}
 use Rattle.ledger_joined_row.specs.declared.Kind.{Kind}
@@ -27,14 +28,11 @@ use Rattle.ledger_join.specs.Machine.{Joint, joint, holdsMore, halted, afterRow
 use Rattle.ledger_join.specs.Promises.{nextPart}
 use Rattle.ledger_join.specs.declared.Joining.{Joining}
 use Rattle.ledger_join.proofs.Bytes.{byte-after, byte-bounds}
+use Rattle.ledger_join.proofs.Turn.{byte-then}
 use Rattle.ledger_joined.specs.Joined.{machineFrom, Machined, AnyCut}
 use Rattle.ledger_joined.proofs.Parts.{last-ends}
 
 -- ---- however it is cut
-bytes-more : (m : Joint) (b : ℕ) (t : List ℕ) → bytesOn m (b ∷ t) ≡ bytesOn (byteOn m b) t
-unfolding bytesOn
-bytes-more m b t = refl
-
 bytes-cut : (m : Joint) (a b : List ℕ) → bytesOn m (a ++ b) ≡ bytesOn (bytesOn m a) b
 unfolding bytesOn
 bytes-cut m [] b = refl
@@ -173,12 +171,6 @@ record View (row : List ℕ) (s : Joining) (begun : List ℕ) : Type 0 where
   unended : s .ended ≡ false
   going : s .stopped ≡ false
 
-ends-byte : (l : List ℕ) (b : ℕ) → endsInLF (l ++ (b ∷ [])) ≡ eqb b lf
-unfolding endsInLF
-ends-byte [] b = refl
-ends-byte (x ∷ []) b = refl
-ends-byte (x ∷ (y ∷ l)) b = ends-byte (y ∷ l) b
-
 some-piece : (a : ℕ) (l t : List ℕ) → isNone (piecesFrom (a ∷ l) t) ≡ false
 unfolding piecesFrom
 some-piece a l [] = refl
@@ -271,7 +263,7 @@ module _ (t : List ℕ) (rec : Said t) (b : ℕ) (row : List ℕ) (s : Joining) 
         size = length-set row (s .held) b ∙ v .size;
         count = omega (arith, length-append begun (b ∷ []), v .count);
         front = held-front h;
-        plain = ends-byte begun b ∙ e;
+        plain = lf-last begun b ∙ e;
         unended = v .unended;
         going = v .going;
       })
@@ -288,7 +280,7 @@ module _ (t : List ℕ) (rec : Said t) (b : ℕ) (row : List ℕ) (s : Joining) 
 
   said-more : saidBy (bytesOn (joint row s x) (b ∷ t)) ≡ withRow x (partFrom (s .part) before (s .loaded) (s .refused) (piecesFrom begun (b ∷ t)))
   unfolding piecesFrom
-  said-more = ap saidBy (bytes-more (joint row s x) b t) ∙ go (leb 84 (s .held)) refl
+  said-more = ap saidBy (byte-then (joint row s x) b t) ∙ go (leb 84 (s .held)) refl
     where
       go : (l : Bool) → leb 84 (s .held) ≡ l → saidBy (bytesOn (byteOn (joint row s x) b) t)
           ≡ withRow x (partFrom (s .part) before (s .loaded) (s .refused) (cond (eqb b lf) ((begun ++ (lf ∷ [])) ∷ piecesFrom [] t) (piecesFrom (begun ++ (b ∷ [])) t)))

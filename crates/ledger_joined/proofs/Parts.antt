@@ -34,7 +34,7 @@ use Rattle.ledger_row.proofs.Rows.{score-short}
 use Rattle.ledger_row.specs.Row.{shownOf, spaced, loadedRow, refusedRow, rowOf, isLoaded}
 use Rattle.ledger_totals.specs.Totals.{lastRow}
 use Rattle.ledger_feed.specs.Machine.{tally}
-use Rattle.ledger_feed.proofs.Counted.{tally-both}
+use Rattle.ledger_feed.proofs.Counted.{tally-both, loaded-more, refused-more}
 use Rattle.ledger_whole.specs.Ledger.{rowsFrom, loadedIn, refusedIn}
 use Rattle.ledger_whole.specs.Whole.{rowList, endsInLF}
 use Rattle.ledger_joined_row.specs.Rows.{beginsWith, behindNumber, isNumber, isScore, isWord, isShown, saysRefused, saysLoaded, withoutLF, afterNumber, isRow}
@@ -348,14 +348,6 @@ made before loaded others ls = record {
 unfoldable pub piecesOf : ℕ → ℕ → List (List ℕ) → List (List ℕ)
 piecesOf loaded others ls =
     rowList P.Any (loaded + others + 1) ls ++ (lastRow (loaded + others + length ls) (loaded + loadedIn P.Any ls) (others + refusedIn P.Any ls) ∷ [])
-
-loaded-more : (t : Bool) (n k : ℕ) → tally n t + k ≡ n + (cond t 1 0 + k)
-loaded-more true n k = omega arith
-loaded-more false n k = omega arith
-
-refused-more : (t : Bool) (n k : ℕ) → tally n (not t) + k ≡ n + (cond t 0 1 + k)
-refused-more true n k = omega arith
-refused-more false n k = omega arith
 
 pieces-none : (loaded others : ℕ) → piecesOf loaded others [] ≡ lastRow (loaded + others) loaded others ∷ []
 unfolding piecesOf rowList loadedIn refusedIn

@@ -23,7 +23,7 @@ use Rattle.ledger_joined_row.specs.declared.Kind.{Kind}
 use Rattle.ledger_joined_row.specs.declared.Kind.the-variants as K
 
 -- ---- two texts that are the same are as long
-and-right : (a b : Bool) → (a && b) ≡ true → b ≡ true
+pub and-right : (a b : Bool) → (a && b) ≡ true → b ≡ true
 and-right true b e = e
 and-right false b e = absurd (false≢true e)
 
@@ -252,7 +252,7 @@ line-row number loaded others row = go (isRow number row) (saysRefused (afterNum
     go false b true = refl
     go false b false = refl
 
-and-left : (a b : Bool) → (a && b) ≡ true → a ≡ true
+pub and-left : (a b : Bool) → (a && b) ≡ true → a ≡ true
 and-left true b e = refl
 and-left false b e = e
 

@@ -37,7 +37,7 @@ use Rattle.ledger_whole.specs.Whole.{Whole}
 use Rattle.ledger_whole.proofs.Machines.{linesIn, machine-ledger, machine-lines}
 
 -- ---- each call begins with no text: the texts that the calls write are joined
-abbrev shift : List ℕ → Kept → Kept
+abbrev pub shift : List ℕ → Kept → Kept
 shift t r = record { loaded = r .loaded; refused = r .refused; text = t ++ r .text }
 
 close-shift : (profile : Profile) (t : List ℕ) (r : Kept) (line : List ℕ) (size : ℕ) → closeRow profile (shift t r) line size ≡ shift t (closeRow profile r line size)
@@ -46,13 +46,13 @@ close-shift profile t r line size =
     ap (λ (u : List ℕ). record { loaded = tally (r .loaded) (isLoaded a); refused = tally (r .refused) (not (isLoaded a)); text = u })
     (append-assoc t (r .text) (rowOf (r .loaded + r .refused + 1) a))
 
-abbrev after : List ℕ → Machine → Machine
-after t m = record { line = m .line; held = m .held; cr = m .cr; loaded = m .loaded; refused = m .refused; text = t ++ m .text }
+abbrev pub afterText : List ℕ → Machine → Machine
+afterText t m = record { line = m .line; held = m .held; cr = m .cr; loaded = m .loaded; refused = m .refused; text = t ++ m .text }
 
-run-after : (profile : Profile) (t : List ℕ) (m : Machine) (s : List ℕ) → run profile (after t m) s ≡ after t (run profile m s)
+run-after : (profile : Profile) (t : List ℕ) (m : Machine) (s : List ℕ) → run profile (afterText t m) s ≡ afterText t (run profile m s)
 run-after profile t m s = ap machineOf (run-told (shift t) (closeRow profile) (closeRow profile) (close-shift profile t) (openOf m) (keptOf m) s)
 
-finished-after : (profile : Profile) (t : List ℕ) (m : Machine) → finished profile (after t m) ≡ t ++ finished profile m
+finished-after : (profile : Profile) (t : List ℕ) (m : Machine) → finished profile (afterText t m) ≡ t ++ finished profile m
 unfolding finished
 finished-after profile t m = go (ltb 0 (m .held))
   where
@@ -60,7 +60,7 @@ finished-after profile t m = go (ltb 0 (m .held))
     r = closeRow profile (keptOf m) (m .line) (m .held)
 
     go : (x : Bool)
-        → cond x (close profile (after t m) (m .held)) (after t m) .text ++ totals (cond x (close profile (after t m) (m .held)) (after t m))
+        → cond x (close profile (afterText t m) (m .held)) (afterText t m) .text ++ totals (cond x (close profile (afterText t m) (m .held)) (afterText t m))
         ≡ t ++ (cond x (close profile m (m .held)) m .text ++ totals (cond x (close profile m (m .held)) m))
     go true =
         ap (λ (x : Kept). x .text ++ lastRow (x .loaded + x .refused) (x .loaded) (x .refused)) (close-shift profile t (keptOf m) (m .line) (m .held))
@@ -68,13 +68,13 @@ finished-after profile t m = go (ltb 0 (m .held))
     go false = append-assoc t (m .text) (totals m)
 
 -- a machine is what it has written, and the machine that has written nothing
-abbrev quiet : Machine → Machine
+abbrev pub quiet : Machine → Machine
 quiet m = at (stateOf m) (m .line) []
 
-split : (m : Machine) → m ≡ after (m .text) (quiet m)
+pub split : (m : Machine) → m ≡ afterText (m .text) (quiet m)
 split m = ap (λ (t : List ℕ). record { line = m .line; held = m .held; cr = m .cr; loaded = m .loaded; refused = m .refused; text = t }) (sym (append-nil (m .text)))
 
-pieces : (profile : Profile) (m : Machine) (s t : List ℕ) → run profile m (s ++ t) ≡ after (run profile m s .text) (run profile (quiet (run profile m s)) t)
+pieces : (profile : Profile) (m : Machine) (s t : List ℕ) → run profile m (s ++ t) ≡ afterText (run profile m s .text) (run profile (quiet (run profile m s)) t)
 pieces profile m s t =
     ap machineOf (run-append (closeRow profile) (openOf m) (keptOf m) s t) ∙ ap (λ (x : Machine). run profile x t) (split (run profile m s)) ∙ run-after profile (run profile m s .text) (quiet (run profile m s)) t
 
@@ -106,7 +106,7 @@ taken out out′ text e h =
     ap (take (length text)) e ∙ ap (λ (n : ℕ). take n (writtenOf out 0 text)) (sym (zero-add (length text)))
     ∙ written-front out 0 text (let z : 0 + length text ≤ length out = omega arith in z)
 
-rows-of : (r : Fed) (state : SoFar) (n : ℕ) → fed r ≡ came (state, n) → r ≡ F.Rows state n
+pub rows-of : (r : Fed) (state : SoFar) (n : ℕ) → fed r ≡ came (state, n) → r ≡ F.Rows state n
 rows-of (F.Rows s k) state n e =
     let both : _≡_ {A = SoFar × ℕ} (s, k) (state, n) = cc in
     ap₂ F.Rows (ap (λ (p : SoFar × ℕ). p .0) both) (ap (λ (p : SoFar × ℕ). p .1) both)
@@ -121,10 +121,10 @@ last-of E.Many n e = absurd (let z : _≡_ {A = ℕ} 0 1 = cc in omega arith)
 last-of (E.Refused q) n e = absurd (let z : _≡_ {A = ℕ} 0 1 = cc in omega arith)
 
 -- what a call hands on
-record Given (m : Machine) (r : Fed) (line′ out′ : List ℕ) : Type 0 where
-  answer : r ≡ F.Rows (stateOf m) (length (m .text))
-  kept : line′ ≡ m .line
-  rows : rowsOf r out′ ≡ m .text
+pub record Given (m : Machine) (r : Fed) (line′ out′ : List ℕ) : Type 0 where
+  pub answer : r ≡ F.Rows (stateOf m) (length (m .text))
+  pub kept : line′ ≡ m .line
+  pub rows : rowsOf r out′ ≡ m .text
 
 feed-given : (profile : Profile) (state : SoFar) (line chunk out : List ℕ) (r : Fed) (line′ out′ : List ℕ) → Feeds profile state line chunk out r line′ out′
     → length line ≡ 256 → state .loaded + state .refused + ends chunk < 2 ^ 64 → 32 * ends chunk ≤ length out → Given (run profile (at state line []) chunk) r line′ out′
@@ -154,8 +154,8 @@ finish-given profile state line out r out′ f size counts room =
     ∙ taken out out′ t (f .rows ∙ ap (λ (x : Came (List ℕ)). writtenOf out 0 (lastText x)) e) (omega arith)
 
 -- ---- all calls
-less : (a b c d : ℕ) (n : ℕ) → a ≡ b + (c + d) → a + n < 2 ^ 64 → b + c < 2 ^ 64
-less a b c d n e h = omega arith
+pub part-counts : (a b c d : ℕ) (n : ℕ) → a ≡ b + (c + d) → a + n < 2 ^ 64 → b + c < 2 ^ 64
+part-counts a b c d n e h = omega arith
 
 all : (profile : Profile) (state : SoFar) (line : List ℕ) (calls : List Call) (last : Last) → length line ≡ 256 → Roomy calls last
     → linesIn (run profile (at state line []) (input calls)) < 2 ^ 64 → CallsMade profile state line calls last
@@ -165,10 +165,10 @@ all profile state line [] last size room counts made = finish-given profile stat
 all profile state line (c ∷ cs) last size room counts made =
     let m : Machine = run profile (at state line []) (c .chunk) in
     let s : List ℕ = input cs in
-    let cut : run profile (at state line []) (c .chunk ++ s) ≡ after (m .text) (run profile (quiet m) s) = pieces profile (at state line []) (c .chunk) s in
+    let cut : run profile (at state line []) (c .chunk ++ s) ≡ afterText (m .text) (run profile (quiet m) s) = pieces profile (at state line []) (c .chunk) s in
     let total = run-counts profile (openOf (at state line [])) (keptOf (at state line [])) (c .chunk ++ s) ∙ ap (λ (n : ℕ). state .loaded + state .refused + n) (ends-append (c .chunk) s) in
     let g = feed-given profile state line (c .chunk) (c .out) (c .fed) (c .line′) (c .out′) (made .0) size
-    (less _ (state .loaded + state .refused) (ends (c .chunk)) (ends s) _ total counts) (room .0) in
+    (part-counts _ (state .loaded + state .refused) (ends (c .chunk)) (ends s) _ total counts) (room .0) in
     let rest : CallsMade profile (stateOf m) (m .line) cs last =
     subst (λ (l : List ℕ). CallsMade profile (stateOf m) l cs last) (g .kept)
     (subst (λ (r : Fed). CallsMade profile (next r state) (c .line′) cs last) (g .answer) (made .1)) in

@@ -63,7 +63,7 @@ pieces-joined l (b ∷ s) = go (eqb b lf) refl (pieces-joined [] s) (pieces-join
     go false e next longer = longer ∙ append-assoc l (b ∷ []) s
 
 -- ---- and the lines are theirs
-lf-last : (l : List ℕ) (b : ℕ) → endsInLF (l ++ (b ∷ [])) ≡ eqb b lf
+pub lf-last : (l : List ℕ) (b : ℕ) → endsInLF (l ++ (b ∷ [])) ≡ eqb b lf
 unfolding endsInLF
 lf-last [] b = refl
 lf-last (x ∷ []) b = refl

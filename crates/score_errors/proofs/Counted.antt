@@ -1,14 +1,15 @@
 -- One line more: both answers of each kind, and the steps to a squared distance. Assumes nothing.
 use mathlib.Core.Path.{_≡_, refl, ap, _∙_}
-use Prim.Native.Nat.{ℕ, zero, suc, _+_, _*_, _^_, _<_, _≤_}
+use Prim.Native.Nat.{ℕ, _+_, _*_, _^_, _<_, _≤_}
 use native.Mathlib.Nat.{mul-le-mul, lt-of-le-of-lt}
 use native.Mathlib.Omega.{arith}
 use borrow.Author.Tests.{lt-ltb, le-ltb, eq-eqb, ne-eqb}
 use lib.Dec.{ltb→lt}
-use lib.IntN.{ℤ, pos, negsuc, negℤ, natAbs, _-ℤ_, +ℤ-idl}
+use lib.IntN.{ℤ, pos, negℤ, _-ℤ_, +ℤ-idl}
 use mir.Syntax.{w16, w32, w64}
 use mir.Val.{SFits, Fits}
 use Rattle.chess.specs.Named.{turnedForBlack}
+use Rattle.laws.proofs.Diff.{abs-turned}
 use Rattle.laws.proofs.Words.{held, held-is, widens, fits-abs, fits-near}
 use Rattle.refusal.specs.Answer.{given, refusalOf}
 use Rattle.refusal.specs.declared.Refusal.the-variants as R
@@ -47,13 +48,8 @@ for-white side z f e =
 minus : (z : ℤ) → SFits w16 z → pos 0 -ℤ held w32 (held w16 z) ≡ negℤ z
 minus z f = +ℤ-idl (negℤ (held w32 (held w16 z))) ∙ ap negℤ (ap (held w32) (held-is f refl) ∙ held-is (widens {w = w16} w32 tt f) refl)
 
-abs-neg : (z : ℤ) → natAbs (negℤ z) ≡ natAbs z
-abs-neg (pos zero) = refl
-abs-neg (pos (suc n)) = refl
-abs-neg (negsuc n) = refl
-
 minus-small : (z : ℤ) → SFits w16 z → SFits w32 (negℤ z)
-minus-small z f = fits-abs {w = w32} {z = negℤ z} 32768 tt (rw (abs-neg z) (fits-near f))
+minus-small z f = fits-abs {w = w32} {z = negℤ z} 32768 tt (rw (abs-turned z) (fits-near f))
 
 pub minus-fits : (z : ℤ) → SFits w16 z → SFits w32 (pos 0 -ℤ held w32 (held w16 z))
 minus-fits z f = rw (minus z f) (minus-small z f)

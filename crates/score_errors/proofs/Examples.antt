@@ -9,10 +9,7 @@ use Rattle.score_verdict.specs.Verdict.{won}
 use Rattle.score_expected.specs.Expected.{table}
 use Rattle.score_errors.specs.Errors.{totalsWith}
 use Rattle.score_errors.specs.Collection.{LoadedLine, scoredIn, apartIn, sumIn, freshOf}
-use Rattle.score_errors.specs.declared.Totals.{Totals}
-
-abbrev three : ℕ → ℕ → ℕ → Totals
-three s a m = record { scored = s; apart = a; sum = m }
+use Rattle.score_errors.proofs.Fresh.{three}
 
 -- Black to move and a score of 3: −3 for White counts as −4, so 494,243 is 5,757 from a draw; the score −32768, which 16 bits can't turn, counts as 1600
 turned : totalsWith (three 0 0 0) 1 (given (score (pos 3))) 1 ∷ totalsWith (three 0 0 0) 1 (given (score (negsuc 32767))) 0 ∷ []

@@ -47,7 +47,7 @@ sum-most (l ∷ ls) e =
     omega (arith, squared-most (l .side) (l .half) (l .answer) h, sum-most ls (T-true (wellLoaded ls) (and-r (ltb (l .side) 2 && ltb (l .half) 3) (wellLoaded ls) t)))
 
 -- ---- what a list comes to from totals on: the sums, or MANY by the counts alone
-abbrev three : ℕ → ℕ → ℕ → Totals
+abbrev pub three : ℕ → ℕ → ℕ → Totals
 three s a m = record { scored = s; apart = a; sum = m }
 
 abbrev counts : ℕ → ℕ → ℕ → Answer Totals

@@ -24,6 +24,7 @@ use Rattle.ledger_row.specs.Row.{isLoaded}
 use Rattle.ledger_close.proofs.Closed.{said-32}
 use Rattle.ledger_feed.specs.Machine.{tally}
 use Rattle.ledger_feed.specs.declared.SoFar.{SoFar}
+use Rattle.ledger_feed.proofs.Turn.{begunIn}
 use Rattle.sift_form.specs.Forms.{roomOf, madeOf}
 use Rattle.sift_form.specs.declared.Form.{Form}
 use Rattle.sift_close.specs.Ended.{madeBy, refusedRowOf, ClosesSifted}
@@ -106,9 +107,6 @@ pub tally-either : (t : Bool) (a b loaded refused : ℕ) → a ≡ cond t 1 0 �
 tally-either true a b loaded refused e f = omega arith
 tally-either false a b loaded refused e f = omega arith
 
-abbrev pub begunAt : SoFar → Begun
-begunAt state = record { held = state .held; cr = state .cr }
-
 abbrev pub sifting : ℕ → ℕ → List ℕ → List ℕ → Sifting
 sifting loaded refused made rows = record { loaded = loaded; refused = refused; made = made; rows = rows }
 
@@ -185,10 +183,10 @@ module _ (form : Form) (whole : CutSoFar Sifting) (chunk made₀ rows₀ line ma
 
 -- before the first byte
 pub turn-none : (state : SoFar) (form : Form) (line chunk made rows : List ℕ) → ReadyToSift state form line chunk made rows
-    → Turn form (siftRun (madeOf form) state line chunk) chunk made rows line made rows (begunAt state) (state .loaded) (state .refused) 0 0 0
+    → Turn form (siftRun (madeOf form) state line chunk) chunk made rows line made rows (begunIn state) (state .loaded) (state .refused) 0 0 0
 turn-none state form line chunk made rows r = record {
-  lines = subst (λ (n : ℕ). Lines.Turn (closeSift (madeOf form)) (siftRun (madeOf form) state line chunk) n chunk line (begunAt state) (sifting (state .loaded) (state .refused) [] []) 0) (r .size)
-      (Lines.turn-none (closeSift (madeOf form)) chunk line (begunAt state) (sifting (state .loaded) (state .refused) [] []));
+  lines = subst (λ (n : ℕ). Lines.Turn (closeSift (madeOf form)) (siftRun (madeOf form) state line chunk) n chunk line (begunIn state) (sifting (state .loaded) (state .refused) [] []) 0) (r .size)
+      (Lines.turn-none (closeSift (madeOf form)) chunk line (begunIn state) (sifting (state .loaded) (state .refused) [] []));
   making = fill-none (roomOf form) (ends chunk) made (r .making);
   rowing = fill-none 32 (ends chunk) rows (r .rowing);
   counts = r .counts;

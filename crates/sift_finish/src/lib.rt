@@ -1,6 +1,4 @@
 // The end of an input that was sifted: what a last line with no LF makes, or its row, and the ledger's last row.
-ghost use mathlib.Core.Path.{_≡_};
-ghost use Rattle.ledger_finish.specs.Promises.{unfinished};
 ghost use Rattle.sift_finish.specs.Last.{ReadyToEnd, EndsSifted, FinishesSifted};
 use ledger_feed::SoFar;
 use refusal::Refusal;
@@ -15,13 +13,6 @@ pub enum Finished {
     Full,
     Many,
     Refused(Refusal),
-}
-
-// One more line where some of it was held.
-fn more(held: usize) -> usize
-    ensures { λ r. ⌜ r ≡ unfinished held ⌝ }
-{
-    if 0 < held { 1 } else { 0 }
 }
 
 // Where there is room: the last line, if it has no LF, and the last row.
@@ -49,7 +40,7 @@ pub fn finish(state: SoFar, form: Form, line: &[u8], made: &mut [u8], rows: &mut
     if line.len() != line_cut::LINE {
         return Finished::Refused(Refusal::Shape);
     }
-    let lines = more(state.held);
+    let lines = ledger_finish::unfinished(state.held);
     if !ledger_feed::countable(state.loaded, state.refused, lines) {
         return Finished::Many;
     }

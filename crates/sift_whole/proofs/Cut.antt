@@ -3,13 +3,12 @@ use mathlib.Core.Path.{_≡_, sym, ap, ap₂, subst, _∙_}
 use mathlib.Core.Bool.{Bool, true, false, cond, _&&_}
 use mathlib.Core.List.{List, [], _∷_, _++_, append-assoc}
 use Prim.Native.Nat.{ℕ, _+_, _*_, _^_, _≤_, _<_}
-use native.Mathlib.Nat.{mul-one, zero-add}
+use native.Mathlib.Nat.{mul-one}
 use native.Mathlib.Omega.{arith}
 use lib.Dec.{ltb}
-use lib.ListN.{length, take}
+use lib.ListN.{length}
 use borrow.Author.Tests.{lt-ltb, le-leb}
 use Rattle.text_out.specs.Text.{writtenOf}
-use Rattle.text_out.proofs.Wrote.{written-front}
 use Rattle.ledger_totals.specs.Totals.{lastRow}
 use Rattle.line_cut.specs.Lines.{ends}
 use Rattle.line_cut.specs.Cut.{CutSoFar, runBy}
@@ -20,6 +19,7 @@ use Rattle.ledger_feed.specs.declared.SoFar.{SoFar}
 use Rattle.ledger_feed.proofs.Doors.{fit-came}
 use Rattle.ledger_finish.specs.Promises.{unfinished, lastLines}
 use Rattle.ledger_whole.specs.Calls.{fresh}
+use Rattle.ledger_whole.proofs.Cut.{taken, part-counts}
 use Rattle.sift_form.specs.Forms.{roomOf, madeOf}
 use Rattle.sift_form.specs.declared.Form.{Form}
 use Rattle.sift_feed.specs.Sifting.{Sifting, closeSift, siftingAt, openAt, siftRun, soFarIn}
@@ -33,10 +33,6 @@ use Rattle.sift_whole.specs.Calls.{SiftCall, SiftLast, nextSoFar, madeIs
 use Rattle.sift_whole.proofs.Machine.{counted, ended, rest, run-counts, end-counts, cut, ended-made, ended-rows, ended-counts}
 
 -- ---- a call with room
-front : (old new text : List ℕ) → new ≡ writtenOf old 0 text → length text ≤ length old → take (length text) new ≡ text
-front old new text e h =
-    ap₂ take (sym (zero-add (length text))) e ∙ written-front old 0 text (subst (λ (n : ℕ). n ≤ length old) (sym (zero-add (length text))) h)
-
 lines-of : (r : Sifted) (state : SoFar) (m n : ℕ) → sifted r ≡ came (state, m, n) → r ≡ S.Lines state m n
 lines-of (S.Lines s k l) state m n e =
     let all : _≡_ {A = SoFar × ℕ × ℕ} (s, k, l) (state, m, n) = cc in λ i. S.Lines (all i .0) (all i .1) (all i .2)
@@ -72,8 +68,8 @@ feed-given form state line chunk made rows r line′ made′ rows′ f size coun
     record {
       answer = a;
       kept = f .kept ∙ ap (λ (x : Came (CutSoFar Sifting)). lineSifted x line) e;
-      making = ap (λ (q : Sifted). madeIs q made′) a ∙ front made made′ (m .kept .made) (f .making ∙ ap (λ (x : Came (CutSoFar Sifting)). writtenOf made 0 (siftingIn x .made)) e) h;
-      rowing = ap (λ (q : Sifted). rowsAre q rows′) a ∙ front rows rows′ (m .kept .rows) (f .rowing ∙ ap (λ (x : Came (CutSoFar Sifting)). writtenOf rows 0 (siftingIn x .rows)) e) k;
+      making = ap (λ (q : Sifted). madeIs q made′) a ∙ taken made made′ (m .kept .made) (f .making ∙ ap (λ (x : Came (CutSoFar Sifting)). writtenOf made 0 (siftingIn x .made)) e) h;
+      rowing = ap (λ (q : Sifted). rowsAre q rows′) a ∙ taken rows rows′ (m .kept .rows) (f .rowing ∙ ap (λ (x : Came (CutSoFar Sifting)). writtenOf rows 0 (siftingIn x .rows)) e) k;
     }
 
 one-at-most : (n k held : ℕ) → n ≤ k → n * unfinished held ≤ k
@@ -99,19 +95,16 @@ module _ (form : Form) (state : SoFar) (line made rows : List ℕ) (r : Finished
   finish-made : lastMadeIs r made′ ≡ end .made
   finish-made =
       ap (λ (q : Finished). lastMadeIs q made′) is
-      ∙ front made made′ (end .made) (f .making ∙ ap (λ (x : Came Sifting). writtenOf made 0 (lastMade x)) came-end)
+      ∙ taken made made′ (end .made) (f .making ∙ ap (λ (x : Came Sifting). writtenOf made 0 (lastMade x)) came-end)
       (subst (λ (q : Finished). lastBytes (lastPaper q) .0 ≤ length made) is (f .madeWithin))
 
   finish-rows : lastRowsAre r rows′ ≡ allRows end
   finish-rows =
       ap (λ (q : Finished). lastRowsAre q rows′) is
-      ∙ front rows rows′ (allRows end) (f .rowing ∙ ap (λ (x : Came Sifting). writtenOf rows 0 (lastRows x)) came-end)
+      ∙ taken rows rows′ (allRows end) (f .rowing ∙ ap (λ (x : Came Sifting). writtenOf rows 0 (lastRows x)) came-end)
       (subst (λ (q : Finished). lastBytes (lastPaper q) .1 ≤ length rows) is (f .rowsWithin))
 
 -- ---- all calls
-less : (a b c d : ℕ) (n : ℕ) → a ≡ b + (c + d) → a + n < 2 ^ 64 → b + c < 2 ^ 64
-less a b c d n e h = omega arith
-
 all : (form : Form) (state : SoFar) (line : List ℕ) (calls : List SiftCall) (last : SiftLast) → length line ≡ 256 → RoomToSift form calls last
     → counted (ended (madeOf form) state line (siftInput calls)) < 2 ^ 64 → SiftedBy form state line calls last
     → (allMade calls last ≡ ended (madeOf form) state line (siftInput calls) .made) × (allSiftRows calls last ≡ allRows (ended (madeOf form) state line (siftInput calls)))
@@ -129,7 +122,7 @@ all form state line (c ∷ cs) last size room counts made =
     let whole = end-counts make (siftRun make state line (c .chunk ++ s)) in
     let total = run-counts make state line (c .chunk ++ s) ∙ ap (λ (n : ℕ). state .loaded + state .refused + n) (ends-append (c .chunk) s) in
     let g = feed-given form state line (c .chunk) (c .made) (c .rows) (c .sifted) (c .line′) (c .made′) (c .rows′) (made .0) size
-    (less _ (state .loaded + state .refused) (ends (c .chunk)) (ends s) _ total (subst (λ (n : ℕ). n < 2 ^ 64) whole counts)) (room .0) (room .1) in
+    (part-counts _ (state .loaded + state .refused) (ends (c .chunk)) (ends s) _ total (subst (λ (n : ℕ). n < 2 ^ 64) whole counts)) (room .0) (room .1) in
     let later : SiftedBy form (soFarIn m) (m .left .line) cs last =
     subst (λ (l : List ℕ). SiftedBy form (soFarIn m) l cs last) (g .kept)
     (subst (λ (r : Sifted). SiftedBy form (nextSoFar r state) (c .line′) cs last) (g .answer) (made .1)) in

@@ -21,14 +21,13 @@ use Rattle.ledger_totals.specs.Totals.{lastRow}
 use Rattle.ledger_row.specs.Row.{isLoaded}
 use Rattle.ledger_feed.specs.Machine.{tally}
 use Rattle.ledger_feed.specs.declared.SoFar.{SoFar}
-use Rattle.ledger_feed.proofs.Counted.{tally-both}
+use Rattle.ledger_feed.proofs.Counted.{tally-both, loaded-more, refused-more}
 use Rattle.ledger_finish.specs.Promises.{unfinished}
 use Rattle.ledger_whole.specs.Ledger.{loadedIn, refusedIn}
 use Rattle.ledger_whole.specs.Calls.{fresh}
 use Rattle.ledger_whole.proofs.Once.{either}
 use Rattle.sift_close.specs.Ended.{madeBy, refusedRowOf}
 use Rattle.sift_feed.specs.Sifting.{Sifting, siftMore, closeSift, siftingAt, openAt, siftRun, soFarIn}
-use Rattle.sift_feed.proofs.Turn.{tally-loaded, tally-refused}
 use Rattle.sift_finish.specs.Last.{allRows}
 use Rattle.sift_whole.specs.Sifted.{madeIn, refusedRowsFrom, madeOfAll, rowsOfAll}
 
@@ -124,8 +123,8 @@ module _ (make : Line → List ℕ) where
       let a : Answer Line = lineOf l in
       let t : Bool = isLoaded a in
       let row : List ℕ = refusedRowOf (counted s + 1) a in
-      let p : tally (s .loaded) t + loadedIn P.Any ls ≡ s .loaded + (cond t 1 0 + loadedIn P.Any ls) = let e = tally-loaded t (s .loaded) in omega arith in
-      let q : tally (s .refused) (not t) + refusedIn P.Any ls ≡ s .refused + (cond t 0 1 + refusedIn P.Any ls) = let e = tally-refused t (s .refused) in omega arith in
+      let p : tally (s .loaded) t + loadedIn P.Any ls ≡ s .loaded + (cond t 1 0 + loadedIn P.Any ls) = loaded-more t (s .loaded) (loadedIn P.Any ls) in
+      let q : tally (s .refused) (not t) + refusedIn P.Any ls ≡ s .refused + (cond t 0 1 + refusedIn P.Any ls) = refused-more t (s .refused) (refusedIn P.Any ls) in
       let u = append-assoc (s .made) (madeBy make a) (madeIn make ls) in
       let v = ap (λ (n : ℕ). (s .rows ++ row) ++ refusedRowsFrom (n + 1) ls) (tally-both t (s .loaded) (s .refused)) ∙ append-assoc (s .rows) row (refusedRowsFrom (counted s + 1 + 1) ls) in
       all-lines (more s l) ls ∙ (λ i. record { loaded = p i; refused = q i; made = u i; rows = v i })

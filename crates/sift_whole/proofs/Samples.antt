@@ -11,6 +11,7 @@ use Rattle.score_material.specs.Pieces.{pieces}
 use Rattle.trace_counts.specs.declared.Trace.{Trace}
 use Rattle.trace.specs.Trace.{traceOf, entriesOf}
 use Rattle.trace_list.specs.Form.{onesIn, listBytes}
+use Rattle.trace_list.proofs.Bytes.{bytes-length}
 use Rattle.line_parse.specs.Line.{Line, lineOf}
 use Rattle.line_cut.specs.Lines.{linesOf}
 use Rattle.line.proofs.Loaded.{loaded-checked}
@@ -18,7 +19,7 @@ use Rattle.line_profile.specs.declared.Profile.the-variants as P
 use Rattle.ledger_row.specs.Row.{isLoaded}
 use Rattle.ledger_whole.specs.Ledger.{loadedIn}
 use Rattle.fit_sample.specs.Sample.{sampleBy, sampleOf}
-use Rattle.fit_sample.proofs.Sampled.{list-192, sample-300}
+use Rattle.fit_sample.proofs.Sampled.{sample-300}
 use Rattle.sift_form.specs.Forms.{madeOf}
 use Rattle.sift_form.specs.declared.Form.the-variants as M
 use Rattle.sift_close.specs.Ended.{madeBy}
@@ -36,7 +37,7 @@ sampled line l e =
     let list : List ℕ = listBytes (onesIn (entriesOf bbs)) in
     let t : Trace = traceOf bbs (l .state .side) in
     ap (λ (a : Answer Trace). length (sampleBy a (pieces bbs) (l .half) list)) (loaded-checked line l e (given t))
-    ∙ sample-300 t (pieces bbs) (l .half) list (moved bbs (l .state .side)) (list-192 (onesIn (entriesOf bbs)))
+    ∙ sample-300 t (pieces bbs) (l .half) list (moved bbs (l .state .side)) (bytes-length (onesIn (entriesOf bbs)))
 
 all-sampled : (ls : List (List ℕ)) → length (madeIn (madeOf M.Sample) ls) ≡ 300 * loadedIn P.Any ls
 unfolding madeIn loadedIn

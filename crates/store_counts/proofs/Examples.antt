@@ -5,17 +5,14 @@ use Prim.Native.Nat.{ℕ}
 use lib.ListN.{getD, replicate}
 use Rattle.laws.specs.Tables.{tabulate}
 use Rattle.laws.specs.Sums.{sumN}
+use Rattle.store_record.proofs.Examples.{drawnBytes}
 use Rattle.store_counts.specs.Summary.{countPlace, recordBrings, summaryAfresh, summaryMoved, summaryMore, summaryLess}
-
--- a white pawn on a1 and a black queen on b1, Black to move, drawn
-abbrev drawn : List ℕ
-drawn = 0xd2 ∷ (replicate 31 0 ++ (1 ∷ 1 ∷ []))
 
 -- the first place of a piece and the last; what the record brings to records, half points, its two pieces, and a queen that stands elsewhere
 places : countPlace 2 0 ∷ countPlace 3 0 ∷ countPlace 13 63 ∷ [] ≡ 2 ∷ 66 ∷ 769 ∷ []
 places = refl
 
-brings : recordBrings drawn 0 ∷ recordBrings drawn 1 ∷ recordBrings drawn (countPlace 2 0) ∷ recordBrings drawn (countPlace 13 1) ∷ recordBrings drawn (countPlace 13 0) ∷ []
+brings : recordBrings drawnBytes 0 ∷ recordBrings drawnBytes 1 ∷ recordBrings drawnBytes (countPlace 2 0) ∷ recordBrings drawnBytes (countPlace 13 1) ∷ recordBrings drawnBytes (countPlace 13 0) ∷ []
     ≡ 1 ∷ 1 ∷ 1 ∷ 1 ∷ 0 ∷ []
 brings = refl
 
@@ -24,14 +21,14 @@ five : List ℕ → List ℕ
 five s = getD s 0 0 ∷ getD s 1 0 ∷ getD s 2 0 ∷ getD s 66 0 ∷ getD s (countPlace 13 1) 0 ∷ []
 
 -- a store of that record twice, afresh; one record more on an empty summary; one less, which wraps
-afresh : five (summaryAfresh (drawn ++ drawn) 2) ≡ 2 ∷ 2 ∷ 2 ∷ 0 ∷ 2 ∷ []
+afresh : five (summaryAfresh (drawnBytes ++ drawnBytes) 2) ≡ 2 ∷ 2 ∷ 2 ∷ 0 ∷ 2 ∷ []
 unfolding five summaryAfresh tabulate sumN
 afresh = refl
 
-more : five (summaryMore (replicate 770 0) drawn) ≡ 1 ∷ 1 ∷ 1 ∷ 0 ∷ 1 ∷ []
+more : five (summaryMore (replicate 770 0) drawnBytes) ≡ 1 ∷ 1 ∷ 1 ∷ 0 ∷ 1 ∷ []
 unfolding five summaryMoved tabulate
 more = refl
 
-less : five (summaryLess (replicate 770 0) drawn) ≡ 0xffffffffffffffff ∷ 0xffffffffffffffff ∷ 0xffffffffffffffff ∷ 0 ∷ 0xffffffffffffffff ∷ []
+less : five (summaryLess (replicate 770 0) drawnBytes) ≡ 0xffffffffffffffff ∷ 0xffffffffffffffff ∷ 0xffffffffffffffff ∷ 0 ∷ 0xffffffffffffffff ∷ []
 unfolding five summaryMoved tabulate
 less = refl

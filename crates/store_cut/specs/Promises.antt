@@ -2,10 +2,14 @@
 use mathlib.Core.Path.{_≡_}
 use mathlib.Core.Bool.{Bool}
 use mathlib.Core.List.{List}
-use Prim.Native.Nat.{ℕ, _+_}
+use Prim.Native.Nat.{ℕ, _+_, _/_}
 use lib.ListN.{drop}
 use Rattle.store_cut.specs.Cut.{OpenPiece, FoundPiece, findPiece}
 use Rattle.store_cut.specs.declared.CutPiece.{CutPiece}
+
+-- how many pieces end in so many bytes more
+abbrev pub EndsPieces : ℕ → ℕ → ℕ → Type 0
+EndsPieces held more r = r ≡ (held + more) / 34
 
 abbrev pub holdingPiece : List ℕ → ℕ → OpenPiece
 holdingPiece piece held = record { piece = piece; held = held }

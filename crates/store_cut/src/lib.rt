@@ -1,7 +1,7 @@
 // The pieces of a store, found in chunks of it: whoever reads records asks for the next piece's end, and does with the piece what it does.
 ghost use mathlib.Core.Path.{_≡_};
 ghost use lib.ListN.{set};
-ghost use Rattle.store_cut.specs.Promises.{CutsPiece, MakesCut};
+ghost use Rattle.store_cut.specs.Promises.{EndsPieces, CutsPiece, MakesCut};
 use store_record::inner::RECORD;
 
 // The bytes before a piece's last one.
@@ -12,6 +12,13 @@ pub struct CutPiece {
     pub at: usize,
     pub held: usize,
     pub ended: bool,
+}
+
+// How many pieces end in so many bytes more.
+pub fn ends(held: usize, more: usize) -> usize
+    ensures { λ r. ⌜ EndsPieces held more r ⌝ }
+{
+    held / RECORD + more / RECORD + (held % RECORD + more % RECORD) / RECORD
 }
 
 fn keep_byte(piece: &mut [u8], held: usize, byte: u8)

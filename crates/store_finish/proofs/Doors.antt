@@ -18,14 +18,13 @@ use Rattle.ledger_row.specs.Row.{refusedRow}
 use Rattle.ledger_row.proofs.Lengths.{refused-32}
 use Rattle.ledger_totals.specs.Totals.{lastRow}
 use Rattle.ledger_totals.proofs.Fits.{fits-last}
-use Rattle.ledger_feed.specs.Machine.{Kept, rowMore}
+use Rattle.ledger_feed.specs.Machine.{Kept, withTotals, rowMore}
 use Rattle.ledger_feed.specs.Promises.{Came, turnedBy, many, full, came}
 use Rattle.ledger_feed.proofs.Doors.{written-nothing}
 use Rattle.ledger_finish.specs.Promises.{finishPaper, lengthOf, lastText, lastWrote}
 use Rattle.ledger_finish.specs.declared.Finished.{Finished}
 use Rattle.ledger_finish.specs.declared.Finished.the-variants as E
 use Rattle.ledger_finish.proofs.Doors.{placed-at, placed-full, unwritten}
-use Rattle.store_rows.specs.Rows.{withTotals}
 use Rattle.store_rows.specs.Promises.{storeCounts}
 use Rattle.store_rows.specs.declared.StoreSoFar.{StoreSoFar}
 use Rattle.store_finish.specs.Promises.{storeFinished, lastPieces, fitLast, storeFinishOf, FinishesStore}

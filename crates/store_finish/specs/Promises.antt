@@ -8,11 +8,10 @@ use lib.ListN.{length}
 use Rattle.refusal.specs.Answer.{refusalOf}
 use Rattle.refusal.specs.declared.Refusal.the-variants as R
 use Rattle.text_out.specs.Text.{writtenOf, roomFor}
-use Rattle.ledger_feed.specs.Machine.{Kept, rowMore}
+use Rattle.ledger_feed.specs.Machine.{Kept, withTotals, rowMore}
 use Rattle.ledger_feed.specs.Promises.{Came, turnedBy, many, full, came}
 use Rattle.ledger_finish.specs.Promises.{unfinished, finishPaper, lengthOf, lastText, lastWrote}
 use Rattle.ledger_finish.specs.declared.Finished.{Finished}
-use Rattle.store_rows.specs.Rows.{withTotals}
 use Rattle.store_rows.specs.Promises.{storeCounts}
 use Rattle.store_rows.specs.declared.StoreSoFar.{StoreSoFar}
 

@@ -1,9 +1,7 @@
 // The end of a store: the row of a short last piece, and the totals.
-ghost use mathlib.Core.Path.{_≡_};
 ghost use Prim.Native.Nat.{_^_, _≤_, _<_};
 ghost use lib.ListN.{length};
 ghost use Rattle.text_out.specs.Text.{Adds};
-ghost use Rattle.ledger_finish.specs.Promises.{unfinished};
 ghost use Rattle.store_finish.specs.Promises.{storeFinished, lastPieces, FinishesStore};
 use ledger_finish::Finished;
 use refusal::Refusal;
@@ -13,13 +11,6 @@ use text_out::Placed;
 
 // The room that a last piece's row and the totals take at most.
 const ROWS: usize = 116;
-
-// One more line where some of it was held.
-fn more(held: usize) -> usize
-    ensures { λ r. ⌜ r ≡ unfinished held ⌝ }
-{
-    if 0 < held { 1 } else { 0 }
-}
 
 // The row of the last piece, if it is short, and the totals. What it says needs none of its bytes.
 fn last_rows(state: StoreSoFar, out: &mut [u8]) -> usize
@@ -47,7 +38,11 @@ pub fn finish(state: StoreSoFar, out: &mut [u8]) -> Finished
     if state.held >= RECORD {
         return Finished::Refused(Refusal::Shape);
     }
-    if !ledger_feed::countable(state.loaded, state.refused, more(state.held)) {
+    if !ledger_feed::countable(
+        state.loaded,
+        state.refused,
+        ledger_finish::unfinished(state.held),
+    ) {
         return Finished::Many;
     }
     let mut rows = [0u8; ROWS];

@@ -16,7 +16,7 @@ use Rattle.store_record.specs.Record.{recordOf, boardIn, recordSays, pie
 abbrev drawn : Line
 drawn = record { state = ofSide 1; half = 1; board = 2 ∷ 13 ∷ replicate 62 0 }
 
-abbrev drawnBytes : List ℕ
+abbrev pub drawnBytes : List ℕ
 drawnBytes = 0xd2 ∷ (replicate 31 0 ++ (1 ∷ 1 ∷ []))
 
 packed : recordOf drawn ≡ drawnBytes

@@ -12,7 +12,7 @@ use Rattle.text_out.proofs.Wrote.{written-is}
 use Rattle.ledger_row.specs.Row.{rowOf, isLoaded}
 use Rattle.ledger_feed.specs.Machine.{Kept, tally}
 use Rattle.ledger_feed.proofs.Counted.{tally-both}
-use Rattle.ledger_feed.proofs.Turn.{rows}
+use Rattle.ledger_feed.proofs.Turn.{rows, rows-same}
 use Rattle.store_record.specs.Record.{pieceSays}
 use Rattle.store_cut.specs.Cut.{PiecesSoFar}
 use Rattle.store_cut.specs.Promises.{holdingPiece, CutsPiece}
@@ -23,15 +23,15 @@ use Rattle.store_rows.specs.declared.StoreSoFar.{StoreSoFar}
 use Rattle.store_rows.specs.declared.StoreFed.the-variants as F
 use Rattle.store_rows.proofs.Lengths.{piece-32}
 
+abbrev pub storeIn : ℕ → ℕ → ℕ → StoreSoFar
+storeIn held loaded refused = record { held = held; loaded = loaded; refused = refused }
+
 pub record Turn (whole : PiecesSoFar Kept) (chunk out₀ piece out : List ℕ) (held loaded refused w i : ℕ) : Type 0 where
   pub pieces : Pieces.PiecesTurn rowPiece whole 34 chunk piece held (rows loaded refused (take w out)) i
   pub kept : length out ≡ length out₀
   pub room : w + 32 * ((held + (length chunk - i)) / 34) ≤ length out₀
   pub counts : loaded + refused + (held + (length chunk - i)) / 34 < 2 ^ 64
   pub rest : drop w out ≡ drop w out₀
-
-same : {loaded loaded′ refused refused′ : ℕ} {text text′ : List ℕ} → loaded ≡ loaded′ → refused ≡ refused′ → text ≡ text′ → rows loaded refused text ≡ rows loaded′ refused′ text′
-same p q r = cc
 
 module _ (whole : PiecesSoFar Kept) (chunk out₀ piece out : List ℕ) (held loaded refused w i : ℕ) (h : i < length chunk)
     (t : Turn whole chunk out₀ piece out held loaded refused w i) (r : CutPiece) (piece′ : List ℕ) (p : CutsPiece held piece chunk i r piece′) where
@@ -69,7 +69,7 @@ module _ (whole : PiecesSoFar Kept) (chunk out₀ piece out : List ℕ) (held lo
       let both = tally-both is loaded refused in
       let s : Kept = rows loaded refused (take w out) in
       let s′ : Kept = rows loaded′ refused′ (take w′ out′) in
-      let now : s′ ≡ rowPiece s piece′ = same (l ∙ ap (tally loaded) il) (q ∙ ap (λ (x : Bool). tally refused (not x)) il) (adds-front a fits) in
+      let now : s′ ≡ rowPiece s piece′ = rows-same (l ∙ ap (tally loaded) il) (q ∙ ap (λ (x : Bool). tally refused (not x)) il) (adds-front a fits) in
       record {
         pieces = Pieces.turn-next rowPiece whole 34 chunk piece held s i (t .pieces) r piece′ p s′ (now ∙ sym (ap (λ (x : Bool). cond x (rowPiece s piece′) s) e));
         kept = adds-length a fits ∙ t .kept;

@@ -1,22 +1,13 @@
 -- The ledger's rows for a store (document 02, W-205): "A program prints the ledger's rows for a store on standard input, a short last piece as a
 -- refused row, 18." Definitions only.
-use mathlib.Core.List.{List, [], _++_}
-use Prim.Native.Nat.{ℕ, _+_}
+use mathlib.Core.List.{List}
+use Prim.Native.Nat.{ℕ}
 use Rattle.refusal.specs.Answer.{Answer}
 use Rattle.line_parse.specs.Line.{Line}
 use Rattle.line_cut.specs.Lines.{foldLines}
-use Rattle.ledger_totals.specs.Totals.{lastRow}
-use Rattle.ledger_feed.specs.Machine.{Kept, rowMore}
+use Rattle.ledger_feed.specs.Machine.{Kept, noRows, withTotals, rowMore}
 use Rattle.store_record.specs.Record.{pieceSays}
 use Rattle.store_cut.specs.Pieces.{piecesOf}
-
--- before the first piece
-abbrev pub noRows : Kept
-noRows = record { loaded = 0; refused = 0; text = [] }
-
--- the rows, and the totals of the same pieces
-abbrev pub withTotals : Kept → List ℕ
-withTotals k = k .text ++ lastRow (k .loaded + k .refused) (k .loaded) (k .refused)
 
 -- a ledger by what each piece says, one after another: its row, numbered from 1, and one more loaded or refused
 unfoldable pub ledgerBy : (List ℕ → Answer Line) → List (List ℕ) → List ℕ

@@ -1,9 +1,7 @@
 // The ledger's rows for a store, as a machine over bytes: any number of bytes at a time go in, whole rows come out.
 ghost use mathlib.Core.Path.{_≡_};
-ghost use Prim.Native.Nat.{_+_, _/_, _^_, _<_};
 ghost use Rattle.attack_steps.specs.Steps.{stepTables};
 ghost use Rattle.score_pst.specs.Pst.{pstTable};
-ghost use Rattle.ledger_feed.specs.Machine.{tally as tallyOf};
 ghost use Rattle.store_rows.specs.Promises.{BeginsStore, FeedsStore, MakesStore, ReadyStore, TakesStore, RowsPiece};
 use attack_steps::inner::ROWS;
 use chess::square::Square;
@@ -39,21 +37,6 @@ pub fn start() -> StoreSoFar
         loaded: 0,
         refused: 0,
     }
-}
-
-// How many pieces end in so many bytes more.
-fn ends(held: usize, more: usize) -> usize
-    requires { ⌜ held < 34 ⌝ }
-    ensures { λ r. ⌜ r ≡ (held + more) / 34 ⌝ }
-{
-    more / RECORD + (held + more % RECORD) / RECORD
-}
-
-fn tally(n: u64, holds: bool) -> u64
-    requires { ⌜ n + 1 < 2 ^ 64 ⌝ }
-    ensures { λ r. ⌜ r ≡ tallyOf n holds ⌝ }
-{
-    if holds { n + 1 } else { n }
 }
 
 fn made(held: usize, loaded: u64, refused: u64) -> StoreSoFar
@@ -109,8 +92,8 @@ fn take(
             let placed = row.placed;
             let is_loaded = row.loaded;
             wrote = placed.or(wrote);
-            loaded = tally(loaded, is_loaded);
-            refused = tally(refused, !is_loaded);
+            loaded += is_loaded as u64;
+            refused += !is_loaded as u64;
         }
     }
     StoreFed::Rows(made(held, loaded, refused), wrote)
@@ -126,7 +109,7 @@ pub fn feed(state: StoreSoFar, piece: &mut [u8], chunk: &[u8], out: &mut [u8]) -
     if state.held >= RECORD {
         return StoreFed::Refused(Refusal::Shape);
     }
-    let ends = ends(state.held, chunk.len());
+    let ends = store_cut::ends(state.held, chunk.len());
     if !ledger_feed::countable(state.loaded, state.refused, ends) {
         return StoreFed::Many;
     }

@@ -1,7 +1,5 @@
 // A store sifted, as a machine over bytes: any number of bytes at a time go in; what is made of loaded records comes out in one buffer, and the
 // rows of refused ones in another.
-ghost use mathlib.Core.Path.{_≡_};
-ghost use Prim.Native.Nat.{_+_, _/_, _<_};
 ghost use Rattle.sift_close.specs.Ended.{ClosesSaid};
 ghost use Rattle.store_record.specs.Record.{pieceSays};
 ghost use Rattle.store_sift.specs.Promises.{SiftsStore, ReadyToSiftStore, TakesSiftedStore};
@@ -21,14 +19,6 @@ pub enum StoreSifted {
     Full,
     Many,
     Refused(Refusal),
-}
-
-// How many pieces end in so many bytes more.
-fn ends(held: usize, more: usize) -> usize
-    requires { ⌜ held < 34 ⌝ }
-    ensures { λ r. ⌜ r ≡ (held + more) / 34 ⌝ }
-{
-    more / RECORD + (held + more % RECORD) / RECORD
 }
 
 // A piece that ended: what its record says decides.
@@ -117,7 +107,7 @@ pub fn feed(
     if state.held >= RECORD {
         return StoreSifted::Refused(Refusal::Shape);
     }
-    let ends = ends(state.held, chunk.len());
+    let ends = store_cut::ends(state.held, chunk.len());
     if !ledger_feed::countable(state.loaded, state.refused, ends) {
         return StoreSifted::Many;
     }

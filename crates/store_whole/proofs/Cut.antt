@@ -15,20 +15,20 @@ use Rattle.line_parse.specs.Line.{Line}
 use Rattle.line_cut.specs.Lines.{foldLines}
 use Rattle.ledger_row.specs.Row.{rowOf, isLoaded}
 use Rattle.ledger_totals.specs.Totals.{lastRow}
-use Rattle.ledger_feed.specs.Machine.{Kept, rowMore, tally}
+use Rattle.ledger_feed.specs.Machine.{Kept, noRows, withTotals, rowMore, tally}
 use Rattle.ledger_feed.specs.Promises.{Came, came}
 use Rattle.ledger_feed.proofs.Counted.{tally-both}
 use Rattle.ledger_finish.specs.Promises.{unfinished, lengthOf, lastText}
 use Rattle.ledger_finish.specs.declared.Finished.{Finished}
 use Rattle.ledger_whole.specs.Calls.{Last, lastRowsOf}
-use Rattle.ledger_whole.proofs.Cut.{taken, last-of}
+use Rattle.ledger_whole.proofs.Cut.{shift, taken, last-of}
 use Rattle.store_record.specs.Record.{recordSays, pieceSays}
 use Rattle.store_cut.specs.Pieces.{piecesOf}
 use Rattle.store_cut.specs.Cut.{OpenPiece, filled, pieceEmptied, PiecesSoFar, runPieces, endPieces}
 use Rattle.store_cut.specs.Promises.{holdingPiece}
 use Rattle.store_cut.proofs.Machine.{pieces-append, left-piece, toldBeside, pieces-told}
 use Rattle.store_cut.proofs.Folded.{folded-pieces}
-use Rattle.store_rows.specs.Rows.{ledgerBy, noRows, withTotals}
+use Rattle.store_rows.specs.Rows.{ledgerBy}
 use Rattle.store_rows.specs.Promises.{rowPiece, storeCounts, runStore, endsStore, storeFeedOf, storeFedPaper, soFarOf, storeByValue, pieceAfter, storeText, storeWrote, FeedsStore}
 use Rattle.store_rows.specs.declared.StoreSoFar.{StoreSoFar}
 use Rattle.store_rows.specs.declared.StoreFed.{StoreFed}
@@ -44,35 +44,32 @@ abbrev finishedOf : PiecesSoFar Kept → List ℕ
 finishedOf r = withTotals (endPieces rowPiece r)
 
 -- ---- rows that were written before stand before all others
-abbrev shifted : List ℕ → Kept → Kept
-shifted t k = record { loaded = k .loaded; refused = k .refused; text = t ++ k .text }
-
-row-shifted : (t : List ℕ) (k : Kept) (piece : List ℕ) → rowPiece (shifted t k) piece ≡ shifted t (rowPiece k piece)
+row-shifted : (t : List ℕ) (k : Kept) (piece : List ℕ) → rowPiece (shift t k) piece ≡ shift t (rowPiece k piece)
 row-shifted t k piece =
     ap (λ (x : List ℕ). record { loaded = tally (k .loaded) (isLoaded (pieceSays piece)); refused = tally (k .refused) (not (isLoaded (pieceSays piece))); text = x })
     (append-assoc t (k .text) (rowOf (k .loaded + k .refused + 1) (pieceSays piece)))
 
-totals-shifted : (t : List ℕ) (k : Kept) → withTotals (shifted t k) ≡ t ++ withTotals k
+totals-shifted : (t : List ℕ) (k : Kept) → withTotals (shift t k) ≡ t ++ withTotals k
 totals-shifted t k = append-assoc t (k .text) (lastRow (k .loaded + k .refused) (k .loaded) (k .refused))
 
-finished-shifted : (t : List ℕ) (r : PiecesSoFar Kept) → finishedOf (toldBeside (shifted t) r) ≡ t ++ finishedOf r
+finished-shifted : (t : List ℕ) (r : PiecesSoFar Kept) → finishedOf (toldBeside (shift t) r) ≡ t ++ finishedOf r
 finished-shifted t r = go (ltb 0 (r .left .held))
   where
     piece : List ℕ
     piece = take (r .left .held) (r .left .piece)
 
-    go : (x : Bool) → withTotals (cond x (rowPiece (shifted t (r .kept)) piece) (shifted t (r .kept))) ≡ t ++ withTotals (cond x (rowPiece (r .kept) piece) (r .kept))
+    go : (x : Bool) → withTotals (cond x (rowPiece (shift t (r .kept)) piece) (shift t (r .kept))) ≡ t ++ withTotals (cond x (rowPiece (r .kept) piece) (r .kept))
     go true = ap withTotals (row-shifted t (r .kept) piece) ∙ totals-shifted t (rowPiece (r .kept) piece)
     go false = totals-shifted t (r .kept)
 
 -- one chunk after another: the rows of the first, and those that the rest writes from there
 then : (state : StoreSoFar) (piece s t : List ℕ)
-    → runStore state piece (s ++ t) ≡ toldBeside (shifted (runStore state piece s .kept .text)) (runStore (soFarOf (runStore state piece s)) (runStore state piece s .left .piece) t)
+    → runStore state piece (s ++ t) ≡ toldBeside (shift (runStore state piece s .kept .text)) (runStore (soFarOf (runStore state piece s)) (runStore state piece s .left .piece) t)
 then state piece s t =
     let m : PiecesSoFar Kept = runStore state piece s in
     pieces-append rowPiece (holdingPiece piece (state .held)) (storeCounts state) s t
     ∙ ap (λ (x : List ℕ). runPieces rowPiece (m .left) (record { loaded = m .kept .loaded; refused = m .kept .refused; text = x }) t) (sym (append-nil (m .kept .text)))
-    ∙ pieces-told (shifted (m .kept .text)) rowPiece rowPiece (row-shifted (m .kept .text)) (m .left) (storeCounts (soFarOf m)) t
+    ∙ pieces-told (shift (m .kept .text)) rowPiece rowPiece (row-shifted (m .kept .text)) (m .left) (storeCounts (soFarOf m)) t
 
 -- ---- how many pieces were counted
 run-counts : (o : OpenPiece) (k : Kept) (s : List ℕ) → o .held < 34

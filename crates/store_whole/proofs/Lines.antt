@@ -16,7 +16,7 @@ use Rattle.line_cut.specs.Promises.{freshLine}
 use Rattle.line_cut.proofs.Folded.{folded}
 use Rattle.line_held.proofs.Said.{follows}
 use Rattle.line_profile.specs.declared.Profile.the-variants as P
-use Rattle.ledger_feed.specs.Machine.{Kept, rowMore, closeRow}
+use Rattle.ledger_feed.specs.Machine.{Kept, noRows, withTotals, rowMore, closeRow}
 use Rattle.ledger_whole.specs.Ledger.{ledgerOf}
 use Rattle.ledger_whole.proofs.Machines.{finished-end, machine-ledger}
 use Rattle.store_record.specs.Record.{recordOf, pieceSays}
@@ -24,7 +24,7 @@ use Rattle.store_record.proofs.Records.{record-34}
 use Rattle.store_same.proofs.Trips.{says-it}
 use Rattle.store_cut.specs.Pieces.{recordsFrom, piecesOf}
 use Rattle.store_cut.proofs.Folded.{filled-up}
-use Rattle.store_rows.specs.Rows.{ledgerBy, noRows, withTotals}
+use Rattle.store_rows.specs.Rows.{ledgerBy}
 use Rattle.store_whole.specs.Whole.{storeFrom, SameRows}
 
 -- ---- the ledger of a collection is by what its lines say

@@ -32,7 +32,7 @@ use Rattle.trace.specs.Trace.{entryAt}
 use Rattle.trace_exact.proofs.Entries.{entry-at}
 
 -- ---- sums of digits
-many-sum : (n : ℕ) (f : ℕ → Bool) → sumZ n (λ k. pos (digit (f k))) ≡ pos (howMany n f)
+pub many-sum : (n : ℕ) (f : ℕ → Bool) → sumZ n (λ k. pos (digit (f k))) ≡ pos (howMany n f)
 unfolding sumZ howMany
 many-sum zero f = refl
 many-sum (suc n) f = ap (λ (z : ℤ). z +ℤ pos (digit (f n))) (many-sum n f) ∙ ap pos (native.Mathlib.Nat.add-comm (howMany n f) (digit (f n)))

@@ -37,7 +37,7 @@ pub data Mark : ℤ → Type 0 where
   no : Mark (pos 0)
   yes : Mark (pos 1)
 
-mark-of : (z : ℤ) → T (within (pos 1) z) → Mark z
+pub mark-of : (z : ℤ) → T (within (pos 1) z) → Mark z
 mark-of (pos zero) t = no
 mark-of (pos (suc zero)) t = yes
 mark-of (pos (suc (suc n))) t = absurd (omega (arith, leb→le (suc (suc n)) 1 (and-r (leZ (pos 0) (pos (suc (suc n)))) (leZ (pos (suc (suc n))) (pos 1)) t)))

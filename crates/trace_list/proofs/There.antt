@@ -65,7 +65,7 @@ module _ (used : ℕ) (bytes : List ℕ) (h : Listed used bytes) where
   rising = record { up = h .sorted; below = place-below }
 
 -- ---- what is 1 in the flat form
-one-is : (t : Bool) → ltZ (pos 0) (pos (digit t)) ≡ t
+pub one-is : (t : Bool) → ltZ (pos 0) (pos (digit t)) ≡ t
 one-is true = refl
 one-is false = refl
 

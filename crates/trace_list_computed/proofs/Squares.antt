@@ -2,6 +2,7 @@
 -- stands nothing is added. So the walk over the squares of either leaves out nothing. Assumes nothing.
 use mathlib.Core.Path.{_≡_, refl, sym, ap, ap₂, _∙_}
 use mathlib.Core.Bool.{Bool, true, false, cond, _&&_, _||_, true≢false}
+use mathlib.Mathlib.Data.Bool.Basic.{or-eq-false-eq-eq-false-and-eq-false}
 use mathlib.Core.List.{List, []}
 use Prim.Native.Nat.{ℕ, suc, _+_, _*_, _^_, _<_}
 use native.Mathlib.Omega.{arith}
@@ -21,21 +22,18 @@ use Rattle.trace_marks.proofs.Walk as walk
 use Rattle.trace_list.specs.Ones.{ones}
 use Rattle.trace_list.specs.Form.{isOne, onesIn, listBytes}
 use Rattle.trace_list.proofs.Ones.{ones-zero, ones-no}
+use Rattle.trace_list.proofs.There.{one-is}
 use Rattle.trace_list_turn.proofs.Ways.{room, length-yes, length-no, bytes-yes, bytes-no}
 use Rattle.trace_list_computed.specs.PrivateWalk.{Few, onesBefore, entryPut, putWhere, bothPut, turnedOver}
 use Rattle.trace_list_computed.proofs.Flipped.{has-turned}
 
 -- ---- what stands at a place
-above : (t : Bool) → ltZ (pos 0) (pos (digit t)) ≡ t
-above true = refl
-above false = refl
-
 module _ (bbs : List ℕ) (kind s : ℕ) (hk : kind < 6) (hs : s < 64) where
   there : (colour : ℕ) → colour < 2 → isOne (entriesOf bbs) (entryPlace kind s colour) ≡ has (standing bbs kind colour) (flipOf s colour)
   unfolding entriesOf
   there colour hc =
       ap (ltZ (pos 0)) (entry 768 (λ i. pos (entryAt bbs i)) (pos 0) (entryPlace kind s colour) (omega arith))
-      ∙ ap (λ (n : ℕ). ltZ (pos 0) (pos n)) (entry-at bbs kind s colour hs hc) ∙ above (has (standing bbs kind colour) (flipOf s colour))
+      ∙ ap (λ (n : ℕ). ltZ (pos 0) (pos n)) (entry-at bbs kind s colour hs hc) ∙ one-is (has (standing bbs kind colour) (flipOf s colour))
 
   pub white-one : isOne (entriesOf bbs) (128 * kind + 2 * s) ≡ has (standing bbs kind 0) s
   white-one = let e : 128 * kind + 2 * s ≡ entryPlace kind s 0 = omega arith in ap (isOne (entriesOf bbs)) e ∙ there 0 (omega arith)
@@ -71,17 +69,13 @@ Made = ℕ × List ℕ
 abbrev pub madeTo : List ℕ → ℕ → ℕ → Made
 madeTo bbs kind s = (length (onesBefore bbs (128 * kind + 2 * s)), listBytes (onesBefore bbs (128 * kind + 2 * s)))
 
-neither : (a b : Bool) → (a || b) ≡ false → (a ≡ false) × (b ≡ false)
-neither true b e = absurd (let z : _≡_ {A = ℕ} 0 1 = cc in omega arith)
-neither false b e = (refl, e)
-
 pub still : (bbs : List ℕ) (kind s w b : ℕ) → kind < 6 → s < 64 → w ≡ standing bbs kind 0 → b ≡ turnedOver (standing bbs kind 1) → has (bitOr w b) s ≡ false
     → madeTo bbs kind s ≡ madeTo bbs kind (suc s)
 unfolding onesBefore
 still bbs kind s w b hk hs ew eb e =
     let k : ℕ = 128 * kind + 2 * s in
     let f : ℕ → Bool = isOne (entriesOf bbs) in
-    let both = neither (has w s) (has b s) (sym (has-or w b s) ∙ e) in
+    let both = or-eq-false-eq-eq-false-and-eq-false (has w s) (has b s) .0 (sym (has-or w b s) ∙ e) in
     let a : f k ≡ false = white-one bbs kind s hk hs ∙ ap (λ (x : ℕ). has x s) (sym ew) ∙ both .0 in
     let c : f (suc k) ≡ false = ap f (let z : suc k ≡ k + 1 = omega arith in z) ∙ black-one bbs kind s hk hs ∙ ap (λ (x : ℕ). has x s) (sym eb) ∙ both .1 in
     let on : ones f (128 * kind + 2 * suc s) ≡ ones f k = ap (ones f) (let z : 128 * kind + 2 * suc s ≡ suc (suc k) = omega arith in z) ∙ ones-no f (suc k) c ∙ ones-no f k a in

@@ -1,13 +1,11 @@
 -- The mobility, plane by plane, with no tables lent; as many entries as pieces, so that a list has room for a position's. Assumes nothing.
-use mathlib.Core.Path.{_≡_, refl, sym, ap, ap₂, subst, _∙_}
-use mathlib.Core.Bool.{Bool, true, false}
+use mathlib.Core.Path.{_≡_, sym, ap, ap₂, subst, _∙_}
+use mathlib.Core.Bool.{Bool, true}
 use mathlib.Core.List.{List}
-use Prim.Native.Nat.{ℕ, zero, suc, _+_, _/_, _%_, _<_, _≤_}
-use native.Mathlib.Nat.{add-comm}
-use lib.IntN.{ℤ, pos, natAbs, _+ℤ_}
+use Prim.Native.Nat.{ℕ, _+_, _/_, _%_, _<_, _≤_}
+use lib.IntN.{ℤ, pos, natAbs}
 use lib.Signed.{ltZ}
 use lib.ListN.{length, set}
-use Rattle.laws.specs.Sums.{sumZ}
 use Rattle.laws.proofs.Sums.{whole-same}
 use Rattle.laws.proofs.Tables.{entry}
 use Rattle.bits.specs.Bitboard.{has, digit, howMany}
@@ -20,9 +18,10 @@ use Rattle.score_tally.specs.Mobility.{attackedFrom, attackedBy, attacked}
 use Rattle.trace.specs.Trace.{entryAt, entriesOf, mobilityOf}
 use Rattle.trace.proofs.Walks.{movedTo, moved-more, moved-all, twelve, attacked-by}
 use Rattle.trace_exact.proofs.Ranges.{pieces-few}
-use Rattle.trace_exact.proofs.Tally.{ones-pieces}
+use Rattle.trace_exact.proofs.Tally.{many-sum, ones-pieces}
 use Rattle.trace_list.specs.Form.{isOne, onesIn}
 use Rattle.trace_list.proofs.Ones.{ones-count}
+use Rattle.trace_list.proofs.There.{one-is}
 use Rattle.trace_list_computed.specs.PrivateWalk.{Few}
 
 -- ---- the mobility
@@ -44,20 +43,11 @@ pub planes-all : (bbs : List ℕ) (l : List ℤ) (n : ℕ) → n ≡ 12 → l �
 planes-all bbs l n e q = twelve-planes bbs n e q
 
 -- ---- as many ones as pieces
-many-sum : (n : ℕ) (f : ℕ → Bool) → sumZ n (λ k. pos (digit (f k))) ≡ pos (howMany n f)
-unfolding sumZ howMany
-many-sum zero f = refl
-many-sum (suc n) f = ap (λ (z : ℤ). z +ℤ pos (digit (f n))) (many-sum n f) ∙ ap pos (add-comm (howMany n f) (digit (f n)))
-
-digit-back : (t : Bool) → digit (ltZ (pos 0) (pos (digit t))) ≡ digit t
-digit-back true = refl
-digit-back false = refl
-
 one-at : (bbs : List ℕ) (i : ℕ) → i < 768 → pos (digit (isOne (entriesOf bbs) i)) ≡ pos (entryAt bbs i)
 unfolding entriesOf entryAt
 one-at bbs i h =
     ap (λ (z : ℤ). pos (digit (ltZ (pos 0) z))) (entry 768 (λ i. pos (entryAt bbs i)) (pos 0) i h)
-    ∙ ap pos (digit-back (has (standing bbs (kindAt i) (colourAt i)) (flipOf (squareAt i) (colourAt i))))
+    ∙ ap (λ (t : Bool). pos (digit t)) (one-is (has (standing bbs (kindAt i) (colourAt i)) (flipOf (squareAt i) (colourAt i))))
 
 many-pieces : (bbs board : List ℕ) → consistent bbs board ≡ true → howMany 768 (isOne (entriesOf bbs)) ≡ pieces bbs
 many-pieces bbs board e =

@@ -1,6 +1,7 @@
 -- What the digits say: where one is 0 its number is 0, and all numbers are below 2 exactly if all of them together are. Assumes nothing.
 use mathlib.Core.Path.{_≡_, refl, sym, ap, ap₂, subst, _∙_}
-use mathlib.Core.Bool.{Bool, true, false, _||_, _&&_, and-false}
+use mathlib.Core.Bool.{Bool, false, _||_, _&&_, and-false}
+use mathlib.Mathlib.Data.Bool.Basic.{or-eq-false-eq-eq-false-and-eq-false}
 use Prim.Native.Nat.{ℕ, zero, suc, _+_, _*_, _-_, _/_, _%_, _^_, _≤_, _<_}
 use native.Mathlib.Decide.{ℕ-discrete}
 use native.Mathlib.Nat.{le-max-left, pow-suc}
@@ -64,16 +65,12 @@ unfolding marks
 marks-lt f zero = omega arith
 marks-lt f (suc n) = or-lt 64 (marks f n) (f n * 2 ^ n % 2 ^ 64) (marks-lt f n) (omega arith)
 
-neither : (a b : Bool) → (a || b) ≡ false → (a ≡ false) × (b ≡ false)
-neither true b e = absurd (let z : _≡_ {A = ℕ} 0 1 = cc in omega arith)
-neither false b e = (refl, e)
-
 -- a digit that is 0 stands for a number whose lowest is
 pub marks-none : (f : ℕ → ℕ) (n j : ℕ) → n ≤ 64 → j < n → has (marks f n) j ≡ false → has (f j) 0 ≡ false
 unfolding marks
 marks-none f zero j l h e = absurd (omega arith)
 marks-none f (suc n) j l h e =
-    let w = neither (has (marks f n) j) (has (f n * 2 ^ n % 2 ^ 64) j) (sym (has-or (marks f n) (f n * 2 ^ n % 2 ^ 64) j) ∙ e) in
+    let w = or-eq-false-eq-eq-false-and-eq-false (has (marks f n) j) (has (f n * 2 ^ n % 2 ^ 64) j) .0 (sym (has-or (marks f n) (f n * 2 ^ n % 2 ^ 64) j) ∙ e) in
     elim (ℕ-discrete j n) [
       | yes q ↦ here q (w .1)
       | no q ↦ marks-none f n j (omega arith) (omega arith) (w .0)

@@ -1,9 +1,10 @@
--- `fit_root::scale` meets its contract: the number doubled, its exponent less by one. Assumes nothing.
+-- `fit_root::scale` meets its contract: the number moved-up, its exponent less by one. Assumes nothing.
 use mathlib.Core.Path.{_≡_, refl, _∙_}
-use Prim.Native.Nat.{ℕ, zero, suc, _-_, _*_, _^_, _≤_, _<_}
-use native.Mathlib.Nat.{lt-of-not-le, mul-le-mul-left, pow-suc, mul-assoc, mul-comm}
+use Prim.Native.Nat.{ℕ, _*_, _^_, _≤_, _<_}
+use native.Mathlib.Nat.{lt-of-not-le, mul-le-mul-left}
 use native.Mathlib.Omega.{arith}
 use lib.Pow.{pow-mono}
+use Rattle.fit_root.proofs.Closer.{moved-up}
 use Rattle.fit_root.proofs.scale.Statement.{statement}
 use Rattle.fit_root.proofs.scale.Tie as tie
 
@@ -13,10 +14,6 @@ room x m e q h l = lt-of-not-le (λ (g : e ≤ 8). clash (mul-le-mul-left m (pow
   where
     clash : m * 2 ^ e ≤ m * 2 ^ 8 → ⊥
     clash k = omega arith
-
-doubled : (m e : ℕ) → 0 < e → m * 2 * 2 ^ (e - 1) ≡ m * 2 ^ e
-doubled m zero h = absurd (omega arith)
-doubled m (suc e) h = let z : suc e - 1 ≡ e = omega arith in rw (z, pow-suc 2 e, mul-comm (2 ^ e) 2) (mul-assoc m 2 (2 ^ e))
 
 abbrev Inv-loop : tie.InvT-loop
 Inv-loop x m₀ e₀ m e = (m * 2 ^ e ≡ x * 2 ^ 60) × (0 < x) × (m < 2 ^ 53) × (8 ≤ e) × (e ≤ 60)
@@ -39,7 +36,7 @@ loop-less c = omega (arith, room _ _ _ (c .before .loop .inv .0) (c .before .loo
 loop-again : tie.Need-loop-again Inv-loop μ-loop
 loop-again c =
     let r = room _ _ _ (c .before .loop .inv .0) (c .before .loop .inv .1) (c .loop-test .taken) in
-    (doubled _ _ (omega arith) ∙ c .before .loop .inv .0, c .before .loop .inv .1, omega arith, omega arith, omega arith)
+    (moved-up _ _ (omega arith) ∙ c .before .loop .inv .0, c .before .loop .inv .1, omega arith, omega arith, omega arith)
 
 returns : tie.Need-returns Inv-loop μ-loop
 returns c = (c .before .loop .inv .0, c .loop-test .left, c .before .loop .inv .2, c .before .loop .inv .3, c .before .loop .inv .4)

@@ -1,17 +1,20 @@
 -- `ledger_feed::take` meets its contract: the loop's invariant is `Turn`. Assumes nothing.
 use mathlib.Core.Path.{sym, _∙_}
+use mathlib.Core.Bool.{not}
 use mathlib.Core.List.{[]}
 use Prim.Native.Nat.{_+_, _-_}
 use native.Mathlib.Omega.{arith}
 use borrow.Author.Needs.{needs}
 use denote.Ref.{now}
 use lib.ListN.{length}
+use mir.Val.{boolByte}
 use Rattle.line_cut.specs.Cut.{runBy}
 use Rattle.line_cut.specs.Promises.{opened}
 use Rattle.line_cut.proofs.Loop.{next-line}
 use Rattle.line_profile.specs.Under.{saidUnder}
 use Rattle.ledger_close.proofs.Closed.{closed-adds}
 use Rattle.ledger_feed.specs.Machine.{closeRow}
+use Rattle.ledger_feed.proofs.Counted.{number-most, tally-number}
 use Rattle.ledger_feed.proofs.Turn.{Turn, rows, turn-none, turn-less, turn-on, turn-close, turn-end}
 use Rattle.ledger_feed.proofs.take.Statement.{statement}
 use Rattle.ledger_feed.proofs.take.Tie as tie
@@ -53,42 +56,49 @@ close-requires c κs = search needs
 or-requires : tie.Need-or-requires Inv-loop μ-loop
 or-requires c κs = search needs
 
-tally-requires : tie.Need-tally-requires Inv-loop μ-loop
-tally-requires c κs =
+cast-loaded : tie.Need-cast-loaded Inv-loop μ-loop
+cast-loaded c = search needs
+
+add-loaded : tie.Need-add-loaded Inv-loop μ-loop
+add-loaded c =
     let a = c .before .before .before .before .before .before .before .before .before .before .before .before .before .before .before .before .before .args in
     let l = c .before .before .before .before .before .before .before .before .before .before .before .before .before .loop in
     let n = c .before .before .before .before .before .before .before .before .before .before .next in
     let e = next-line (l .begun) (l .line) (now (a .chunk)) (l .at) (n .result) (n .last .1 .0) (n .ensures) (c .before .before .before .before .before .before .if1 .taken) in
-    omega (arith, l .inv .counts)
+    record { fits = omega (arith, l .inv .counts, number-most (c .before .before .before .close .result .loaded)) }
 
-tally-requires-2 : tie.Need-tally-requires-2 Inv-loop μ-loop
-tally-requires-2 c κs =
-    let a = c .before .before .before .before .before .before .before .before .before .before .before .before .before .before .before .before .before .before .args in
-    let l = c .before .before .before .before .before .before .before .before .before .before .before .before .before .before .loop in
-    let n = c .before .before .before .before .before .before .before .before .before .before .before .next in
-    let e = next-line (l .begun) (l .line) (now (a .chunk)) (l .at) (n .result) (n .last .1 .0) (n .ensures) (c .before .before .before .before .before .before .before .if1 .taken) in
-    omega (arith, l .inv .counts)
+cast-refused : tie.Need-cast-refused Inv-loop μ-loop
+cast-refused c = search needs
+
+add-refused : tie.Need-add-refused Inv-loop μ-loop
+add-refused c =
+    let a = c .before .before .before .before .before .before .before .before .before .before .before .before .before .before .before .before .before .args in
+    let l = c .before .before .before .before .before .before .before .before .before .before .before .before .before .loop in
+    let n = c .before .before .before .before .before .before .before .before .before .before .next in
+    let e = next-line (l .begun) (l .line) (now (a .chunk)) (l .at) (n .result) (n .last .1 .0) (n .ensures) (c .before .before .before .before .before .before .if1 .taken) in
+    record { fits = omega (arith, l .inv .counts, number-most (not (c .before .before .before .close .result .loaded))) }
 
 loop-less : tie.Need-loop-less Inv-loop μ-loop
 loop-less c =
-    let a = c .before .before .before .before .before .before .before .before .before .before .before .before .before .before .before .before .before .before .before .args in
-    let l = c .before .before .before .before .before .before .before .before .before .before .before .before .before .before .before .loop in
-    let n = c .before .before .before .before .before .before .before .before .before .before .before .before .next in
-    let more = c .before .before .before .before .before .before .before .before .before .before .before .before .before .before .loop-test .taken in
+    let a = c .before .before .before .before .before .before .before .before .before .before .before .before .before .before .before .before .before .args in
+    let l = c .before .before .before .before .before .before .before .before .before .before .before .before .before .loop in
+    let n = c .before .before .before .before .before .before .before .before .before .before .next in
+    let more = c .before .before .before .before .before .before .before .before .before .before .before .before .loop-test .taken in
     let h = turn-less (a .profile) (runBy (closeRow (a .profile)) (opened (record { held = a .state .held; cr = a .state .cr }) (now (a .line))) (rows (a .state .loaded) (a .state .refused) []) (now (a .chunk))) (now (a .chunk)) (now (a .out)) (l .line) (l .out) (l .begun) (l .loaded) (l .refused) (l .wrote) (l .at) more (l .inv) (n .result) (n .last .1 .0) (n .ensures) in
     omega (arith, h, more)
 
 loop-again : tie.Need-loop-again Inv-loop μ-loop
 loop-again c =
-    let a = c .before .before .before .before .before .before .before .before .before .before .before .before .before .before .before .before .before .before .before .args in
-    let l = c .before .before .before .before .before .before .before .before .before .before .before .before .before .before .before .loop in
-    let n = c .before .before .before .before .before .before .before .before .before .before .before .before .next in
-    let k = c .before .before .before .before .before .close in
+    let a = c .before .before .before .before .before .before .before .before .before .before .before .before .before .before .before .before .before .args in
+    let l = c .before .before .before .before .before .before .before .before .before .before .before .before .before .loop in
+    let n = c .before .before .before .before .before .before .before .before .before .before .next in
+    let k = c .before .before .before .close in
     let said = saidUnder (a .profile) (n .last .1 .0) (n .result .size) in
-    turn-close (a .profile) (runBy (closeRow (a .profile)) (opened (record { held = a .state .held; cr = a .state .cr }) (now (a .line))) (rows (a .state .loaded) (a .state .refused) []) (now (a .chunk))) (now (a .chunk)) (now (a .out)) (l .line) (l .out) (l .begun) (l .loaded) (l .refused) (l .wrote) (l .at) (c .before .before .before .before .before .before .before .before .before .before .before .before .before .before .loop-test .taken) (l .inv) (n .result) (n .last .1 .0) (n .ensures)
-    (c .before .before .before .before .before .before .before .before .if1 .taken) (k .last .1 .1 .1 .1 .0) (c .before .before .or .result)
-    (closed-adds (now (a .tables)) (now (a .pst)) (c .before .before .before .before .before .before .before .before .before .before .before .before .before .before .before .before .before .before .before .pre .1) (c .before .before .before .before .before .before .before .before .before .before .before .before .before .before .before .before .before .before .before .pre .2) (l .loaded + l .refused + 1) (l .out) (k .last .1 .1 .1 .1 .0) (l .wrote) said (k .result) (k .ensures) (c .before .before .or .result) (c .before .before .or .ensures))
-    (k .result .loaded) (k .ensures .loaded) (c .before .tally .result) (c .tally2 .result) (c .before .tally .ensures) (c .tally2 .ensures)
+    turn-close (a .profile) (runBy (closeRow (a .profile)) (opened (record { held = a .state .held; cr = a .state .cr }) (now (a .line))) (rows (a .state .loaded) (a .state .refused) []) (now (a .chunk))) (now (a .chunk)) (now (a .out)) (l .line) (l .out) (l .begun) (l .loaded) (l .refused) (l .wrote) (l .at) (c .before .before .before .before .before .before .before .before .before .before .before .before .loop-test .taken) (l .inv) (n .result) (n .last .1 .0) (n .ensures)
+    (c .before .before .before .before .before .before .if1 .taken) (k .last .1 .1 .1 .1 .0) (c .or .result)
+    (closed-adds (now (a .tables)) (now (a .pst)) (c .before .before .before .before .before .before .before .before .before .before .before .before .before .before .before .before .before .pre .1) (c .before .before .before .before .before .before .before .before .before .before .before .before .before .before .before .before .before .pre .2) (l .loaded + l .refused + 1) (l .out) (k .last .1 .1 .1 .1 .0) (l .wrote) said (k .result) (k .ensures) (c .or .result) (c .or .ensures))
+    (k .result .loaded) (k .ensures .loaded) (l .loaded + boolByte (k .result .loaded)) (l .refused + boolByte (not (k .result .loaded)))
+    (tally-number (k .result .loaded) (l .loaded)) (tally-number (not (k .result .loaded)) (l .refused))
 
 loop-less-2 : tie.Need-loop-less-2 Inv-loop μ-loop
 loop-less-2 c =
@@ -133,8 +143,10 @@ take-spec =
     add-close-2
     close-requires
     or-requires
-    tally-requires
-    tally-requires-2
+    cast-loaded
+    add-loaded
+    cast-refused
+    add-refused
     loop-less
     loop-again
     loop-less-2

@@ -1,24 +1,23 @@
 -- `store_rows::take` meets its contract: the loop's invariant is `Turn`. Assumes nothing.
 use mathlib.Core.Path.{sym, _∙_}
-use Prim.Native.Nat.{ℕ, _+_, _-_}
+use mathlib.Core.Bool.{not}
+use Prim.Native.Nat.{_+_, _-_}
 use native.Mathlib.Omega.{arith}
 use lib.ListN.{length}
+use mir.Val.{boolByte}
 use denote.Ref.{now}
 use borrow.Author.Needs.{needs}
 use Rattle.ledger_close.proofs.Closed.{closed-adds}
+use Rattle.ledger_feed.proofs.Counted.{number-most, tally-number}
 use Rattle.store_record.specs.Record.{pieceSays}
 use Rattle.store_rows.specs.Promises.{runStore}
-use Rattle.store_rows.specs.declared.StoreSoFar.{StoreSoFar}
-use Rattle.store_rows.proofs.Turn.{Turn, turn-none, turn-less, turn-one, turn-on, turn-close, turn-end}
+use Rattle.store_rows.proofs.Turn.{storeIn, Turn, turn-none, turn-less, turn-one, turn-on, turn-close, turn-end}
 use Rattle.store_rows.proofs.take.Statement.{statement}
 use Rattle.store_rows.proofs.take.Tie as tie
 
-abbrev begun : ℕ → ℕ → ℕ → StoreSoFar
-begun held loaded refused = record { held = held; loaded = loaded; refused = refused }
-
 abbrev Inv-loop : tie.InvT-loop
 Inv-loop piece₀ chunk out₀ pst tables held₀ loaded₀ refused₀ wrote₀ at₀ piece out held loaded refused wrote at =
-    Turn (runStore (begun held₀ loaded₀ refused₀) piece₀ chunk) chunk out₀ piece out held loaded refused wrote at
+    Turn (runStore (storeIn held₀ loaded₀ refused₀) piece₀ chunk) chunk out₀ piece out held loaded refused wrote at
 
 abbrev μ-loop : tie.MeasureT-loop
 μ-loop piece₀ chunk out₀ pst tables held₀ loaded₀ refused₀ wrote₀ at₀ piece out held loaded refused wrote at = length chunk - at
@@ -57,8 +56,11 @@ row-requires c κs = search needs
 or-requires : tie.Need-or-requires Inv-loop μ-loop
 or-requires c κs = search needs
 
-tally-requires : tie.Need-tally-requires Inv-loop μ-loop
-tally-requires c κs =
+cast-loaded : tie.Need-cast-loaded Inv-loop μ-loop
+cast-loaded c = search needs
+
+add-loaded : tie.Need-add-loaded Inv-loop μ-loop
+add-loaded c =
     let t = c .before .before .before .before .before .before in
     let d = t .before .before .before in
     let g = d .before .before .before in
@@ -66,22 +68,27 @@ tally-requires c κs =
     let l = g .loop in
     let n = d .next in
     let e = turn-one (runStore (a .state) (now (a .piece)) (now (a .chunk))) (now (a .chunk)) (now (a .out)) (l .piece) (l .out) (l .held) (l .loaded) (l .refused) (l .wrote) (l .at) (d .before .before .loop-test .taken) (l .inv) (n .result) (n .last .1 .0) (n .ensures) (t .if1 .taken) in
-    omega (arith, l .inv .counts)
+    let is = c .before .before .before .row .result .loaded in
+    record { fits = omega (arith, l .inv .counts, number-most is, number-most (not is)) }
 
-tally-requires-2 : tie.Need-tally-requires-2 Inv-loop μ-loop
-tally-requires-2 c κs =
-    let t = c .before .before .before .before .before .before .before in
+cast-refused : tie.Need-cast-refused Inv-loop μ-loop
+cast-refused c = search needs
+
+add-refused : tie.Need-add-refused Inv-loop μ-loop
+add-refused c =
+    let t = c .before .before .before .before .before .before in
     let d = t .before .before .before in
     let g = d .before .before .before in
     let a = g .before .before .before .before .args in
     let l = g .loop in
     let n = d .next in
     let e = turn-one (runStore (a .state) (now (a .piece)) (now (a .chunk))) (now (a .chunk)) (now (a .out)) (l .piece) (l .out) (l .held) (l .loaded) (l .refused) (l .wrote) (l .at) (d .before .before .loop-test .taken) (l .inv) (n .result) (n .last .1 .0) (n .ensures) (t .if1 .taken) in
-    omega (arith, l .inv .counts)
+    let is = c .before .before .before .row .result .loaded in
+    record { fits = omega (arith, l .inv .counts, number-most is, number-most (not is)) }
 
 loop-less : tie.Need-loop-less Inv-loop μ-loop
 loop-less c =
-    let t = c .before .before .before .before .before .before .before .before in
+    let t = c .before .before .before .before .before .before in
     let d = t .before .before .before in
     let g = d .before .before .before in
     let a = g .before .before .before .before .args in
@@ -92,18 +99,19 @@ loop-less c =
 
 loop-again : tie.Need-loop-again Inv-loop μ-loop
 loop-again c =
-    let t = c .before .before .before .before .before .before .before .before in
+    let t = c .before .before .before .before .before .before in
     let d = t .before .before .before in
     let g = d .before .before .before in
     let s = g .before .before .before .before in
     let a = s .args in
     let l = g .loop in
     let n = d .next in
-    let k = c .before .before .before .before .before .row in
+    let k = c .before .before .before .row in
     turn-close (runStore (a .state) (now (a .piece)) (now (a .chunk))) (now (a .chunk)) (now (a .out)) (l .piece) (l .out) (l .held) (l .loaded) (l .refused) (l .wrote) (l .at) (d .before .before .loop-test .taken) (l .inv) (n .result) (n .last .1 .0) (n .ensures)
-    (t .if1 .taken) (k .last .1 .1 .0) (c .before .before .or .result)
-    (closed-adds (now (a .tables)) (now (a .pst)) (s .pre .1) (s .pre .2) (l .loaded + l .refused + 1) (l .out) (k .last .1 .1 .0) (l .wrote) (pieceSays (n .last .1 .0)) (k .result) (k .ensures) (c .before .before .or .result) (c .before .before .or .ensures))
-    (k .result .loaded) (k .ensures .loaded) (c .before .tally .result) (c .tally2 .result) (c .before .tally .ensures) (c .tally2 .ensures)
+    (t .if1 .taken) (k .last .1 .1 .0) (c .or .result)
+    (closed-adds (now (a .tables)) (now (a .pst)) (s .pre .1) (s .pre .2) (l .loaded + l .refused + 1) (l .out) (k .last .1 .1 .0) (l .wrote) (pieceSays (n .last .1 .0)) (k .result) (k .ensures) (c .or .result) (c .or .ensures))
+    (k .result .loaded) (k .ensures .loaded) (l .loaded + boolByte (k .result .loaded)) (l .refused + boolByte (not (k .result .loaded)))
+    (tally-number (k .result .loaded) (l .loaded)) (tally-number (not (k .result .loaded)) (l .refused))
 
 loop-less-2 : tie.Need-loop-less-2 Inv-loop μ-loop
 loop-less-2 c =
@@ -152,8 +160,10 @@ take-spec =
     add-row-2
     row-requires
     or-requires
-    tally-requires
-    tally-requires-2
+    cast-loaded
+    add-loaded
+    cast-refused
+    add-refused
     loop-less
     loop-again
     loop-less-2

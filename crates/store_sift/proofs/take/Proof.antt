@@ -1,23 +1,20 @@
 -- `store_sift::take` meets its contract: the loop's invariant is `Turn`. Assumes nothing.
 use mathlib.Core.Path.{sym, _∙_}
-use Prim.Native.Nat.{ℕ, _-_}
+use Prim.Native.Nat.{_-_}
 use native.Mathlib.Omega.{arith}
 use lib.ListN.{length}
 use borrow.Author.Needs.{needs}
 use denote.Ref.{now}
-use Rattle.store_rows.specs.declared.StoreSoFar.{StoreSoFar}
+use Rattle.store_rows.proofs.Turn.{storeIn}
 use Rattle.sift_form.specs.Forms.{madeOf}
 use Rattle.store_sift.specs.Promises.{siftStore}
 use Rattle.store_sift.proofs.Turn.{Turn, turn-none, turn-less, turn-counts, turn-on, turn-close, turn-fits, turn-end}
 use Rattle.store_sift.proofs.take.Statement.{statement}
 use Rattle.store_sift.proofs.take.Tie as tie
 
-abbrev begun : ℕ → ℕ → ℕ → StoreSoFar
-begun held loaded refused = record { held = held; loaded = loaded; refused = refused }
-
 abbrev Inv-loop : tie.InvT-loop
 Inv-loop form piece₀ chunk made₀ rows₀ held₀ loaded₀ refused₀ made-end₀ rows-end₀ at₀ piece made rows held loaded refused made-end rows-end at =
-    Turn form (siftStore (madeOf form) (begun held₀ loaded₀ refused₀) piece₀ chunk) chunk made₀ rows₀ piece made rows held loaded refused made-end rows-end at
+    Turn form (siftStore (madeOf form) (storeIn held₀ loaded₀ refused₀) piece₀ chunk) chunk made₀ rows₀ piece made rows held loaded refused made-end rows-end at
 
 abbrev μ-loop : tie.MeasureT-loop
 μ-loop form piece₀ chunk made₀ rows₀ held₀ loaded₀ refused₀ made-end₀ rows-end₀ at₀ piece made rows held loaded refused made-end rows-end at =

@@ -20,6 +20,7 @@ function read_words(page,    row, cell, n) {
         if (n < 7 || cell[2] !~ /^ *[0-9]+ *$/) continue
         n = cell[2] + 0
         called[n] = trimmed(cell[3])
+        gsub(/ \(W-[0-9]+[^)]*\)/, "", cell[4]) # which request brought it is nothing to an editor
         why[n] = trimmed(cell[4])
         mend[n] = trimmed(cell[6])
     }

@@ -40,7 +40,8 @@ prove() {
 
 compile() { # SOURCE OBJECT
     cp "$1" "$scratch/module.bc"
-    "${RATTLE_HOME:-$work/kit}/on/$(uname -m)/toolchain/bin/clang" --target=x86_64 -x ir "$scratch/module.bc" -o "$scratch/module.o" && mkdir -p target/obj && cp "$scratch/module.o" "$2"
+    "${RATTLE_HOME:-$work/kit}/on/$(uname -m)/toolchain/bin/clang" --target=x86_64 -x ir "$scratch/module.bc" -o "$scratch/module.o" || return
+    mkdir -p target/obj && cp "$scratch/module.o" "$2"
 }
 
 case $1 in

@@ -5,7 +5,11 @@
 typedef unsigned long size;
 typedef long count;
 
+#if defined(__aarch64__)
+enum { READ = 63, WRITE = 64, CLOSE = 57 };
+#else
 enum { READ = 0, WRITE = 1, CLOSE = 3 };
+#endif
 enum { EINTR = 4, EIO = 5, ENOSPC = 28 };
 
 extern int *__errno_location(void);
@@ -13,8 +17,13 @@ extern char *getenv(const char *);
 
 static count asked(count call, count a, count b, count c)
 {
+#if defined(__aarch64__)
+    register count number __asm__("x8") = call, r __asm__("x0") = a, second __asm__("x1") = b, third __asm__("x2") = c;
+    __asm__ volatile("svc 0" : "+r"(r) : "r"(number), "r"(second), "r"(third) : "memory");
+#else
     count r;
     __asm__ volatile("syscall" : "=a"(r) : "a"(call), "D"(a), "S"(b), "d"(c) : "rcx", "r11", "memory");
+#endif
     if (r >= 0) return r;
     *__errno_location() = (int)-r;
     return -1;

@@ -2,9 +2,11 @@
 
 # As the toolchain's: a crate is proved by processes in the background, a program stands half written for a while, what was proved is not
 # proved again, nobody looks whether a program is still whole, and something lies in TMPDIR while it goes on. A source with BROKEN is not
-# proved. Each call is noted in $work/calls, each prover in $work/provers; two at once are a fault.
+# proved. Each call is noted in $work/calls, each prover in $work/provers; two at once are a fault. The machine is the one that $work/machine
+# names. A module is the program's text; an object, and what cc links of it, has one line more, which says what it is for.
 put_kit() {
-    mkdir -p "$work/kit/bin" "$work/kit/toolchain/lib" "$work/kit/on/aarch64/toolchain/bin"
+    tools=$work/kit/on/aarch64/toolchain/bin
+    mkdir -p "$work/kit/bin" "$work/kit/toolchain/lib" "$tools" "$work/kit/on/x86_64/toolchain/bin"
     echo 'kit 1' >"$work/kit/KIT-ID"
     {
         echo '#!/bin/sh'
@@ -36,6 +38,12 @@ prove() {
     fi
 }
 
+compile() { # SOURCE OBJECT
+    cp "$1" "$scratch/module.bc"
+    "${RATTLE_HOME:-$work/kit}/on/$(uname -m)/toolchain/bin/clang" --target=x86_64 -x ir "$scratch/module.bc" -o "$scratch/module.o" || return
+    mkdir -p target/obj && cp "$scratch/module.o" "$2"
+}
+
 case $1 in
 version) cat "$work/kit/KIT-ID" && exit ;;
 check) result=target/bin/$2 source=crates/$2/src/main.rt ;;
@@ -54,7 +62,7 @@ else
     head -n 1 "$source" >"$result"
     prove "$2"
     case $1 in
-    check) cp "$source" "$result" ;;
+    check) compile "$source" "target/obj/$2.o" && cp "$source" "$result" ;;
     staticlib) cp "$source" "$scratch/$2.o" && rm -f "$result" && ar rc "$result" "$scratch/$2.o" ;;
     esac
     echo "$stamp" >"target/stamp/$2"
@@ -65,11 +73,35 @@ echo "rt: ok, 2 crates proved"
 RT
     } >"$work/kit/bin/rt"
     printf '#!/bin/sh\nshift 2\nexec sh "$@"\n' >"$work/kit/toolchain/lib/ld-linux-x86-64.so.2"
-    printf '#!/bin/sh\necho emulated\nexec "$@"\n' >"$work/kit/on/aarch64/toolchain/bin/qemu-x86_64"
-    chmod +x "$work/kit/bin/rt" "$work/kit/toolchain/lib/ld-linux-x86-64.so.2" "$work/kit/on/aarch64/toolchain/bin/qemu-x86_64"
+    printf '#!/bin/sh\necho emulated\nexec "$@"\n' >"$tools/qemu-x86_64"
+    cat >"$tools/clang" <<'CLANG'
+#!/bin/sh
+for word in "$@"; do
+    case $word in
+    --target=*) machine=${word#--target=} ;;
+    *.bc) module=$word ;;
+    *.o) object=$word ;;
+    esac
+done
+{ cat "$module" && echo "# for ${machine%%-*}"; } >"$object"
+CLANG
+    cp "$tools/clang" "$work/kit/on/x86_64/toolchain/bin/clang"
+    cat >"$work/kit/bin/cc" <<'CC'
+#!/bin/sh
+while [ $# -gt 0 ]; do
+    case $1 in
+    -o) out=$2 && shift ;;
+    *.o) object=$1 ;;
+    esac
+    shift
+done
+{ echo '#!/bin/sh' && cat "$object"; } >"$out" && chmod +x "$out"
+CC
+    printf '#!/bin/sh\ncat "%s"\n' "$work/machine" >"$work/kit/bin/uname"
+    chmod +x "$work/kit/bin"/* "$tools"/* "$work/kit/on/x86_64/toolchain/bin/clang" "$work/kit/toolchain/lib/ld-linux-x86-64.so.2"
 }
 
-# The scripts as they are, over five small crates, in a folder with a space in its name.
+# The scripts as they are, over five small crates, in a folder with a space in its name, on the machine that `machine` names.
 put_tree() {
     rm -rf "$tree" "$work/calls" "$work/provers" "$work/busy" "$work/faults"
     for crate in base other ledger abi abi_more; do mkdir -p "$tree/crates/$crate/src"; done
@@ -80,6 +112,7 @@ put_tree() {
     cp -R "$here/../bin" "$here/../include" "$tree/"
     rm -rf "$tree/include/target"
     program 'echo rows && echo whole >&3'
+    echo "${machine:-x86_64}" >"$work/machine"
     echo 0.1 >"$work/seconds"
     : >"$work/calls"
     : >"$work/provers"

@@ -1,19 +1,10 @@
-# Builds by content what the toolchain proves, and keeps it: for bin/run and include/archive, which set `name`, who speaks, and `root`.
+# Builds by content what the toolchain proves, and keeps it: for bin/run, bin/fit and include/archive, which set `name`, who speaks, and `root`.
 #
 # What was built stands in target/built, beside a stamp of two lines: the checksum of all that it is made of, and its own. What has another
 # content than its stamp says, or was made of another content than there is now, is not used and is built again. All is POSIX sh, with
 # sha256sum, readlink and mktemp (coreutils), and flock, setsid and setpriv (util-linux).
 room='' building=no
-
-# Standard error may be gone, at the start or in the middle: that changes nothing.
-(: >&2) || exec 2>/dev/null
-
-say() { (trap '' PIPE && echo "$name: $*" >&2) || :; }
-
-fail() {
-    say "$*"
-    exit 1
-}
+. "$root/bin/lib/say.sh"
 
 # ---- the toolchain
 find_kit() {
@@ -22,6 +13,7 @@ find_kit() {
     done
     rt=$(command -v rt) || fail "the Rattle toolchain's command rt is not on the PATH"
     kit=${RATTLE_HOME:-$(dirname "$(dirname "$(readlink -f "$rt")")")}
+    machine=$(uname -m)
 }
 
 # ---- what a crate is made of
@@ -52,14 +44,16 @@ sources_of() { # CRATE..
     [ $# -eq 0 ] || find -L "$@" -type f -exec sha256sum {} + | LC_ALL=C sort
 }
 
-made_of() { # CRATE: one checksum of the toolchain's id, the lines of crates.txt and the sources
+made_of() { # CRATE: one checksum of the toolchain's id, the lines of crates.txt, the sources, and the files that `beside` names
     lines=$(crates_of "$1")
     {
         "$rt" version
-        uname -m
+        echo "$machine"
         printf '%s\n' "$lines"
         # shellcheck disable=SC2046
         (sources_of $(printf '%s\n' "$lines" | cut -d: -f1))
+        # shellcheck disable=SC2086
+        [ -z "${beside:-}" ] || (cd "$root" && sha256sum $beside)
     } | sha256sum
 }
 
@@ -72,8 +66,9 @@ up_to_date() { # FILE MADE-OF
     [ -f "$1" ] && [ -f "$1.stamp" ] && [ "$(cat "$1.stamp")" = "$(stamp_for "$1" "$2")" ]
 }
 
+# A new file has the program's mode, which one that stands there would not take over.
 keep() { # RESULT FILE MADE-OF: the result takes the file's place whole, and its stamp after it
-    cp "$1" "$2.new" && stamp_for "$2.new" "$3" >"$2.stamp.new" && mv -f "$2.new" "$2" && mv -f "$2.stamp.new" "$2.stamp"
+    rm -f "$2.new" && cp "$1" "$2.new" && stamp_for "$2.new" "$3" >"$2.stamp.new" && mv -f "$2.new" "$2" && mv -f "$2.stamp.new" "$2.stamp"
 }
 
 # ---- one build at a time
@@ -154,7 +149,7 @@ prove() { # CRATE COMMAND..
 
 # Without its stamp, `rt` links a program anew: it does not look whether the one that stands there is whole.
 forget() { # CRATE RESULT
-    case $2 in bin/*) rm -f "$root/target/stamp/$1" ;; esac
+    case $2 in bin/* | native/*) rm -f "$root/target/stamp/$1" ;; esac
     rm -f "$root/target/$2"
 }
 

@@ -79,7 +79,7 @@ module _ (number refusal : ℕ) (piece summary : List ℕ) where
           go (refused k v) x p = given-not p
 
 -- a summary stays one, whatever the piece says
-still-770 : (number refusal : ℕ) (piece summary : List ℕ) → length summary ≡ 770 → length (countPiece (gathered summary number refusal) piece .summary) ≡ 770
+pub still-770 : (number refusal : ℕ) (piece summary : List ℕ) → length summary ≡ 770 → length (countPiece (gathered summary number refusal) piece .summary) ≡ 770
 still-770 number refusal piece summary n = go (eqb number 0) (ltb (recordsIn summary) 10000000) (pieceSays piece)
   where
     sizes : (t : Bool) → length (cond t (summaryMore summary piece) summary) ≡ 770

@@ -77,23 +77,23 @@ less-brought bytes p = go (eqb p 0) (eqb p 1) (eqb (codeIn bytes (countedSquare 
     go false false false = refl
 
 -- ---- what every call keeps
-pub record Kept (run summary : List ℕ) : Type 0 where
+pub record KeptAfresh (run summary : List ℕ) : Type 0 where
   pub n : ℕ
   pub is : summary ≡ summaryAfresh run n
   pub few : n ≤ 10000000
   pub fits : 34 * n ≤ length run
   pub halves : (i : ℕ) → i < n → halfIn (recordAt run i) ≤ 2
 
-pub kept-none : (run : List ℕ) → Kept run emptySummary
+pub kept-none : (run : List ℕ) → KeptAfresh run emptySummary
 unfolding summaryAfresh tabulate sumN
 kept-none run = record { n = 0; is = refl; few = omega arith; fits = omega arith; halves = λ i h. absurd (omega arith) }
 
 small : (n : ℕ) (run : List ℕ) → n ≤ 10000000 → ((i : ℕ) → i < n → halfIn (recordAt run i) ≤ 2) → (p : ℕ) → sumN n (at run p) < 2 ^ 64
 small n run few halves p = let s : sumN n (at run p) ≤ 2 * n = sum-le n 2 (at run p) (λ i h. brings-2 (recordAt run i) p (halves i h)) in omega arith
 
-module _ (run summary : List ℕ) (k : Kept run summary) (bytes : List ℕ) (size : length bytes ≡ 34) (half : halfIn bytes ≤ 2) where
+module _ (run summary : List ℕ) (k : KeptAfresh run summary) (bytes : List ℕ) (size : length bytes ≡ 34) (half : halfIn bytes ≤ 2) where
   -- a record more
-  pub kept-added : k .n < 10000000 → k .n < length run / 34 → Kept (withRecord run (k .n) bytes) (summaryMore summary bytes)
+  pub kept-added : k .n < 10000000 → k .n < length run / 34 → KeptAfresh (withRecord run (k .n) bytes) (summaryMore summary bytes)
   unfolding summaryMoved summaryAfresh
   kept-added few room = record {
     n = k .n + 1;
@@ -129,7 +129,7 @@ module _ (run summary : List ℕ) (k : Kept run summary) (bytes : List ℕ) (siz
       there = tabulate-same 770 (λ p. (getD summary p 0 + movedBy 1 (halfIn bytes) bytes p) % 2 ^ 64) (λ p. sumN (k .n + 1) (at (withRecord run (k .n) bytes) p)) place
 
   -- another record
-  pub kept-replaced : (number : ℕ) → number < k .n → Kept (withRecord run number bytes) (summaryMore (summaryLess summary (recordAt run number)) bytes)
+  pub kept-replaced : (number : ℕ) → number < k .n → KeptAfresh (withRecord run number bytes) (summaryMore (summaryLess summary (recordAt run number)) bytes)
   unfolding summaryMoved summaryAfresh
   kept-replaced number l = record {
     n = k .n;

@@ -23,14 +23,14 @@ use Rattle.store_record.proofs.Records.{record-34, record-half}
 use Rattle.store_counts.specs.Summary.{countPlace, countedCode, countedSquare, recordBrings, summaryAfresh, summaryMore, summaryLess}
 use Rattle.store_summary.specs.Promises.{Store, recordsIn, withRecord, ifGiven, blank, withNew, addNew, addOf, replaceOld, replaceOf, KeepsStore}
 use Rattle.store_totals.specs.Totals.{SummaryCall, adding, replacing, Calls, emptySummary, piecesIn, FromEmpty}
-use Rattle.store_totals.proofs.Kept.{Kept, at, summary-at, records-are, kept-none, kept-added, kept-replaced}
+use Rattle.store_totals.proofs.Kept.{KeptAfresh, at, summary-at, records-are, kept-none, kept-added, kept-replaced}
 
 -- ---- a call
 -- what a call leaves, where what it gives keeps what it was given
 keep-call : (a : Answer Store) (b : Store) (r : Stored) (run′ summary′ : List ℕ) → KeepsStore a b r run′ summary′
-    → Kept (b .run) (b .summary) → ((c : Store) → a ≡ given c → Kept (c .run) (c .summary)) → Kept run′ summary′
-keep-call (given c) b r run′ summary′ q k f = subst₂ Kept (sym (q .run)) (sym (q .summary)) (f c refl)
-keep-call (refused n v) b r run′ summary′ q k f = subst₂ Kept (sym (q .run)) (sym (q .summary)) k
+    → KeptAfresh (b .run) (b .summary) → ((c : Store) → a ≡ given c → KeptAfresh (c .run) (c .summary)) → KeptAfresh run′ summary′
+keep-call (given c) b r run′ summary′ q k f = subst₂ KeptAfresh (sym (q .run)) (sym (q .summary)) (f c refl)
+keep-call (refused n v) b r run′ summary′ q k f = subst₂ KeptAfresh (sym (q .run)) (sym (q .summary)) k
 
 -- what came after was given, so what came before was
 went-on : {A B : Type 0} (a : Answer A) (rest : A → Answer B) (b : B) → ifGiven a rest ≡ given b → (x : A) × (rest x ≡ given b) × (a ≡ given x)
@@ -52,7 +52,7 @@ module _ (bbs board : List ℕ) (state : State) (half : ℕ) where
       let g : halfIn bytes ≡ half = sym (ap halfIn same) ∙ record-half l in
       (sym (ap length same) ∙ record-34 l, omega arith)
 
-  module _ (run summary : List ℕ) (k : Kept run summary) where
+  module _ (run summary : List ℕ) (k : KeptAfresh run summary) where
     abbrev b : Store
     b = record { run = run; summary = summary }
 
@@ -65,7 +65,7 @@ module _ (bbs board : List ℕ) (state : State) (half : ℕ) where
         let p = passed (eqb (length summary) 770) R.Shape c (ifGiven (storeOf bbs board state half blank) rest) e in
         went-on (storeOf bbs board state half blank) rest c (p .1)
 
-    after-add : (c : Store) → addOf bbs board state half b ≡ given c → Kept (c .run) (c .summary)
+    after-add : (c : Store) → addOf bbs board state half b ≡ given c → KeptAfresh (c .run) (c .summary)
     unfolding addOf
     after-add c e =
         let n = new c (addNew b) e in
@@ -81,11 +81,11 @@ module _ (bbs board : List ℕ) (state : State) (half : ℕ) where
         let m = ltb-true (recordsIn summary) 10000000 (q .0) in
         let f = ltb-true (recordsIn summary) (length run / 34) (r .0) in
         let i = counted in
-        subst (λ (o : Store). Kept (o .run) (o .summary)) same
-        (subst (λ (j : ℕ). Kept (withRecord run j bytes) (summaryMore summary bytes)) (sym i)
+        subst (λ (o : Store). KeptAfresh (o .run) (o .summary)) same
+        (subst (λ (j : ℕ). KeptAfresh (withRecord run j bytes) (summaryMore summary bytes)) (sym i)
         (kept-added run summary k bytes (w .0) (w .1) (omega arith) (omega arith)))
 
-    after-replace : (number : ℕ) (c : Store) → replaceOf bbs board state half number b ≡ given c → Kept (c .run) (c .summary)
+    after-replace : (number : ℕ) (c : Store) → replaceOf bbs board state half number b ≡ given c → KeptAfresh (c .run) (c .summary)
     unfolding replaceOf
     after-replace number c e =
         let n = new c (replaceOld number b) e in
@@ -98,12 +98,12 @@ module _ (bbs board : List ℕ) (state : State) (half : ℕ) where
         let same : x ≡ c = cc (r .1) in
         let f = ltb-true number (recordsIn summary) (r .0) in
         let i = counted in
-        subst (λ (o : Store). Kept (o .run) (o .summary)) same (kept-replaced run summary k bytes (w .0) (w .1) number (omega arith))
+        subst (λ (o : Store). KeptAfresh (o .run) (o .summary)) same (kept-replaced run summary k bytes (w .0) (w .1) number (omega arith))
 
 -- ---- all calls
-all : (run summary : List ℕ) (calls : List SummaryCall) (last lastSummary : List ℕ) → Kept run summary → Calls run summary calls last lastSummary → Kept last lastSummary
+all : (run summary : List ℕ) (calls : List SummaryCall) (last lastSummary : List ℕ) → KeptAfresh run summary → Calls run summary calls last lastSummary → KeptAfresh last lastSummary
 unfolding Calls
-all run summary [] last lastSummary k m = subst₂ Kept (m .0) (m .1) k
+all run summary [] last lastSummary k m = subst₂ KeptAfresh (m .0) (m .1) k
 all run summary (adding bbs board state half r run′ summary′ ∷ cs) last lastSummary k m =
     all run′ summary′ cs last lastSummary
     (keep-call (addOf bbs board state half (record { run = run; summary = summary })) (record { run = run; summary = summary }) r run′ summary′ (m .0) k

@@ -120,7 +120,7 @@ fold-count k (p ∷ ps) =
     fold-count (rowPiece k p) ps ∙ (let both = tally-both (isLoaded (pieceSays p)) (k .loaded) (k .refused) in omega arith)
 
 -- ---- a short piece is refused as LENGTH
-short-piece : (piece : List ℕ) (held : ℕ) → held < 34 → pieceSays (take held piece) ≡ refusalOf R.Length
+pub short-piece : (piece : List ℕ) (held : ℕ) → held < 34 → pieceSays (take held piece) ≡ refusalOf R.Length
 unfolding pieceSays
 short-piece piece held h =
     ap (λ (t : Bool). orRefuse t R.Length (recordSays (take held piece))) (ne-eqb (length (take held piece)) 34 (λ e. let n = length-take held piece in omega arith))

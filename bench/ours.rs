@@ -1,6 +1,6 @@
 // The library's doors, by the declarations of its Rust face, with no more around them than the original's functions have.
 use crate::chess_scores::doors::*;
-use crate::chess_scores::{Code, ORDER};
+use crate::chess_scores::{Code, Mode, State, ORDER};
 use crate::color::WHITE;
 use crate::game::Game;
 use crate::tune;
@@ -34,24 +34,24 @@ fn answer(code: Code, given: i64) -> i64 {
 // Of each call: the pointers are those of the position's arrays, of slices and of locals, with their lengths.
 pub fn eval(game: &Game) -> i64 {
     let (mut verdict, mut score) = (0, 0);
-    let code = unsafe { chess_eval(game.bitboards.as_ptr(), 14, game.board.as_ptr(), 64, game.side(), &mut verdict, &mut score) };
+    let code = unsafe { chess_eval(game.bitboards.as_ptr(), 14, game.board.as_ptr(), 64, State::of_side(game.side()), &mut verdict, &mut score) };
     let inf = crate::common::INF as i64;
     answer(code, [score as i64, -inf, inf, 0][verdict as usize])
 }
 
 pub fn eval_material(game: &Game) -> i64 {
     let mut material = 0;
-    answer(unsafe { chess_eval_material(game.bitboards.as_ptr(), 14, game.board.as_ptr(), 64, WHITE, game.side(), &mut material) }, material as i64)
+    answer(unsafe { chess_eval_material(game.bitboards.as_ptr(), 14, game.board.as_ptr(), 64, State::of_side(WHITE), game.side(), &mut material) }, material as i64)
 }
 
 pub fn is_check(game: &Game) -> i64 {
     let mut check = false;
-    answer(unsafe { chess_is_check(game.bitboards.as_ptr(), 14, game.board.as_ptr(), 64, WHITE, game.side(), &mut check) }, check as i64)
+    answer(unsafe { chess_is_check(game.bitboards.as_ptr(), 14, game.board.as_ptr(), 64, State::of_side(WHITE), game.side(), &mut check) }, check as i64)
 }
 
 pub fn see(game: &Game, from: u8, to: u8) -> i64 {
     let mut worth = 0;
-    answer(unsafe { chess_see(game.bitboards.as_ptr(), 14, game.board.as_ptr(), 64, game.side(), ORDER.as_ptr(), from, to, &mut worth) }, worth as i64)
+    answer(unsafe { chess_see(game.bitboards.as_ptr(), 14, game.board.as_ptr(), 64, State::of_side(game.side()), Mode::First as u8, ORDER.as_ptr(), from, to, &mut worth) }, worth as i64)
 }
 
 pub fn piece_attacks(piece: u8, square: u8, occupied: u64) -> u64 {
@@ -63,7 +63,7 @@ pub fn piece_attacks(piece: u8, square: u8, occupied: u64) -> u64 {
 
 pub fn compute_trace(game: &Game, counts: &mut Counts, entries: &mut [i32]) -> Code {
     unsafe {
-        chess_compute_trace(game.bitboards.as_ptr(), 14, game.board.as_ptr(), 64, game.side(), counts.counts.as_mut_ptr(), counts.mobility.as_mut_ptr(),
+        chess_compute_trace(game.bitboards.as_ptr(), 14, game.board.as_ptr(), 64, State::of_side(game.side()), counts.counts.as_mut_ptr(), counts.mobility.as_mut_ptr(),
             &mut counts.sign, &mut counts.pieces, entries.as_mut_ptr(), entries.len())
     }
 }
@@ -104,7 +104,7 @@ impl List {
 
 pub fn compute_list(game: &Game, counts: &mut Counts, list: &mut List) {
     let code = unsafe {
-        chess_compute_list(game.bitboards.as_ptr(), 14, game.board.as_ptr(), 64, game.side(), counts.counts.as_mut_ptr(), counts.mobility.as_mut_ptr(),
+        chess_compute_list(game.bitboards.as_ptr(), 14, game.board.as_ptr(), 64, State::of_side(game.side()), counts.counts.as_mut_ptr(), counts.mobility.as_mut_ptr(),
             &mut counts.sign, &mut counts.pieces, &mut list.used, list.entries.as_mut_ptr())
     };
     assert!(code.number == 0, "a position is refused");

@@ -1,23 +1,25 @@
 // A store beside the same collection as text: the same positions, read record by record and line by line through the doors.
 use crate::chess_scores::doors::{chess_read_line, chess_read_record, chess_write_record};
+use crate::chess_scores::Line;
 use crate::processor::seconds;
 use std::hint::black_box;
 
 const RECORD: usize = 34;
 
-/// The number of a refusal, or 0, of one line read; the position is written over what was there.
-fn read_line(line: &[u8], bitboards: &mut [u64; 14], board: &mut [u8; 64], side: &mut u8, half: &mut u8) -> u8 {
-    unsafe { chess_read_line(line.as_ptr(), line.len(), bitboards.as_mut_ptr(), 14, board.as_mut_ptr(), 64, side, half) }.number
+/// What one line says; the position is written over what was there.
+fn read_line(line: &[u8], bitboards: &mut [u64; 14], board: &mut [u8; 64]) -> Line {
+    unsafe { chess_read_line(line.as_ptr(), line.len(), bitboards.as_mut_ptr(), 14, board.as_mut_ptr(), 64) }
 }
 
 /// The store of the lines that are loaded, and those lines.
 fn packed(input: &[u8]) -> (Vec<u8>, Vec<&[u8]>) {
     let (mut store, mut loaded) = (Vec::new(), Vec::new());
-    let (mut bitboards, mut board, mut side, mut half) = ([0u64; 14], [0u8; 64], 0u8, 0u8);
+    let (mut bitboards, mut board) = ([0u64; 14], [0u8; 64]);
     for line in input.split(|&byte| byte == b'\n') {
-        if read_line(line, &mut bitboards, &mut board, &mut side, &mut half) == 0 {
+        let said = read_line(line, &mut bitboards, &mut board);
+        if said.code.number == 0 {
             let mut place = [0u8; RECORD];
-            let code = unsafe { chess_write_record(bitboards.as_ptr(), 14, board.as_ptr(), 64, side, half, place.as_mut_ptr(), RECORD) };
+            let code = unsafe { chess_write_record(bitboards.as_ptr(), 14, board.as_ptr(), 64, said.state, said.half_points, place.as_mut_ptr(), RECORD) };
             assert_eq!(code.number, 0);
             store.extend_from_slice(&place);
             loaded.push(line);
@@ -30,20 +32,20 @@ fn packed(input: &[u8]) -> (Vec<u8>, Vec<&[u8]>) {
 pub fn table(input: &[u8], rounds: usize) {
     let (store, loaded) = packed(input);
     let (mut best_record, mut best_line) = (f64::MAX, f64::MAX);
-    let (mut bitboards, mut board, mut side, mut half) = ([0u64; 14], [0u8; 64], 0u8, 0u8);
+    let (mut bitboards, mut board) = ([0u64; 14], [0u8; 64]);
     for _ in 0..rounds {
         let mut points = [0u64; 2];
         best_record = best_record.min(seconds(|| {
             for number in 0..loaded.len() as u64 {
                 let run = black_box(&store);
-                unsafe { chess_read_record(run.as_ptr(), run.len(), number, bitboards.as_mut_ptr(), 14, board.as_mut_ptr(), 64, &mut side, &mut half) };
-                points[0] += black_box(half) as u64;
+                let said = unsafe { chess_read_record(run.as_ptr(), run.len(), number, bitboards.as_mut_ptr(), 14, board.as_mut_ptr(), 64) };
+                points[0] += black_box(said.half_points) as u64;
             }
         }));
         best_line = best_line.min(seconds(|| {
             for line in black_box(&loaded) {
-                read_line(line, &mut bitboards, &mut board, &mut side, &mut half);
-                points[1] += black_box(half) as u64;
+                let said = read_line(line, &mut bitboards, &mut board);
+                points[1] += black_box(said.half_points) as u64;
             }
         }));
         assert_eq!(points[0], points[1], "the store has other results than the lines");

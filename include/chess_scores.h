@@ -1,13 +1,13 @@
 /* Chess scores, exchanges and traces, every one proved: the doors for C.
  *
  * Every function but chess_position_field and chess_expected returns the number 0 where it has an answer, and the answer's numbers then stand where the last
- * pointers point; or it returns a refusal, the first in the order that is named with the function, and has written nothing.
+ * pointers point, or beside that 0 (chess_line); or it returns a refusal, the first in the order that is named with the function, and has written nothing.
  *
  * A slice is a pointer and a length. A length that is not the one asked for is refused (SHAPE); what C must see to itself is that the
  * pointers are valid for their lengths, that no pointer is null, not even that of an empty slice, that those written through overlap
  * nothing else that the call is handed, and that a bool is 0 or 1.
  *
- * A position is 14 bitboards, 64 board bytes and a side. Bitboard c, from 2 to 13, has the squares of the pieces of code c (pawn 2,
+ * A position is 14 bitboards, 64 board bytes and a state. Bitboard c, from 2 to 13, has the squares of the pieces of code c (pawn 2,
  * knight 4, king 6, bishop 8, rook 10, queen 12, one more for Black); bitboards 0 and 1 have all of White's and all of Black's. Bit s
  * is square s, a1 = 0, b1 = 1, h8 = 63. Board byte s is the code of the piece on s, or 0. chess_read_line makes one. */
 #ifndef CHESS_SCORES_H
@@ -33,8 +33,7 @@ typedef struct {
 
 enum { CHESS_NO_SQUARE = 255 };
 
-/* Refusals. 2 was CHESS_BOARD: 14 to 16 come where it came, with a square, and nothing has its number again.
- * RIGHTS, PASSANT and COUNTER are not given yet. */
+/* Refusals. 2 was CHESS_BOARD: 14 to 16 come where it came, with a square, and nothing has its number again. */
 enum {
     CHESS_SHAPE = 1,      /* a length, a side, a colour or a piece code that none has */
     CHESS_SCORE = 3,      /* a number leaves 16 bits on the way to the score */
@@ -69,6 +68,23 @@ enum {
     CHESS_ABSENT = 32     /* no such record */
 };
 
+/* What a position says beside its pieces: the side to move, a right to castle for each rook (K, Q, k and q in a line), the square that a pawn has just passed,
+ * or CHESS_NO_SQUARE, and the counters, half moves 0 to 9999 and moves 1 to 9999. A right needs its king and rook at home (RIGHTS); the square is empty, on
+ * rank 6 with White to move and a black pawn just below it, or on rank 3 with Black to move and a white pawn just above (PASSANT). Where only the side is
+ * given it is CHESS_OF_SIDE(side): no rights, no square, 0 and 1. */
+typedef struct {
+    uint8_t side;
+    bool white_short;
+    bool white_long;
+    bool black_short;
+    bool black_long;
+    uint8_t passant;
+    uint16_t halfmoves;
+    uint16_t moves;
+} chess_state;
+
+#define CHESS_OF_SIDE(side) { (side), false, false, false, false, CHESS_NO_SQUARE, 0, 1 }
+
 /* Verdicts. */
 enum { CHESS_NONE = 0, CHESS_LOST = 1, CHESS_WON = 2, CHESS_DRAWN = 3 };
 
@@ -78,29 +94,36 @@ typedef struct {
     size_t length;
 } chess_part;
 
+/* What a reader says beside the boards: 0, the state and the half points for White; or a refusal, and a state and half points that say nothing. */
+typedef struct {
+    chess_code code;
+    chess_state state;
+    uint8_t half_points;
+} chess_line;
+
 /* ---- lines */
 
-/* Reads one line of a collection, `POSITION;RESULT`, without its LF and the CR before that: 14 bitboards, 64 bytes, the side to move
- * and the half points for White (1-0 is 2, 1/2-1/2 is 1, 0-1 is 0). SHAPE, LONG, BYTE, FIELD, PLACE, SIDE, RESULT. */
-chess_code chess_read_line(const uint8_t *line, size_t line_length, uint64_t *bitboards, size_t bitboards_length, uint8_t *board,
-                           size_t board_length, uint8_t *side, uint8_t *half_points);
+/* Reads one line of a collection, `POSITION;RESULT`, two, four or six fields before the `;`, without its LF and the CR before that: 14 bitboards, 64 bytes, the state
+ * and the half points for White (1-0 is 2, 1/2-1/2 is 1, 0-1 is 0). SHAPE, LONG, BYTE, FIELD, PLACE, SIDE, RIGHTS, PASSANT, COUNTER, RESULT. */
+chess_line chess_read_line(const uint8_t *line, size_t line_length, uint64_t *bitboards, size_t bitboards_length, uint8_t *board,
+                           size_t board_length);
 
 /* The same of a line whose position may come from real play: one king a colour, at most eight pawns and sixteen pieces a colour, king and
- * pawns counted, no pawn on the first or last rank, and the side that just moved not in check. SHAPE, LONG, BYTE, FIELD, PLACE, SIDE, RESULT, KINGS, PAWNS,
+ * pawns counted, no pawn on the first or last rank, and the side that just moved not in check. SHAPE, LONG, BYTE, FIELD, PLACE, SIDE, RIGHTS, PASSANT, COUNTER, RESULT, KINGS, PAWNS,
  * PIECES, RANK, CHECK. */
-chess_code chess_read_profile(const uint8_t *line, size_t line_length, uint64_t *bitboards, size_t bitboards_length, uint8_t *board,
-                              size_t board_length, uint8_t *side, uint8_t *half_points);
+chess_line chess_read_profile(const uint8_t *line, size_t line_length, uint64_t *bitboards, size_t bitboards_length, uint8_t *board,
+                              size_t board_length);
 
 /* Where the trimmed position field stands in the line; of length 0, and at 0, exactly if the line is refused. */
 chess_part chess_position_field(const uint8_t *line, size_t line_length);
 
-/* Whether a position may come from real play, by the same rules: 0 if it may. SHAPE, OVERLAP, UNION, BYTEBOARD, KINGS, PAWNS, PIECES, RANK, CHECK. */
-chess_code chess_profile(const uint64_t *bitboards, size_t bitboards_length, const uint8_t *board, size_t board_length, uint8_t side);
+/* Whether a position may come from real play, by the same rules: 0 if it may. SHAPE, OVERLAP, UNION, BYTEBOARD, RIGHTS, PASSANT, COUNTER, KINGS, PAWNS, PIECES, RANK, CHECK. */
+chess_code chess_profile(const uint64_t *bitboards, size_t bitboards_length, const uint8_t *board, size_t board_length, chess_state state);
 
 /* The text of a position at the front of `out`, with `;` and the result of the half points where `request` is not 0, and how many bytes that is; the bytes
- * after it stay, and neither LF nor NUL is written. 73 bytes hold every position, 81 every line. Where no result is requested the half points are not looked
- * at. SHAPE, OVERLAP, UNION, BYTEBOARD, RESULT, ROOM. */
-chess_code chess_write_line(const uint64_t *bitboards, size_t bitboards_length, const uint8_t *board, size_t board_length, uint8_t side,
+ * after it stay, and neither LF nor NUL is written. 91 bytes hold every position, 99 every line. Where no result is requested the half points are not looked
+ * at. SHAPE, OVERLAP, UNION, BYTEBOARD, RIGHTS, PASSANT, COUNTER, RESULT, ROOM. */
+chess_code chess_write_line(const uint64_t *bitboards, size_t bitboards_length, const uint8_t *board, size_t board_length, chess_state state,
                             uint8_t request, uint8_t half_points, uint8_t *out, size_t out_length, size_t *length);
 
 /* ---- records: a store is records of 34 bytes, one after another: 32 bytes of two squares each from a1, the lower square in the low half, then
@@ -108,13 +131,13 @@ chess_code chess_write_line(const uint64_t *bitboards, size_t bitboards_length, 
 
 enum { CHESS_RECORD = 34 };
 
-/* Reads the record of a number, from 0, in a run of records: 14 bitboards, 64 bytes, the side to move and the half points. SHAPE, LENGTH (the
+/* Reads the record of a number, from 0, in a run of records: 14 bitboards, 64 bytes, the state, which has a side alone, and the half points. SHAPE, LENGTH (the
  * run is no multiple of 34 bytes), ABSENT, CODE with the lowest square whose half byte is 1, 14 or 15, SIDE, RESULT. */
-chess_code chess_read_record(const uint8_t *run, size_t run_length, uint64_t number, uint64_t *bitboards, size_t bitboards_length,
-                             uint8_t *board, size_t board_length, uint8_t *side, uint8_t *half_points);
+chess_line chess_read_record(const uint8_t *run, size_t run_length, uint64_t number, uint64_t *bitboards, size_t bitboards_length,
+                             uint8_t *board, size_t board_length);
 
-/* Writes the record of a position and its half points into a place of CHESS_RECORD bytes. SHAPE, OVERLAP, UNION, BYTEBOARD, RESULT, LENGTH. */
-chess_code chess_write_record(const uint64_t *bitboards, size_t bitboards_length, const uint8_t *board, size_t board_length, uint8_t side,
+/* Writes the record of a position and its half points into a place of CHESS_RECORD bytes. SHAPE, OVERLAP, UNION, BYTEBOARD, RIGHTS, PASSANT, COUNTER, RESULT, LENGTH. */
+chess_code chess_write_record(const uint64_t *bitboards, size_t bitboards_length, const uint8_t *board, size_t board_length, chess_state state,
                               uint8_t half_points, uint8_t *place, size_t place_length);
 
 /* ---- totals beside a store: CHESS_SUMMARY numbers. The records, the half points, and then 64 for each piece in the order of the codes: how
@@ -122,30 +145,30 @@ chess_code chess_write_record(const uint64_t *bitboards, size_t bitboards_length
 
 enum { CHESS_SUMMARY = 770 };
 
-/* Writes the record of a position and its half points at the number that the summary counts to, and counts it. SHAPE, OVERLAP, UNION, BYTEBOARD,
+/* Writes the record of a position and its half points at the number that the summary counts to, and counts it. SHAPE, OVERLAP, UNION, BYTEBOARD, RIGHTS, PASSANT, COUNTER,
  * RESULT, LENGTH (the run is no multiple of 34 bytes), MANY (past the 10,000,000th), ROOM (the run has no place for it). */
-chess_code chess_add_record(const uint64_t *bitboards, size_t bitboards_length, const uint8_t *board, size_t board_length, uint8_t side,
+chess_code chess_add_record(const uint64_t *bitboards, size_t bitboards_length, const uint8_t *board, size_t board_length, chess_state state,
                             uint8_t half_points, uint8_t *run, size_t run_length, uint64_t *summary, size_t summary_length);
 
-/* Takes the record of a number off the summary and puts another in its place. SHAPE, OVERLAP, UNION, BYTEBOARD, RESULT, LENGTH, ABSENT (of the
+/* Takes the record of a number off the summary and puts another in its place. SHAPE, OVERLAP, UNION, BYTEBOARD, RIGHTS, PASSANT, COUNTER, RESULT, LENGTH, ABSENT (of the
  * run), CODE, SIDE, RESULT (of the old record), ABSENT (the summary counts to the number or less). */
-chess_code chess_replace_record(const uint64_t *bitboards, size_t bitboards_length, const uint8_t *board, size_t board_length, uint8_t side,
+chess_code chess_replace_record(const uint64_t *bitboards, size_t bitboards_length, const uint8_t *board, size_t board_length, chess_state state,
                                 uint8_t half_points, uint64_t number, uint8_t *run, size_t run_length, uint64_t *summary,
                                 size_t summary_length);
 
 /* ---- scores: of a position for the side to move */
 
 /* The verdict: fewer than two kings in all is lost or won; fewer than four pieces and only kings, knights and bishops is drawn; else
- * none. SHAPE, OVERLAP, UNION, BYTEBOARD. */
-chess_code chess_eval_ending(const uint64_t *bitboards, size_t bitboards_length, const uint8_t *board, size_t board_length, uint8_t side,
+ * none. SHAPE, OVERLAP, UNION, BYTEBOARD, RIGHTS, PASSANT, COUNTER. */
+chess_code chess_eval_ending(const uint64_t *bitboards, size_t bitboards_length, const uint8_t *board, size_t board_length, chess_state state,
                              uint8_t *verdict);
 
-/* What a colour's pieces are worth, without the pair of bishops. SHAPE (the colour too), OVERLAP, UNION, BYTEBOARD, SCORE. */
-chess_code chess_eval_material(const uint64_t *bitboards, size_t bitboards_length, const uint8_t *board, size_t board_length, uint8_t side,
+/* What a colour's pieces are worth, without the pair of bishops. SHAPE (the colour too), OVERLAP, UNION, BYTEBOARD, RIGHTS, PASSANT, COUNTER, SCORE. */
+chess_code chess_eval_material(const uint64_t *bitboards, size_t bitboards_length, const uint8_t *board, size_t board_length, chess_state state,
                                uint8_t color, int16_t *material);
 
-/* A verdict, and 0 for the score; or CHESS_NONE, and the score. SHAPE, OVERLAP, UNION, BYTEBOARD, SCORE. */
-chess_code chess_eval(const uint64_t *bitboards, size_t bitboards_length, const uint8_t *board, size_t board_length, uint8_t side,
+/* A verdict, and 0 for the score; or CHESS_NONE, and the score. SHAPE, OVERLAP, UNION, BYTEBOARD, RIGHTS, PASSANT, COUNTER, SCORE. */
+chess_code chess_eval(const uint64_t *bitboards, size_t bitboards_length, const uint8_t *board, size_t board_length, chess_state state,
                       uint8_t *verdict, int16_t *score);
 
 /* ---- attacks */
@@ -154,16 +177,16 @@ chess_code chess_eval(const uint64_t *bitboards, size_t bitboards_length, const 
  * SHAPE (the code), SQUARE. */
 chess_code chess_piece_attacks(uint8_t piece, uint8_t square, uint64_t occupied, uint64_t *squares);
 
-/* The squares of the pieces of both colours that attack a square, whether they stand in `occupied` or not. SHAPE, OVERLAP, UNION, BYTEBOARD, SQUARE. */
-chess_code chess_attacks_to(const uint64_t *bitboards, size_t bitboards_length, const uint8_t *board, size_t board_length, uint8_t side,
+/* The squares of the pieces of both colours that attack a square, whether they stand in `occupied` or not. SHAPE, OVERLAP, UNION, BYTEBOARD, RIGHTS, PASSANT, COUNTER, SQUARE. */
+chess_code chess_attacks_to(const uint64_t *bitboards, size_t bitboards_length, const uint8_t *board, size_t board_length, chess_state state,
                             uint8_t square, uint64_t occupied, uint64_t *squares);
 
-/* Whether a piece of the colour other than the one named attacks a square. SHAPE (the colour too), OVERLAP, UNION, BYTEBOARD, SQUARE. */
-chess_code chess_is_attacked(const uint64_t *bitboards, size_t bitboards_length, const uint8_t *board, size_t board_length, uint8_t side,
+/* Whether a piece of the colour other than the one named attacks a square. SHAPE (the colour too), OVERLAP, UNION, BYTEBOARD, RIGHTS, PASSANT, COUNTER, SQUARE. */
+chess_code chess_is_attacked(const uint64_t *bitboards, size_t bitboards_length, const uint8_t *board, size_t board_length, chess_state state,
                              uint8_t square, uint8_t color, bool *attacked);
 
-/* Whether the colour's king is attacked, the lowest if it has several; true if it has none. SHAPE (the colour too), OVERLAP, UNION, BYTEBOARD. */
-chess_code chess_is_check(const uint64_t *bitboards, size_t bitboards_length, const uint8_t *board, size_t board_length, uint8_t side,
+/* Whether the colour's king is attacked, the lowest if it has several; true if it has none. SHAPE (the colour too), OVERLAP, UNION, BYTEBOARD, RIGHTS, PASSANT, COUNTER. */
+chess_code chess_is_check(const uint64_t *bitboards, size_t bitboards_length, const uint8_t *board, size_t board_length, chess_state state,
                           uint8_t color, bool *check);
 
 /* ---- exchanges */
@@ -174,23 +197,27 @@ enum { CHESS_KINDS = 6 };
 #define CHESS_ORDER_01 { 0, 1, 2, 3, 4, 5 }
 
 /* Whether the colour has a piece in `attacks` and `occupied`, the lowest square of the first kind in the order that has one, and that
- * kind; 0 and 0 beside false. SHAPE (the colour too), OVERLAP, UNION, BYTEBOARD, ORDER. */
-chess_code chess_lvp(const uint64_t *bitboards, size_t bitboards_length, const uint8_t *board, size_t board_length, uint8_t side,
+ * kind; 0 and 0 beside false. SHAPE (the colour too), OVERLAP, UNION, BYTEBOARD, RIGHTS, PASSANT, COUNTER, ORDER. */
+chess_code chess_lvp(const uint64_t *bitboards, size_t bitboards_length, const uint8_t *board, size_t board_length, chess_state state,
                      const uint8_t order[CHESS_KINDS], uint8_t color, uint64_t attacks, uint64_t occupied, bool *found, uint8_t *square,
                      uint8_t *kind);
 
-/* What the exchange that the capture `from`-`to` starts is worth to the side to move, the kinds capturing in the order. SHAPE, OVERLAP, UNION, BYTEBOARD,
+/* The modes of an exchange: the original's; and one in which a pawn may take en passant as the first capture, and a pawn that captures onto
+ * the last rank counts as a queen from then on, 913 added to what that capture takes. Any other number is SHAPE. */
+enum { CHESS_FIRST_MODE = 0, CHESS_SECOND_MODE = 1 };
+
+/* What the exchange that the capture `from`-`to` starts is worth to the side to move, in the mode and the kinds capturing in the order. SHAPE, OVERLAP, UNION, BYTEBOARD, RIGHTS, PASSANT, COUNTER,
  * SQUARE, ORDER, MOVE, CROWD. */
-chess_code chess_see(const uint64_t *bitboards, size_t bitboards_length, const uint8_t *board, size_t board_length, uint8_t side,
-                     const uint8_t order[CHESS_KINDS], uint8_t from, uint8_t to, int16_t *worth);
+chess_code chess_see(const uint64_t *bitboards, size_t bitboards_length, const uint8_t *board, size_t board_length, chess_state state,
+                     uint8_t mode, const uint8_t order[CHESS_KINDS], uint8_t from, uint8_t to, int16_t *worth);
 
 /* The captures of that exchange in order, at most 31: of each the square that it is made from, the kind that makes it and the value that it
  * takes, with zeros after them; how many they are; and before which of them, counted from 0, the exchange stops, or how many they are where
- * it is played out. What the captures before that take, with alternating signs, is what the exchange is worth. SHAPE, OVERLAP, UNION, BYTEBOARD, SQUARE,
+ * it is played out. What the captures before that take, with alternating signs, is what the exchange is worth. SHAPE, OVERLAP, UNION, BYTEBOARD, RIGHTS, PASSANT, COUNTER, SQUARE,
  * ORDER, MOVE, CROWD. */
 enum { CHESS_CAPTURES = 32 };
-chess_code chess_captures(const uint64_t *bitboards, size_t bitboards_length, const uint8_t *board, size_t board_length, uint8_t side,
-                          const uint8_t order[CHESS_KINDS], uint8_t from, uint8_t to, uint8_t squares[CHESS_CAPTURES],
+chess_code chess_captures(const uint64_t *bitboards, size_t bitboards_length, const uint8_t *board, size_t board_length, chess_state state,
+                          uint8_t mode, const uint8_t order[CHESS_KINDS], uint8_t from, uint8_t to, uint8_t squares[CHESS_CAPTURES],
                           uint8_t kinds[CHESS_CAPTURES], uint16_t taken[CHESS_CAPTURES], size_t *count, size_t *stop);
 
 /* ---- traces
@@ -199,8 +226,8 @@ chess_code chess_captures(const uint64_t *bitboards, size_t bitboards_length, co
  * counts[10 + colour] is 1 for two or more bishops. mobility[2 * kind + colour] counts the squares that they attack. sign is 1 for
  * White to move and -1 for Black. entries[128 * kind + 2 * square + colour] is 1 where a piece stands, Black's squares xor 56. */
 
-/* The trace of a position. SHAPE (also not 768 entries), OVERLAP, UNION, BYTEBOARD. */
-chess_code chess_compute_trace(const uint64_t *bitboards, size_t bitboards_length, const uint8_t *board, size_t board_length, uint8_t side,
+/* The trace of a position. SHAPE (also not 768 entries), OVERLAP, UNION, BYTEBOARD, RIGHTS, PASSANT, COUNTER. */
+chess_code chess_compute_trace(const uint64_t *bitboards, size_t bitboards_length, const uint8_t *board, size_t board_length, chess_state state,
                                int32_t counts[CHESS_COUNTS], int32_t mobility[CHESS_COUNTS], int32_t *sign, int32_t *piece_count,
                                int32_t *entries, size_t entries_length);
 
@@ -238,8 +265,8 @@ chess_code chess_table_coefficient(double value, uint8_t half_points, double k, 
  * colour of entry i, sorted by those three, one for each piece; `used` says how many there are, and every byte after them is 0. A list that is not so is
  * ENTRY. 192 bytes, one more for `used`, and the counts as before. */
 
-/* The trace of a position as a list. SHAPE, OVERLAP, UNION, BYTEBOARD. */
-chess_code chess_compute_list(const uint64_t *bitboards, size_t bitboards_length, const uint8_t *board, size_t board_length, uint8_t side,
+/* The trace of a position as a list. SHAPE, OVERLAP, UNION, BYTEBOARD, RIGHTS, PASSANT, COUNTER. */
+chess_code chess_compute_list(const uint64_t *bitboards, size_t bitboards_length, const uint8_t *board, size_t board_length, chess_state state,
                               int32_t counts[CHESS_COUNTS], int32_t mobility[CHESS_COUNTS], int32_t *sign, int32_t *piece_count, uint8_t *used,
                               uint8_t list[CHESS_LIST]);
 

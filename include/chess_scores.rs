@@ -17,34 +17,34 @@ use std::fmt;
 
 /// The library's doors, as `chess_scores.h` declares them.
 pub(crate) mod doors {
-    use super::{Code, Part};
+    use super::{Code, Line, Part, State};
 
     extern "C" {
-        pub fn chess_read_line(line: *const u8, n: usize, bitboards: *mut u64, b: usize, board: *mut u8, s: usize, side: *mut u8, half_points: *mut u8) -> Code;
-        pub fn chess_read_profile(line: *const u8, n: usize, bitboards: *mut u64, b: usize, board: *mut u8, s: usize, side: *mut u8, half_points: *mut u8) -> Code;
-        pub fn chess_profile(bitboards: *const u64, b: usize, board: *const u8, s: usize, side: u8) -> Code;
+        pub fn chess_read_line(line: *const u8, n: usize, bitboards: *mut u64, b: usize, board: *mut u8, s: usize) -> Line;
+        pub fn chess_read_profile(line: *const u8, n: usize, bitboards: *mut u64, b: usize, board: *mut u8, s: usize) -> Line;
+        pub fn chess_profile(bitboards: *const u64, b: usize, board: *const u8, s: usize, state: State) -> Code;
         pub fn chess_position_field(line: *const u8, n: usize) -> Part;
-        pub fn chess_write_line(bitboards: *const u64, b: usize, board: *const u8, s: usize, side: u8, request: u8, half_points: u8, out: *mut u8, n: usize, length: *mut usize) -> Code;
-        pub fn chess_read_record(run: *const u8, n: usize, number: u64, bitboards: *mut u64, b: usize, board: *mut u8, s: usize, side: *mut u8, half_points: *mut u8) -> Code;
-        pub fn chess_write_record(bitboards: *const u64, b: usize, board: *const u8, s: usize, side: u8, half_points: u8, place: *mut u8, p: usize) -> Code;
-        pub fn chess_add_record(bitboards: *const u64, b: usize, board: *const u8, s: usize, side: u8, half_points: u8, run: *mut u8, n: usize, summary: *mut u64, m: usize) -> Code;
-        pub fn chess_replace_record(bitboards: *const u64, b: usize, board: *const u8, s: usize, side: u8, half_points: u8, number: u64, run: *mut u8, n: usize, summary: *mut u64, m: usize) -> Code;
-        pub fn chess_eval_ending(bitboards: *const u64, b: usize, board: *const u8, s: usize, side: u8, verdict: *mut u8) -> Code;
-        pub fn chess_eval_material(bitboards: *const u64, b: usize, board: *const u8, s: usize, side: u8, color: u8, material: *mut i16) -> Code;
-        pub fn chess_eval(bitboards: *const u64, b: usize, board: *const u8, s: usize, side: u8, verdict: *mut u8, score: *mut i16) -> Code;
+        pub fn chess_write_line(bitboards: *const u64, b: usize, board: *const u8, s: usize, state: State, request: u8, half_points: u8, out: *mut u8, n: usize, length: *mut usize) -> Code;
+        pub fn chess_read_record(run: *const u8, n: usize, number: u64, bitboards: *mut u64, b: usize, board: *mut u8, s: usize) -> Line;
+        pub fn chess_write_record(bitboards: *const u64, b: usize, board: *const u8, s: usize, state: State, half_points: u8, place: *mut u8, p: usize) -> Code;
+        pub fn chess_add_record(bitboards: *const u64, b: usize, board: *const u8, s: usize, state: State, half_points: u8, run: *mut u8, n: usize, summary: *mut u64, m: usize) -> Code;
+        pub fn chess_replace_record(bitboards: *const u64, b: usize, board: *const u8, s: usize, state: State, half_points: u8, number: u64, run: *mut u8, n: usize, summary: *mut u64, m: usize) -> Code;
+        pub fn chess_eval_ending(bitboards: *const u64, b: usize, board: *const u8, s: usize, state: State, verdict: *mut u8) -> Code;
+        pub fn chess_eval_material(bitboards: *const u64, b: usize, board: *const u8, s: usize, state: State, color: u8, material: *mut i16) -> Code;
+        pub fn chess_eval(bitboards: *const u64, b: usize, board: *const u8, s: usize, state: State, verdict: *mut u8, score: *mut i16) -> Code;
         pub fn chess_piece_attacks(piece: u8, square: u8, occupied: u64, squares: *mut u64) -> Code;
-        pub fn chess_attacks_to(bitboards: *const u64, b: usize, board: *const u8, s: usize, side: u8, square: u8, occupied: u64, squares: *mut u64) -> Code;
-        pub fn chess_is_attacked(bitboards: *const u64, b: usize, board: *const u8, s: usize, side: u8, square: u8, color: u8, attacked: *mut bool) -> Code;
-        pub fn chess_is_check(bitboards: *const u64, b: usize, board: *const u8, s: usize, side: u8, color: u8, check: *mut bool) -> Code;
-        pub fn chess_lvp(bitboards: *const u64, b: usize, board: *const u8, s: usize, side: u8, order: *const u8, color: u8, attacks: u64, occupied: u64, found: *mut bool, square: *mut u8, kind: *mut u8) -> Code;
-        pub fn chess_see(bitboards: *const u64, b: usize, board: *const u8, s: usize, side: u8, order: *const u8, from: u8, to: u8, worth: *mut i16) -> Code;
-        pub fn chess_captures(bitboards: *const u64, b: usize, board: *const u8, s: usize, side: u8, order: *const u8, from: u8, to: u8, squares: *mut u8, kinds: *mut u8, taken: *mut u16, count: *mut usize, stop: *mut usize) -> Code;
-        pub fn chess_compute_trace(bitboards: *const u64, b: usize, board: *const u8, s: usize, side: u8, counts: *mut i32, mobility: *mut i32, sign: *mut i32, pieces: *mut i32, entries: *mut i32, e: usize) -> Code;
+        pub fn chess_attacks_to(bitboards: *const u64, b: usize, board: *const u8, s: usize, state: State, square: u8, occupied: u64, squares: *mut u64) -> Code;
+        pub fn chess_is_attacked(bitboards: *const u64, b: usize, board: *const u8, s: usize, state: State, square: u8, color: u8, attacked: *mut bool) -> Code;
+        pub fn chess_is_check(bitboards: *const u64, b: usize, board: *const u8, s: usize, state: State, color: u8, check: *mut bool) -> Code;
+        pub fn chess_lvp(bitboards: *const u64, b: usize, board: *const u8, s: usize, state: State, order: *const u8, color: u8, attacks: u64, occupied: u64, found: *mut bool, square: *mut u8, kind: *mut u8) -> Code;
+        pub fn chess_see(bitboards: *const u64, b: usize, board: *const u8, s: usize, state: State, mode: u8, order: *const u8, from: u8, to: u8, worth: *mut i16) -> Code;
+        pub fn chess_captures(bitboards: *const u64, b: usize, board: *const u8, s: usize, state: State, mode: u8, order: *const u8, from: u8, to: u8, squares: *mut u8, kinds: *mut u8, taken: *mut u16, count: *mut usize, stop: *mut usize) -> Code;
+        pub fn chess_compute_trace(bitboards: *const u64, b: usize, board: *const u8, s: usize, state: State, counts: *mut i32, mobility: *mut i32, sign: *mut i32, pieces: *mut i32, entries: *mut i32, e: usize) -> Code;
         pub fn chess_trace_eval(counts: *const i32, mobility: *const i32, sign: i32, pieces: i32, entries: *const i32, e: usize, weights: *const f64, squares: *const f64, w: usize, value: *mut f64) -> Code;
         pub fn chess_gradient_add(counts: *const i32, mobility: *const i32, sign: i32, pieces: i32, entries: *const i32, e: usize, coefficient: f64, gradient: *mut f64, g: usize) -> Code;
         pub fn chess_adam_step(gradient: *const f64, g: usize, m: *mut f64, f: usize, v: *mut f64, s: usize, weights: *mut f64, w: usize, iteration: u64, rate: f64) -> Code;
         pub fn chess_table_coefficient(value: f64, half_points: u8, k: f64, lines: u64, expected: *mut f64, coefficient: *mut f64) -> Code;
-        pub fn chess_compute_list(bitboards: *const u64, b: usize, board: *const u8, s: usize, side: u8, counts: *mut i32, mobility: *mut i32, sign: *mut i32, pieces: *mut i32, used: *mut u8, list: *mut u8) -> Code;
+        pub fn chess_compute_list(bitboards: *const u64, b: usize, board: *const u8, s: usize, state: State, counts: *mut i32, mobility: *mut i32, sign: *mut i32, pieces: *mut i32, used: *mut u8, list: *mut u8) -> Code;
         pub fn chess_list_of(counts: *const i32, mobility: *const i32, sign: i32, pieces: i32, entries: *const i32, e: usize, used: *mut u8, list: *mut u8) -> Code;
         pub fn chess_flat_of(counts: *const i32, mobility: *const i32, sign: i32, pieces: i32, used: u8, list: *const u8, entries: *mut i32, e: usize) -> Code;
         pub fn chess_list_eval(counts: *const i32, mobility: *const i32, sign: i32, pieces: i32, used: u8, list: *const u8, weights: *const f64, squares: *const f64, w: usize, value: *mut f64) -> Code;
@@ -77,9 +77,17 @@ pub const QUEEN: u8 = 12;
 /// Document 01's order of the kinds, pawn 0 to king 5, the first to take first: the original's.
 pub const ORDER: [u8; 6] = [0, 1, 2, 3, 4, 5];
 
+/// The modes of an exchange: the original's; and one in which a pawn may take en passant as the first capture, and a pawn that captures onto the last rank
+/// counts as a queen from then on, 913 added to what that capture takes.
+#[derive(Clone, Copy, Debug, PartialEq, Eq)]
+#[repr(u8)]
+pub enum Mode {
+    First = 0,
+    Second = 1,
+}
+
 /// Why a call is refused: the table of documents 01 and 02, with the square that some name. 2 was BOARD: 14 to 16 come where it came, and
-/// nothing has its number again. Of those from `Room` on `Order`, `Entry`, `Many`, `Iteration`, `Kings`, `Pawns`,
-/// `Pieces`, `Rank` and `Check` alone are given by a call yet.
+/// nothing has its number again.
 #[derive(Clone, Copy, Debug, PartialEq, Eq)]
 pub enum Refusal {
     /// A length, a side, a colour or a piece code that none has.
@@ -237,8 +245,8 @@ pub struct Code {
     pub square: u8,
 }
 
-/// What stands for the square where none is named.
-const NO_SQUARE: u8 = 255;
+/// What stands for the square where there is none.
+pub const NO_SQUARE: u8 = 255;
 
 /// What a door gave, once it has written it.
 fn given<T>(code: Code, answer: T) -> Result<T, Refusal> {
@@ -274,7 +282,41 @@ pub struct Part {
     length: usize,
 }
 
-/// 14 bitboards, 64 board bytes and the side to move.
+/// What a position says beside its pieces: the side to move, a right to castle for each rook (K, Q, k and q in a line), the square that a pawn has just passed,
+/// or [`NO_SQUARE`], and the counters, half moves 0 to 9999 and moves 1 to 9999.
+///
+/// A right needs its king and rook at home (RIGHTS). The square is empty, on rank 6 with White to move and a black pawn just below it, or on rank 3 with Black
+/// to move and a white pawn just above (PASSANT).
+#[repr(C)]
+#[derive(Clone, Copy, Debug, PartialEq, Eq)]
+pub struct State {
+    pub side: u8,
+    pub white_short: bool,
+    pub white_long: bool,
+    pub black_short: bool,
+    pub black_long: bool,
+    pub passant: u8,
+    pub halfmoves: u16,
+    pub moves: u16,
+}
+
+impl State {
+    /// A side to move, and nothing else given: no rights, no square, counters 0 and 1.
+    pub const fn of_side(side: u8) -> State {
+        State { side, white_short: false, white_long: false, black_short: false, black_long: false, passant: NO_SQUARE, halfmoves: 0, moves: 1 }
+    }
+}
+
+/// What a reader says beside the boards.
+#[doc(hidden)]
+#[repr(C)]
+pub struct Line {
+    pub code: Code,
+    pub state: State,
+    pub half_points: u8,
+}
+
+/// 14 bitboards, 64 board bytes and a state.
 ///
 /// Bitboard `c`, from 2 to 13, has the squares of the pieces of code `c`; 0 and 1 have all of White's and all of Black's. Square 0 is a1, 1
 /// is b1, 63 is h8. A board byte is the code of the piece there, or 0.
@@ -282,24 +324,22 @@ pub struct Part {
 pub struct Position {
     pub bitboards: [u64; 14],
     pub board: [u8; 64],
-    pub side: u8,
+    pub state: State,
 }
 
 /// Reads one line of a collection, without its LF and the CR before that: the position, and the half points for White.
-/// LONG, BYTE, FIELD, PLACE, SIDE, RESULT.
+/// LONG, BYTE, FIELD, PLACE, SIDE, RIGHTS, PASSANT, COUNTER, RESULT.
 pub fn read_line(line: &[u8]) -> Result<(Position, u8), Refusal> {
-    let mut read = Position { bitboards: [0; 14], board: [0; 64], side: 0 };
-    let mut half = 0;
-    // SAFETY: the pointers are those of slices and locals, with their lengths, and none overlap.
-    let code = unsafe {
-        doors::chess_read_line(line.as_ptr(), line.len(), read.bitboards.as_mut_ptr(), 14, read.board.as_mut_ptr(), 64, &mut read.side, &mut half)
-    };
-    given(code, (read, half))
+    let mut read = Position { bitboards: [0; 14], board: [0; 64], state: State::of_side(WHITE) };
+    // SAFETY: the pointers are those of slices and arrays, with their lengths, and none overlap.
+    let said = unsafe { doors::chess_read_line(line.as_ptr(), line.len(), read.bitboards.as_mut_ptr(), 14, read.board.as_mut_ptr(), 64) };
+    read.state = said.state;
+    given(said.code, (read, said.half_points))
 }
 
 /// Reads one line whose position may come from real play: one king a colour, at most eight pawns and sixteen pieces a colour, king and pawns
 /// counted, no pawn on the first or last rank, and the side that just moved not in check.
-/// LONG, BYTE, FIELD, PLACE, SIDE, RESULT, KINGS, PAWNS, PIECES, RANK, CHECK.
+/// LONG, BYTE, FIELD, PLACE, SIDE, RIGHTS, PASSANT, COUNTER, RESULT, KINGS, PAWNS, PIECES, RANK, CHECK.
 ///
 /// ```
 /// # use chess_scores::{read_real_play, Refusal};
@@ -307,13 +347,11 @@ pub fn read_line(line: &[u8]) -> Result<(Position, u8), Refusal> {
 /// assert_eq!(read_real_play(b"4k3/8/8/8/8/8/4R3/4K3 w;0-1").err(), Some(Refusal::Check(60)));
 /// ```
 pub fn read_real_play(line: &[u8]) -> Result<(Position, u8), Refusal> {
-    let mut read = Position { bitboards: [0; 14], board: [0; 64], side: 0 };
-    let mut half = 0;
-    // SAFETY: the pointers are those of slices and locals, with their lengths, and none overlap.
-    let code = unsafe {
-        doors::chess_read_profile(line.as_ptr(), line.len(), read.bitboards.as_mut_ptr(), 14, read.board.as_mut_ptr(), 64, &mut read.side, &mut half)
-    };
-    given(code, (read, half))
+    let mut read = Position { bitboards: [0; 14], board: [0; 64], state: State::of_side(WHITE) };
+    // SAFETY: the pointers are those of slices and arrays, with their lengths, and none overlap.
+    let said = unsafe { doors::chess_read_profile(line.as_ptr(), line.len(), read.bitboards.as_mut_ptr(), 14, read.board.as_mut_ptr(), 64) };
+    read.state = said.state;
+    given(said.code, (read, said.half_points))
 }
 
 /// The trimmed position field, as that part of the line; empty exactly if the line is refused.
@@ -334,13 +372,11 @@ pub const RECORD: usize = 34;
 /// Reads the record of a number, from 0, in a run of records of 34 bytes: the position, and the half points for White.
 /// LENGTH, ABSENT, CODE with the lowest square, SIDE, RESULT.
 pub fn read_record(run: &[u8], number: u64) -> Result<(Position, u8), Refusal> {
-    let mut read = Position { bitboards: [0; 14], board: [0; 64], side: 0 };
-    let mut half = 0;
-    // SAFETY: the pointers are those of slices and locals, with their lengths, and none overlap.
-    let code = unsafe {
-        doors::chess_read_record(run.as_ptr(), run.len(), number, read.bitboards.as_mut_ptr(), 14, read.board.as_mut_ptr(), 64, &mut read.side, &mut half)
-    };
-    given(code, (read, half))
+    let mut read = Position { bitboards: [0; 14], board: [0; 64], state: State::of_side(WHITE) };
+    // SAFETY: the pointers are those of slices and arrays, with their lengths, and none overlap.
+    let said = unsafe { doors::chess_read_record(run.as_ptr(), run.len(), number, read.bitboards.as_mut_ptr(), 14, read.board.as_mut_ptr(), 64) };
+    read.state = said.state;
+    given(said.code, (read, said.half_points))
 }
 
 /// The numbers of a store's summary: records, half points, and 64 for each piece in the order of the codes. All 0 for a store without records.
@@ -374,131 +410,131 @@ pub struct Captures {
 
 impl Position {
     /// The record of the position and its half points for White: 34 bytes, which `read_record` reads back.
-    /// SHAPE, OVERLAP, UNION, BYTEBOARD, RESULT.
+    /// SHAPE, OVERLAP, UNION, BYTEBOARD, RIGHTS, PASSANT, COUNTER, RESULT.
     pub fn record(&self, half_points: u8) -> Result<[u8; RECORD], Refusal> {
         let mut place = [0; RECORD];
-        let code = unsafe { doors::chess_write_record(self.bitboards.as_ptr(), 14, self.board.as_ptr(), 64, self.side, half_points, place.as_mut_ptr(), RECORD) };
+        let code = unsafe { doors::chess_write_record(self.bitboards.as_ptr(), 14, self.board.as_ptr(), 64, self.state, half_points, place.as_mut_ptr(), RECORD) };
         given(code, place)
     }
 
     /// The record of the position in a run, at the number that the summary counts to, and counted; a refusal changes neither.
-    /// SHAPE, OVERLAP, UNION, BYTEBOARD, RESULT, LENGTH, MANY, ROOM.
+    /// SHAPE, OVERLAP, UNION, BYTEBOARD, RIGHTS, PASSANT, COUNTER, RESULT, LENGTH, MANY, ROOM.
     pub fn add_record(&self, half_points: u8, run: &mut [u8], summary: &mut [u64]) -> Result<(), Refusal> {
         let code = unsafe {
-            doors::chess_add_record(self.bitboards.as_ptr(), 14, self.board.as_ptr(), 64, self.side, half_points, run.as_mut_ptr(), run.len(), summary.as_mut_ptr(), summary.len())
+            doors::chess_add_record(self.bitboards.as_ptr(), 14, self.board.as_ptr(), 64, self.state, half_points, run.as_mut_ptr(), run.len(), summary.as_mut_ptr(), summary.len())
         };
         given(code, ())
     }
 
     /// The record of the position in the place of a number's, which is taken off the summary; a refusal changes neither.
-    /// SHAPE, OVERLAP, UNION, BYTEBOARD, RESULT, LENGTH, ABSENT, CODE, SIDE, RESULT, ABSENT.
+    /// SHAPE, OVERLAP, UNION, BYTEBOARD, RIGHTS, PASSANT, COUNTER, RESULT, LENGTH, ABSENT, CODE, SIDE, RESULT, ABSENT.
     pub fn replace_record(&self, half_points: u8, number: u64, run: &mut [u8], summary: &mut [u64]) -> Result<(), Refusal> {
         let code = unsafe {
-            doors::chess_replace_record(self.bitboards.as_ptr(), 14, self.board.as_ptr(), 64, self.side, half_points, number, run.as_mut_ptr(), run.len(), summary.as_mut_ptr(), summary.len())
+            doors::chess_replace_record(self.bitboards.as_ptr(), 14, self.board.as_ptr(), 64, self.state, half_points, number, run.as_mut_ptr(), run.len(), summary.as_mut_ptr(), summary.len())
         };
         given(code, ())
     }
 
-    /// The verdict, or none. SHAPE, OVERLAP, UNION, BYTEBOARD.
+    /// The verdict, or none. SHAPE, OVERLAP, UNION, BYTEBOARD, RIGHTS, PASSANT, COUNTER.
     pub fn eval_ending(&self) -> Result<Option<Verdict>, Refusal> {
         let mut ending = 0;
-        let code = unsafe { doors::chess_eval_ending(self.bitboards.as_ptr(), 14, self.board.as_ptr(), 64, self.side, &mut ending) };
+        let code = unsafe { doors::chess_eval_ending(self.bitboards.as_ptr(), 14, self.board.as_ptr(), 64, self.state, &mut ending) };
         given(code, verdict(ending))
     }
 
-    /// What a colour's pieces are worth, without the pair of bishops. SHAPE, OVERLAP, UNION, BYTEBOARD, SCORE.
+    /// What a colour's pieces are worth, without the pair of bishops. SHAPE, OVERLAP, UNION, BYTEBOARD, RIGHTS, PASSANT, COUNTER, SCORE.
     pub fn eval_material(&self, color: u8) -> Result<i16, Refusal> {
         let mut material = 0;
-        let code = unsafe { doors::chess_eval_material(self.bitboards.as_ptr(), 14, self.board.as_ptr(), 64, self.side, color, &mut material) };
+        let code = unsafe { doors::chess_eval_material(self.bitboards.as_ptr(), 14, self.board.as_ptr(), 64, self.state, color, &mut material) };
         given(code, material)
     }
 
-    /// The verdict, or the score for the side to move. SHAPE, OVERLAP, UNION, BYTEBOARD, SCORE.
+    /// The verdict, or the score for the side to move. SHAPE, OVERLAP, UNION, BYTEBOARD, RIGHTS, PASSANT, COUNTER, SCORE.
     pub fn eval(&self) -> Result<Outcome, Refusal> {
         let (mut ending, mut score) = (0, 0);
-        let code = unsafe { doors::chess_eval(self.bitboards.as_ptr(), 14, self.board.as_ptr(), 64, self.side, &mut ending, &mut score) };
+        let code = unsafe { doors::chess_eval(self.bitboards.as_ptr(), 14, self.board.as_ptr(), 64, self.state, &mut ending, &mut score) };
         given(code, verdict(ending).map_or(Outcome::Score(score), Outcome::Verdict))
     }
 
-    /// The squares of the pieces of both colours that attack a square, whether they stand in `occupied` or not. SHAPE, OVERLAP, UNION, BYTEBOARD, SQUARE.
+    /// The squares of the pieces of both colours that attack a square, whether they stand in `occupied` or not. SHAPE, OVERLAP, UNION, BYTEBOARD, RIGHTS, PASSANT, COUNTER, SQUARE.
     pub fn attacks_to(&self, square: u8, occupied: u64) -> Result<u64, Refusal> {
         let mut squares = 0;
-        let code = unsafe { doors::chess_attacks_to(self.bitboards.as_ptr(), 14, self.board.as_ptr(), 64, self.side, square, occupied, &mut squares) };
+        let code = unsafe { doors::chess_attacks_to(self.bitboards.as_ptr(), 14, self.board.as_ptr(), 64, self.state, square, occupied, &mut squares) };
         given(code, squares)
     }
 
-    /// Whether a piece of the colour other than the one named attacks a square. SHAPE, OVERLAP, UNION, BYTEBOARD, SQUARE.
+    /// Whether a piece of the colour other than the one named attacks a square. SHAPE, OVERLAP, UNION, BYTEBOARD, RIGHTS, PASSANT, COUNTER, SQUARE.
     pub fn is_attacked(&self, square: u8, color: u8) -> Result<bool, Refusal> {
         let mut attacked = false;
-        let code = unsafe { doors::chess_is_attacked(self.bitboards.as_ptr(), 14, self.board.as_ptr(), 64, self.side, square, color, &mut attacked) };
+        let code = unsafe { doors::chess_is_attacked(self.bitboards.as_ptr(), 14, self.board.as_ptr(), 64, self.state, square, color, &mut attacked) };
         given(code, attacked)
     }
 
-    /// Refused where the position can't come from real play. SHAPE, OVERLAP, UNION, BYTEBOARD, KINGS, PAWNS, PIECES, RANK, CHECK.
+    /// Refused where the position can't come from real play. SHAPE, OVERLAP, UNION, BYTEBOARD, RIGHTS, PASSANT, COUNTER, KINGS, PAWNS, PIECES, RANK, CHECK.
     pub fn real_play(&self) -> Result<(), Refusal> {
-        let code = unsafe { doors::chess_profile(self.bitboards.as_ptr(), 14, self.board.as_ptr(), 64, self.side) };
+        let code = unsafe { doors::chess_profile(self.bitboards.as_ptr(), 14, self.board.as_ptr(), 64, self.state) };
         given(code, ())
     }
 
-    /// Whether the colour's king is attacked, the lowest if it has several; true if it has none. SHAPE, OVERLAP, UNION, BYTEBOARD.
+    /// Whether the colour's king is attacked, the lowest if it has several; true if it has none. SHAPE, OVERLAP, UNION, BYTEBOARD, RIGHTS, PASSANT, COUNTER.
     pub fn is_check(&self, color: u8) -> Result<bool, Refusal> {
         let mut check = false;
-        let code = unsafe { doors::chess_is_check(self.bitboards.as_ptr(), 14, self.board.as_ptr(), 64, self.side, color, &mut check) };
+        let code = unsafe { doors::chess_is_check(self.bitboards.as_ptr(), 14, self.board.as_ptr(), 64, self.state, color, &mut check) };
         given(code, check)
     }
 
-    /// The lowest square of the first kind in the order that has a piece of the colour in `attacks` and `occupied`, and that kind; or none. SHAPE, OVERLAP, UNION, BYTEBOARD, ORDER.
+    /// The lowest square of the first kind in the order that has a piece of the colour in `attacks` and `occupied`, and that kind; or none. SHAPE, OVERLAP, UNION, BYTEBOARD, RIGHTS, PASSANT, COUNTER, ORDER.
     pub fn lvp(&self, order: &[u8; 6], color: u8, attacks: u64, occupied: u64) -> Result<Option<(u8, u8)>, Refusal> {
         let (mut found, mut square, mut kind) = (false, 0, 0);
         let code = unsafe {
-            doors::chess_lvp(self.bitboards.as_ptr(), 14, self.board.as_ptr(), 64, self.side, order.as_ptr(), color, attacks, occupied, &mut found, &mut square, &mut kind)
+            doors::chess_lvp(self.bitboards.as_ptr(), 14, self.board.as_ptr(), 64, self.state, order.as_ptr(), color, attacks, occupied, &mut found, &mut square, &mut kind)
         };
         given(code, found.then_some((square, kind)))
     }
 
-    /// What the exchange that a capture starts is worth to the side to move, the kinds capturing in the order. SHAPE, OVERLAP, UNION, BYTEBOARD, SQUARE, ORDER, MOVE, CROWD.
-    pub fn see(&self, order: &[u8; 6], from: u8, to: u8) -> Result<i16, Refusal> {
+    /// What the exchange that a capture starts is worth to the side to move, in a mode and the kinds capturing in the order. SHAPE, OVERLAP, UNION, BYTEBOARD, RIGHTS, PASSANT, COUNTER, SQUARE, ORDER, MOVE, CROWD.
+    pub fn see(&self, mode: Mode, order: &[u8; 6], from: u8, to: u8) -> Result<i16, Refusal> {
         let mut worth = 0;
-        let code = unsafe { doors::chess_see(self.bitboards.as_ptr(), 14, self.board.as_ptr(), 64, self.side, order.as_ptr(), from, to, &mut worth) };
+        let code = unsafe { doors::chess_see(self.bitboards.as_ptr(), 14, self.board.as_ptr(), 64, self.state, mode as u8, order.as_ptr(), from, to, &mut worth) };
         given(code, worth)
     }
 
     /// The text of the position at the front of `out`, with `;` and the result of half points where some are handed over, and how many bytes that is; the
-    /// bytes after it stay. 73 bytes hold every position, 81 every line. SHAPE, OVERLAP, UNION, BYTEBOARD, RESULT, ROOM.
+    /// bytes after it stay. 91 bytes hold every position, 99 every line. SHAPE, OVERLAP, UNION, BYTEBOARD, RIGHTS, PASSANT, COUNTER, RESULT, ROOM.
     ///
     /// ```
     /// let (position, half) = chess_scores::read_line(b"4k3/8/8/8/8/8/4P3/4K3  w - - 0 1;1-0; e4").unwrap();
-    /// let mut line = [0; 81];
+    /// let mut line = [0; 99];
     /// let n = position.write_line(Some(half), &mut line).unwrap();
-    /// assert_eq!(&line[..n], b"4k3/8/8/8/8/8/4P3/4K3 w;1-0");
+    /// assert_eq!(&line[..n], b"4k3/8/8/8/8/8/4P3/4K3 w - - 0 1;1-0");
     /// ```
     pub fn write_line(&self, half_points: Option<u8>, out: &mut [u8]) -> Result<usize, Refusal> {
         let mut length = 0;
         let code = unsafe {
             doors::chess_write_line(
-                self.bitboards.as_ptr(), 14, self.board.as_ptr(), 64, self.side, half_points.is_some() as u8, half_points.unwrap_or(0), out.as_mut_ptr(), out.len(), &mut length,
+                self.bitboards.as_ptr(), 14, self.board.as_ptr(), 64, self.state, half_points.is_some() as u8, half_points.unwrap_or(0), out.as_mut_ptr(), out.len(), &mut length,
             )
         };
         given(code, length)
     }
 
-    /// The captures of that exchange in order, those after the stopping point too, and before which of them it stops, if it does. SHAPE, OVERLAP, UNION, BYTEBOARD, SQUARE, ORDER, MOVE, CROWD.
-    pub fn captures(&self, order: &[u8; 6], from: u8, to: u8) -> Result<Captures, Refusal> {
+    /// The captures of that exchange in order, those after the stopping point too, and before which of them it stops, if it does. SHAPE, OVERLAP, UNION, BYTEBOARD, RIGHTS, PASSANT, COUNTER, SQUARE, ORDER, MOVE, CROWD.
+    pub fn captures(&self, mode: Mode, order: &[u8; 6], from: u8, to: u8) -> Result<Captures, Refusal> {
         let (mut squares, mut kinds, mut taken, mut count, mut stop) = ([0; 32], [0; 32], [0; 32], 0, 0);
         let code = unsafe {
             doors::chess_captures(
-                self.bitboards.as_ptr(), 14, self.board.as_ptr(), 64, self.side, order.as_ptr(), from, to, squares.as_mut_ptr(), kinds.as_mut_ptr(), taken.as_mut_ptr(), &mut count, &mut stop,
+                self.bitboards.as_ptr(), 14, self.board.as_ptr(), 64, self.state, mode as u8, order.as_ptr(), from, to, squares.as_mut_ptr(), kinds.as_mut_ptr(), taken.as_mut_ptr(), &mut count, &mut stop,
             )
         };
         let captures = (0..count).map(|i| Capture { from: squares[i], kind: kinds[i], taken: taken[i] }).collect();
         given(code, Captures { captures, stop: (stop < count).then_some(stop) })
     }
 
-    /// The position's trace. SHAPE, OVERLAP, UNION, BYTEBOARD.
+    /// The position's trace. SHAPE, OVERLAP, UNION, BYTEBOARD, RIGHTS, PASSANT, COUNTER.
     pub fn trace(&self) -> Result<Trace, Refusal> {
         let mut trace = Trace { counts: [0; 12], mobility: [0; 12], sign: 0, piece_count: 0, entries: [0; 768] };
         let code = unsafe {
-            doors::chess_compute_trace(self.bitboards.as_ptr(), 14, self.board.as_ptr(), 64, self.side, trace.counts.as_mut_ptr(),
+            doors::chess_compute_trace(self.bitboards.as_ptr(), 14, self.board.as_ptr(), 64, self.state, trace.counts.as_mut_ptr(),
                 trace.mobility.as_mut_ptr(), &mut trace.sign, &mut trace.piece_count, trace.entries.as_mut_ptr(), 768)
         };
         given(code, trace)
@@ -647,12 +683,12 @@ impl Trace {
 }
 
 impl Position {
-    /// Its trace as a list. SHAPE, OVERLAP, UNION, BYTEBOARD.
+    /// Its trace as a list. SHAPE, OVERLAP, UNION, BYTEBOARD, RIGHTS, PASSANT, COUNTER.
     pub fn trace_list(&self) -> Result<TraceList, Refusal> {
         let mut list = TraceList { counts: [0; 12], mobility: [0; 12], sign: 0, piece_count: 0, used: 0, entries: [[0; 3]; 64] };
         // SAFETY: the pointers are those of the arrays of a reference and of a local, with their lengths.
         let code = unsafe {
-            doors::chess_compute_list(self.bitboards.as_ptr(), 14, self.board.as_ptr(), 64, self.side, list.counts.as_mut_ptr(), list.mobility.as_mut_ptr(),
+            doors::chess_compute_list(self.bitboards.as_ptr(), 14, self.board.as_ptr(), 64, self.state, list.counts.as_mut_ptr(), list.mobility.as_mut_ptr(),
                 &mut list.sign, &mut list.piece_count, &mut list.used, list.entries.as_mut_ptr().cast())
         };
         given(code, list)

@@ -22,49 +22,53 @@ fn scores_of_document_01() {
 
 #[test]
 fn exchanges_of_document_01() {
-    assert_eq!(position("8/8/8/4p3/8/8/8/4R3 w").see(&ORDER, 4, 36), Ok(100));
-    assert_eq!(position("8/8/3p4/4p3/8/8/8/4R3 w").see(&ORDER, 4, 36), Ok(-387));
-    assert_eq!(position("6k1/1b6/5n2/3p4/4P3/8/8/3Q2K1 w").see(&ORDER, 3, 35), Ok(-709));
-    assert_eq!(position(START).see(&ORDER, 3, 35), Err(Refusal::Move));
-    assert_eq!(position(START).see(&ORDER, 3, 64), Err(Refusal::Square));
+    assert_eq!(position("8/8/8/4p3/8/8/8/4R3 w").see(Mode::First, &ORDER, 4, 36), Ok(100));
+    assert_eq!(position("8/8/3p4/4p3/8/8/8/4R3 w").see(Mode::First, &ORDER, 4, 36), Ok(-387));
+    assert_eq!(position("6k1/1b6/5n2/3p4/4P3/8/8/3Q2K1 w").see(Mode::First, &ORDER, 3, 35), Ok(-709));
+    assert_eq!(position(START).see(Mode::First, &ORDER, 3, 35), Err(Refusal::Move));
+    assert_eq!(position(START).see(Mode::First, &ORDER, 3, 64), Err(Refusal::Square));
 }
 
 #[test]
 fn orders_of_capture() {
     let queens = position("6k1/1b6/5n2/3p4/4P3/8/8/3Q2K1 w");
     let bishops_first = [0, 2, 1, 3, 4, 5];
-    assert_eq!(queens.see(&bishops_first, 3, 35), Ok(-721));
+    assert_eq!(queens.see(Mode::First, &bishops_first, 3, 35), Ok(-721));
     let attackers = queens.attacks_to(35, u64::MAX).unwrap() | queens.bitboards[1];
     assert_eq!(queens.lvp(&ORDER, BLACK, attackers & !queens.bitboards[3], u64::MAX), Ok(Some((45, 1))));
     assert_eq!(queens.lvp(&bishops_first, BLACK, attackers & !queens.bitboards[3], u64::MAX), Ok(Some((49, 2))));
     for no_order in [[0, 2, 2, 3, 4, 5], [0, 1, 2, 3, 4, 6]] {
-        assert_eq!(queens.see(&no_order, 3, 35), Err(Refusal::Order));
-        assert_eq!(queens.see(&no_order, 3, 36), Err(Refusal::Order));
-        assert_eq!(queens.see(&no_order, 64, 35), Err(Refusal::Square));
+        assert_eq!(queens.see(Mode::First, &no_order, 3, 35), Err(Refusal::Order));
+        assert_eq!(queens.see(Mode::First, &no_order, 3, 36), Err(Refusal::Order));
+        assert_eq!(queens.see(Mode::First, &no_order, 64, 35), Err(Refusal::Square));
         assert_eq!(queens.lvp(&no_order, BLACK, attackers, u64::MAX), Err(Refusal::Order));
     }
 }
 
 #[test]
 fn lines_written() {
-    for line in ["rnbqkbnr/pppppppp/8/8/8/8/PPPPPPPP/RNBQKBNR w;1-0", "4k3/8/8/8/8/8/4P3/4K3 b;1/2-1/2", "8/8/8/8/8/8/8/8 w;0-1"] {
+    for line in [
+        "rnbqkbnr/pppppppp/8/8/8/8/PPPPPPPP/RNBQKBNR w KQkq - 0 1;1-0",
+        "r3k3/8/8/8/4P3/8/8/4K2R b Kq e3 0 12;1/2-1/2",
+        "8/8/8/8/8/8/8/8 w - - 9999 9999;0-1",
+    ] {
         let (read, half) = read_line(line.as_bytes()).unwrap();
-        let mut out = [7; 81];
+        let mut out = [7; 99];
         assert_eq!(read.write_line(Some(half), &mut out), Ok(line.len()));
         assert_eq!(&out[..line.len()], line.as_bytes());
         assert!(out[line.len()..].iter().all(|byte| *byte == 7));
     }
     let bare = position("8/8/8/8/8/8/8/8 w");
-    let mut out = [7; 17];
-    assert_eq!(bare.write_line(None, &mut out[..16]), Err(Refusal::Room));
-    assert_eq!(bare.write_line(Some(3), &mut out[..16]), Err(Refusal::Result));
-    assert_eq!(out, [7; 17]);
-    assert_eq!(bare.write_line(None, &mut out), Ok(17));
-    assert_eq!(&out, b"8/8/8/8/8/8/8/8 w");
+    let mut out = [7; 25];
+    assert_eq!(bare.write_line(None, &mut out[..24]), Err(Refusal::Room));
+    assert_eq!(bare.write_line(Some(3), &mut out[..24]), Err(Refusal::Result));
+    assert_eq!(out, [7; 25]);
+    assert_eq!(bare.write_line(None, &mut out), Ok(25));
+    assert_eq!(&out, b"8/8/8/8/8/8/8/8 w - - 0 1");
     let mut length = 7;
     // SAFETY: the pointers are those of arrays and a local, with their lengths, and none overlap.
-    let code = unsafe { doors::chess_write_line(bare.bitboards.as_ptr(), 14, bare.board.as_ptr(), 64, bare.side, 0, 3, out.as_mut_ptr(), 17, &mut length) };
-    assert_eq!((code.number, length), (0, 17));
+    let code = unsafe { doors::chess_write_line(bare.bitboards.as_ptr(), 14, bare.board.as_ptr(), 64, bare.state, 0, 3, out.as_mut_ptr(), 25, &mut length) };
+    assert_eq!((code.number, length), (0, 25));
     let mut odd = bare;
     odd.board[0] = 2;
     assert_eq!(odd.write_line(Some(3), &mut out), Err(Refusal::Byteboard(0)));
@@ -72,16 +76,35 @@ fn lines_written() {
 
 #[test]
 fn captures_told() {
-    let rooks = position("4r3/8/8/4p3/8/8/4R3/4R3 w").captures(&ORDER, 12, 36).unwrap();
+    let rooks = position("4r3/8/8/4p3/8/8/4R3/4R3 w").captures(Mode::First, &ORDER, 12, 36).unwrap();
     let capture = |from, kind, taken| Capture { from, kind, taken };
     assert_eq!(rooks, Captures { captures: vec![capture(12, 3, 100), capture(60, 3, 487), capture(4, 3, 487)], stop: Some(1) });
     let queens = position("6k1/1b6/5n2/3p4/4P3/8/8/3Q2K1 w");
-    let told = queens.captures(&[0, 2, 1, 3, 4, 5], 3, 35).unwrap();
+    let told = queens.captures(Mode::First, &[0, 2, 1, 3, 4, 5], 3, 35).unwrap();
     assert_eq!(told.captures, [capture(3, 4, 100), capture(49, 2, 1013), capture(28, 0, 292), capture(45, 1, 100)]);
     assert_eq!(told.stop, None);
     let sum: i32 = told.captures.iter().enumerate().map(|(i, c)| if i % 2 == 0 { c.taken as i32 } else { -(c.taken as i32) }).sum();
-    assert_eq!(queens.see(&[0, 2, 1, 3, 4, 5], 3, 35).map(i32::from), Ok(sum));
-    assert_eq!(queens.captures(&[0; 6], 3, 35), Err(Refusal::Order));
+    assert_eq!(queens.see(Mode::First, &[0, 2, 1, 3, 4, 5], 3, 35).map(i32::from), Ok(sum));
+    assert_eq!(queens.captures(Mode::First, &[0; 6], 3, 35), Err(Refusal::Order));
+}
+
+#[test]
+fn second_mode() {
+    let capture = |from, kind, taken| Capture { from, kind, taken };
+    let passing = position("4k3/2p5/8/3pP3/8/8/8/3RK3 w - d6 0 1");
+    assert_eq!(passing.see(Mode::First, &ORDER, 36, 43), Err(Refusal::Move));
+    assert_eq!(passing.see(Mode::Second, &ORDER, 36, 43), Ok(100));
+    let told = passing.captures(Mode::Second, &ORDER, 36, 43).unwrap();
+    assert_eq!(told, Captures { captures: vec![capture(36, 0, 100), capture(50, 0, 100), capture(3, 3, 100)], stop: Some(1) });
+    let promoting = position("1n5k/P7/8/8/8/8/8/4K3 w - - 0 1");
+    assert_eq!(promoting.see(Mode::First, &ORDER, 48, 57), Ok(304));
+    assert_eq!(promoting.see(Mode::Second, &ORDER, 48, 57), Ok(1217));
+    let later = position("1n1r3k/P7/8/8/8/8/8/1Q2K3 w - - 0 1");
+    assert_eq!((later.see(Mode::First, &ORDER, 1, 57), later.see(Mode::Second, &ORDER, 1, 57)), (Ok(-222), Ok(304)));
+    let mut worth = 7;
+    // SAFETY: the pointers are those of arrays and a local, with their lengths, and none overlap.
+    let code = unsafe { doors::chess_see(later.bitboards.as_ptr(), 14, later.board.as_ptr(), 64, later.state, 2, ORDER.as_ptr(), 1, 57, &mut worth) };
+    assert_eq!((code.number, worth), (1, 7));
 }
 
 #[test]
@@ -108,7 +131,7 @@ fn refusals_of_a_position() {
     bent.bitboards[1] ^= 1 << 63;
     assert_eq!(bent.eval(), Err(Refusal::Union(63)));
     bent.bitboards[0] ^= 1 << 20;
-    assert_eq!(bent.see(&ORDER, 0, 1), Err(Refusal::Union(20)));
+    assert_eq!(bent.see(Mode::First, &ORDER, 0, 1), Err(Refusal::Union(20)));
     bent.bitboards[12] ^= 1 << 50;
     assert_eq!(bent.eval_material(WHITE), Err(Refusal::Overlap(50)));
     // Codes 2 and 4 at 50 and 12 and 13 at 2: the lowest square, whichever codes they are.
@@ -116,7 +139,7 @@ fn refusals_of_a_position() {
     bent.bitboards[13] ^= 1 << 2;
     assert_eq!(bent.is_check(BLACK), Err(Refusal::Overlap(2)));
     assert_eq!(bent.is_check(BLACK).unwrap_err().to_string(), "refused 14 at c1");
-    bent.side = 2;
+    bent.state.side = 2;
     assert_eq!(bent.eval(), Err(Refusal::Shape));
 }
 
@@ -128,6 +151,9 @@ fn lines() {
         (String::new(), Refusal::Field),
         ("8/8/8/8/8/8/8 w;1-0".to_string(), Refusal::Place),
         ("8/8/8/8/8/8/8/8 x;1-0".to_string(), Refusal::Side),
+        ("8/8/8/8/8/8/8/8 w K;1-0".to_string(), Refusal::Rights),
+        ("8/8/8/8/8/8/8/8 w -;1-0".to_string(), Refusal::Passant),
+        ("8/8/8/8/8/8/8/8 w - - 0 0;1".to_string(), Refusal::Counter),
         ("8/8/8/8/8/8/8/8 w;2-0".to_string(), Refusal::Result),
     ] {
         assert_eq!(read_line(line.as_bytes()).err(), Some(refusal), "{line}");
@@ -157,7 +183,7 @@ fn lines_from_real_play() {
     for line in ["rnbqkbnr/pppppppp/8/8/8/8/PPPPPPPP/RNBQKBNR w;1-0", "4k3/8/8/8/8/8/4R3/4K3 b;0-1"] {
         let (position, half_points) = read_real_play(line.as_bytes()).expect(line);
         let (plain, same) = read_line(line.as_bytes()).expect(line);
-        assert_eq!((position.bitboards, position.board, position.side, half_points), (plain.bitboards, plain.board, plain.side, same));
+        assert_eq!((position.bitboards, position.board, position.state, half_points), (plain.bitboards, plain.board, plain.state, same));
         assert_eq!(position.real_play(), Ok(()));
     }
     let mut bent = position("4k3/8/8/8/8/8/4R3/4K3 b");
@@ -173,7 +199,7 @@ fn records() {
     assert_eq!((record[0], &record[1..32], record[32], record[33]), (0xd2, &[0; 31][..], 1, 1));
     let mut run = [position(START).record(2).unwrap(), record].concat();
     let (read, half_points) = read_record(&run, 1).unwrap();
-    assert_eq!((read.bitboards, read.board, read.side, half_points), (two.bitboards, two.board, two.side, 1));
+    assert_eq!((read.bitboards, read.board, read.state, half_points), (two.bitboards, two.board, two.state, 1));
     assert_eq!(read.record(half_points), Ok(record));
     // The record is looked for before anything is multiplied by 34: this number times 34 is 34 in 64 bits.
     assert_eq!(read_record(&run, 1 << 63 | 1).err(), Some(Refusal::Absent));
@@ -189,15 +215,13 @@ fn records() {
     // A refusal leaves what is lent as it was: RESULT before LENGTH, and then LENGTH.
     let mut place = [7; 33];
     for (half_points, number) in [(3, 13), (1, 18)] {
-        let code = unsafe { doors::chess_write_record(two.bitboards.as_ptr(), 14, two.board.as_ptr(), 64, two.side, half_points, place.as_mut_ptr(), 33) };
+        let code = unsafe { doors::chess_write_record(two.bitboards.as_ptr(), 14, two.board.as_ptr(), 64, two.state, half_points, place.as_mut_ptr(), 33) };
         assert_eq!((code.number, place), (number, [7; 33]));
     }
-    let mut board = [9; 64];
-    let (mut bitboards, mut side, mut half) = ([5; 14], 8, 8);
-    let code = unsafe {
-        doors::chess_read_record(run.as_ptr(), 34, 0, bitboards.as_mut_ptr(), 14, board.as_mut_ptr(), 64, &mut side, &mut half)
-    };
-    assert_eq!((code.number, code.square, board, bitboards, side, half), (19, 40, [9; 64], [5; 14], 8, 8));
+    let (mut bitboards, mut board) = ([5; 14], [9; 64]);
+    let said = unsafe { doors::chess_read_record(run.as_ptr(), 34, 0, bitboards.as_mut_ptr(), 14, board.as_mut_ptr(), 64) };
+    assert_eq!((said.code.number, said.code.square, board, bitboards), (19, 40, [9; 64], [5; 14]));
+    assert_eq!((said.state, said.half_points), (State::of_side(WHITE), 0));
 }
 
 #[test]

@@ -7,7 +7,7 @@
 typedef struct {
     uint64_t bitboards[CHESS_BITBOARDS];
     uint8_t board[CHESS_SQUARES];
-    uint8_t side;
+    chess_state state;
 } position;
 
 static const char *const VERDICTS[] = {"none", "lost", "won", "drawn"};
@@ -24,7 +24,7 @@ static int refused(const char *what, chess_code code)
 static unsigned expected_for_white(const position *p, int16_t score)
 {
     /* 32768 is no int16_t, and is expected to bring what 32767 is */
-    int turned = p->side == CHESS_WHITE ? score : -score;
+    int turned = p->state.side == CHESS_WHITE ? score : -score;
     return (unsigned)chess_expected(turned > INT16_MAX ? INT16_MAX : (int16_t)turned);
 }
 
@@ -32,7 +32,7 @@ static int print_score(const position *p)
 {
     uint8_t verdict;
     int16_t score;
-    chess_code code = chess_eval(p->bitboards, CHESS_BITBOARDS, p->board, CHESS_SQUARES, p->side, &verdict, &score);
+    chess_code code = chess_eval(p->bitboards, CHESS_BITBOARDS, p->board, CHESS_SQUARES, p->state, &verdict, &score);
     if (code.number != 0)
         return refused("score", code);
     if (verdict != CHESS_NONE)
@@ -48,7 +48,7 @@ static int print_double(const position *p)
     static int32_t entries[CHESS_ENTRIES];
     static double weights[CHESS_NAMED_WEIGHTS], squares[CHESS_SQUARE_WEIGHTS];
     double value;
-    chess_code code = chess_compute_trace(p->bitboards, CHESS_BITBOARDS, p->board, CHESS_SQUARES, p->side, counts, mobility, &sign, &piece_count,
+    chess_code code = chess_compute_trace(p->bitboards, CHESS_BITBOARDS, p->board, CHESS_SQUARES, p->state, counts, mobility, &sign, &piece_count,
                                           entries, CHESS_ENTRIES);
     if (code.number == 0)
         code = chess_shipped_weights(weights, squares, CHESS_SQUARE_WEIGHTS);
@@ -66,7 +66,7 @@ static int print_step(const position *p)
     static int32_t entries[CHESS_ENTRIES];
     static double gradient[CHESS_WEIGHTS], first[CHESS_WEIGHTS], second[CHESS_WEIGHTS], weights[CHESS_WEIGHTS];
     enum { TEMPO = 10 };
-    chess_code code = chess_compute_trace(p->bitboards, CHESS_BITBOARDS, p->board, CHESS_SQUARES, p->side, counts, mobility, &sign, &piece_count,
+    chess_code code = chess_compute_trace(p->bitboards, CHESS_BITBOARDS, p->board, CHESS_SQUARES, p->state, counts, mobility, &sign, &piece_count,
                                           entries, CHESS_ENTRIES);
     if (code.number == 0)
         code = chess_shipped_weights(weights, weights + CHESS_NAMED_WEIGHTS, CHESS_SQUARE_WEIGHTS);
@@ -89,11 +89,11 @@ int main(int count, char **words)
     const uint8_t *line = (const uint8_t *)words[1];
     size_t length = strlen(words[1]);
     position p;
-    uint8_t half_points;
-    chess_code code = chess_read_line(line, length, p.bitboards, CHESS_BITBOARDS, p.board, CHESS_SQUARES, &p.side, &half_points);
-    if (code.number != 0)
-        return refused("line", code);
+    chess_line said = chess_read_line(line, length, p.bitboards, CHESS_BITBOARDS, p.board, CHESS_SQUARES);
+    if (said.code.number != 0)
+        return refused("line", said.code);
+    p.state = said.state;
     chess_part field = chess_position_field(line, length);
-    printf("%.*s, %d half points\n", (int)field.length, words[1] + field.start, half_points);
+    printf("%.*s, %d half points\n", (int)field.length, words[1] + field.start, said.half_points);
     return print_score(&p) | print_double(&p) | print_step(&p);
 }

@@ -24,9 +24,11 @@ static size_t read_all(FILE *collection) {
     size_t count = 0;
     for (; count < MOST && fgets(line, ROOM, collection) != NULL; count++) {
         uint64_t bitboards[CHESS_BITBOARDS];
-        uint8_t board[CHESS_SQUARES], side;
-        taken(chess_read_line((const uint8_t *)line, strcspn(line, "\n"), bitboards, CHESS_BITBOARDS, board, CHESS_SQUARES, &side, &samples[count].half_points));
-        taken(chess_compute_list(bitboards, CHESS_BITBOARDS, board, CHESS_SQUARES, side, samples[count].counts, samples[count].mobility, &samples[count].sign,
+        uint8_t board[CHESS_SQUARES];
+        chess_line said = chess_read_line((const uint8_t *)line, strcspn(line, "\n"), bitboards, CHESS_BITBOARDS, board, CHESS_SQUARES);
+        taken(said.code);
+        samples[count].half_points = said.half_points;
+        taken(chess_compute_list(bitboards, CHESS_BITBOARDS, board, CHESS_SQUARES, said.state, samples[count].counts, samples[count].mobility, &samples[count].sign,
                                  &samples[count].pieces, &samples[count].used, samples[count].list));
     }
     return count;

@@ -8,6 +8,8 @@ from reference.bitboard import scan
 from reference.line import read_line
 from reference.pieces import EMPTY, KIND_OF_CODE, KING, KNIGHT, LETTERS, PAWN, ROOK, WHITE, code
 from reference.position import placed
+from reference.state import HOMES, State
+from reference.writer import position_text
 
 START = "rnbqkbnr/pppppppp/8/8/8/8/PPPPPPPP/RNBQKBNR"
 KINDS = {letter: KIND_OF_CODE[piece] for letter, piece in LETTERS.items() if letter.isupper()}
@@ -20,7 +22,7 @@ def square_of(name):
 
 
 class Game:
-    """A game under way: the board, the side to move, the castlings that are left and the square that a pawn has passed."""
+    """A game under way: the board, the side to move, the castlings that are left, the square that a pawn has passed, and both counters."""
 
     def __init__(self):
         ranks = [[EMPTY] * 8 if rank == "8" else [LETTERS[letter] for letter in rank] for rank in START.split("/")]
@@ -28,9 +30,15 @@ class Game:
         self.side = WHITE
         self.home = {square for square in range(64) if square // 8 in (0, 7)}
         self.passed = None
+        self.halfmoves, self.moves = 0, 1
 
     def position(self):
-        return placed(self.board, self.side)
+        return placed(self.board, self.state())
+
+    def state(self):
+        """The square is given after every pawn's step of two, whether it can be taken or not (PGN standard, 16.1.3.4)."""
+        rights = ({king, rook} <= self.home for _, king, rook in HOMES)
+        return State(self.side, rights, self.passed, self.halfmoves, self.moves)
 
     def attacked(self, square, by):
         position = self.position()
@@ -66,6 +74,9 @@ class Game:
         if self.in_check(self.side):
             self.board = before
             return False
+        quiet = KIND_OF_CODE[before[moved[0]]] != PAWN and board.count(EMPTY) == before.count(EMPTY)
+        self.halfmoves = self.halfmoves + 1 if quiet else 0
+        self.moves += self.side
         self.home -= set(moved)
         self.side, self.passed = 1 - self.side, passed
         return True
@@ -107,7 +118,7 @@ class Game:
 
 
 def shown(board, side, result):
-    """A position as a line of a collection."""
+    """A position as a line of a collection, of two fields."""
     rows = []
     for rank in range(7, -1, -1):
         text = "".join("1" if piece == EMPTY else SHOWN[piece] for piece in board[8 * rank:8 * rank + 8])
@@ -125,15 +136,15 @@ def games():
 
 
 def lines():
-    """The different positions of all games, in the order in which they come, with the result of the first game that has them."""
+    """The different positions of all games, by pieces and side, in their order: six fields and the result, of the first game that has them."""
     found = {}
     for tags, moves in games():
         game = Game()
         for number, move in enumerate([None] + moves):
             if move is not None and not game.play(move):
                 voices.stop(f"{tags['White']} - {tags['Black']}, {tags['Event']} {tags['Date']}: move {(number + 1) // 2}, {move}, is not legal")
-            line = shown(game.board, game.side, tags["Result"])
-            found.setdefault(line.split(";")[0], line)
+            whole = position_text(game.board, game.state()).decode()
+            found.setdefault(shown(game.board, game.side, ""), f"{whole};{tags['Result']}")
     return list(found.values())
 
 
@@ -182,7 +193,8 @@ FAULTS = (without_king, second_king, nine_pawns, seventeen_pieces, pawn_on_end, 
 
 
 def broken(lines):
-    """Every other line with a fault put in, one after another; a check that is given becomes one that was left, and other turns pass as they are."""
+    """Every other line with a fault put in, one after another, and no field but ranks and side; a check that is given becomes one that was left, and other
+    turns pass as they are."""
     made = []
     for number, line in enumerate(lines):
         read = read_line(line.encode())

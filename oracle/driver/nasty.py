@@ -1,8 +1,10 @@
-"""A collection of nasty lines: every rule of 01's line at its boundary, alone and together with others."""
+"""A collection of nasty lines: every rule of 01's line at its boundary, alone and together with others; rest.py has those for what follows the side."""
 
-from itertools import product
+from itertools import product, zip_longest
 
 from reference.seeded import stream
+
+from . import rest
 
 PAWN = b"4k3/8/8/8/8/8/4P3/4K3"
 START = b"rnbqkbnr/pppppppp/8/8/8/8/PPPPPPPP/RNBQKBNR"
@@ -162,10 +164,16 @@ def mutated(seed=SEED, count=MUTATED):
         yield bytes(line)
 
 
+def damaged(seed, count):
+    """So many damaged lines of a seed, every other one of them a line of six fields before."""
+    for pair in zip_longest(mutated(seed, count - count // 2), rest.mutated(seed, count // 2)):
+        yield from (line for line in pair if line is not None)
+
+
 def collection():
     """All lines, each once; the last has no LF and keeps its CR."""
     groups = (plain, ended, lengths, each_byte, fields, places, runs, sides, results, other_white_space, broken_together,
-              mutated)
+              mutated, *rest.GROUPS)
     lines = dict.fromkeys(line for group in groups for line in group())
     assert all(b"\n" not in line for line in lines)
     return b"".join(line + b"\n" for line in lines) + GOOD + b"\r"

@@ -1,5 +1,8 @@
 """The recorded questions and answers, in sets of parallel files."""
 
+from reference.line import read_line
+from reference.refusal import Refused
+
 from . import voices
 
 FOLDER = voices.ORACLE / "recorded"
@@ -33,3 +36,15 @@ def write(name, pairs, answers):
 def write_rows(file, content):
     (FOLDER / file).write_text("".join(row + "\n" for row in content))
     print(file, len(content))
+
+
+def line_answer(line):
+    """`refused N`; or side, half points, start and length of the position field, 64 codes in hex from a1, four rights, square, both counters."""
+    try:
+        read = read_line(line)
+    except Refused as refused:
+        return f"refused {refused.number}"
+    codes = "".join(f"{code:x}" for code in read.board)
+    state = read.state
+    rights, square = "".join(str(int(right)) for right in state.rights), "none" if state.passant is None else state.passant
+    return f"{read.side} {read.half_points} {read.start} {read.length} {codes} {rights} {square} {state.halfmoves} {state.moves}"

@@ -12,13 +12,14 @@ from .position import Position, placed
 from .refusal import SCORE, Refused
 from .seeded import from_bits, odd_trace, seeded_trace, seeded_weights, stirred, to_bits
 from .square_weights import PST
+from .state import State
 from .trace import NUMBERS, compute_trace, exact_sum, flattened
 
 
 @lru_cache(maxsize=16)
 def position_of(line):
     read = read_line(line.encode())
-    return placed(read.board, read.side)
+    return placed(read.board, read.state)
 
 
 @lru_cache(maxsize=4)
@@ -75,7 +76,16 @@ def bent(index, bits, square, byte, position):
     bitboards, board = list(position.bitboards), list(position.board)
     bitboards[index] ^= bits
     board[square] = byte
-    return score.eval_position(Position(bitboards, board, position.side))
+    return score.eval_position(Position(bitboards, board, position.state))
+
+
+NO_SQUARE = 255
+
+
+def in_state(side, rights, passant, halfmoves, moves, position):
+    """The score of a position in another state: how RIGHTS, PASSANT and COUNTER are asked for that no line can say."""
+    state = State(side, (rights >> right & 1 == 1 for right in range(4)), None if passant == NO_SQUARE else passant, halfmoves, moves)
+    return score.eval_position(Position(position.bitboards, position.board, state))
 
 
 class Fitting:
@@ -128,6 +138,9 @@ WORDS = {
     "lvp": lambda colour, attacks, occupied, position: least(exchange.lvp(position, colour, attacks, occupied), 1),
     "see_by": lambda order, start, target, position: exchange.see(position, start, target, kinds_of(order)),
     "captures": lambda order, start, target, position: told(*exchange.told(position, start, target, kinds_of(order))),
+    "see_second": lambda order, start, target, position: exchange.see(position, start, target, kinds_of(order), exchange.SECOND),
+    "captures_second": lambda order, start, target, position: told(
+        *exchange.told(position, start, target, kinds_of(order), exchange.SECOND)),
     "lvp_by": lambda order, colour, attacks, occupied, position: least(
         exchange.lvp(position, colour, attacks, occupied, kinds_of(order)), 2),
     "check": lambda colour, position: int(attack.is_check(position, colour)),
@@ -139,6 +152,7 @@ WORDS = {
     "wild": lambda kind, seed, trace_seed: double(kind, seed, seeded_trace(trace_seed)),
     "odd": lambda place, value, kind, seed, trace_seed: double(kind, seed, odd_trace(trace_seed, place, value)),
     "bent": bent,
+    "state": in_state,
     "fit": FITTING.begun,
     "put": FITTING.put,
     "line": FITTING.line,

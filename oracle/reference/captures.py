@@ -1,8 +1,9 @@
-"""Questions about exchanges (02, W-207; docs/CAPTURES.md): one a line on standard input, the captures and the stopping point on standard output."""
+"""Questions about exchanges (02, W-207; docs/CAPTURES.md): one a line on standard input, the captures and the stopping point on standard output; with
+`--second` in W-213's second mode."""
 
 import sys
 
-from .exchange import settled, told
+from .exchange import FIRST, SECOND, settled, told
 from .line import BLANK, lines_of, read_line
 from .pieces import KINDS
 from .position import placed
@@ -26,22 +27,22 @@ def order_of(field):
     return [LETTERS.index(letter) for letter in field]
 
 
-def asked(question):
+def asked(question, mode):
     """The captures that a question asks for, and the stopping point: the line's refusals, then SQUARE, ORDER, MOVE, CROWD."""
     read = read_line(question)
     fields = [field.strip(BLANK) for field in question.split(b";")] + [b"", b""]
     start, target = move_of(fields[2])
-    return told(placed(read.board, read.side), start, target, order_of(fields[3]))
+    return told(placed(read.board, read.state), start, target, order_of(fields[3]), mode)
 
 
 def square_name(square):
     return f"{chr(FILES[square % 8])}{chr(RANKS[square // 8])}"
 
 
-def rows(number, question):
+def rows(number, question, mode):
     """A question's rows, and whether it was told."""
     try:
-        captures, point = asked(question)
+        captures, point = asked(question, mode)
     except Refused as refused:
         return [f"{number} refused {refused.number}"], False
     worth = settled([taken for _, _, taken in captures])
@@ -49,12 +50,15 @@ def rows(number, question):
     return shown + [f"{number} played out worth {worth}" if point is None else f"{number} stop {point} worth {worth}"], True
 
 
-def answers(questions):
-    found = [rows(number, question) for number, question in enumerate(lines_of(questions), 1)]
+def answers(questions, mode=FIRST):
+    found = [rows(number, question, mode) for number, question in enumerate(lines_of(questions), 1)]
     told_all = sum(is_told for _, is_told in found)
     shown = [row for one, _ in found for row in one] + [f"lines {len(found)} told {told_all} refused {len(found) - told_all}"]
     return "".join(row + "\n" for row in shown)
 
 
+MODES = {(): FIRST, ("--second",): SECOND}
+
+
 if __name__ == "__main__":
-    sys.stdout.write(answers(sys.stdin.buffer.read()))
+    sys.stdout.write(answers(sys.stdin.buffer.read(), MODES[tuple(sys.argv[1:])]))

@@ -1,10 +1,15 @@
-"""The least attacker and the exchange (01, "The exchange"), for any order of the kinds (02, W-206)."""
+"""The least attacker and the exchange (01, "The exchange"), for any order of the kinds (02, W-206) and in both modes (W-213)."""
 
 from .attack import attackers, attacks_from
 from .bitboard import count, scan
-from .pieces import COLOURS, EMPTY, KING, KIND_OF_CODE, KINDS, code, value_of
+from .pieces import COLOURS, EMPTY, KING, KIND_OF_CODE, KINDS, PAWN, QUEEN, VALUE, code
 from .position import tested
 from .refusal import CROWD, MOVE, ORDER, SQUARE, refuse_unless
+from .state import passed
+
+# In the first mode there is no promotion and no en passant; the second has both.
+FIRST, SECOND = MODES = range(2)
+PROMOTION = 913
 
 
 def is_order(order):
@@ -28,8 +33,16 @@ def lvp(position, colour, attacks, occupied, order=KINDS):
     return least(position, colour, attacks, occupied, order)
 
 
-def may_capture(position, start, target):
-    """A piece of the side to move on the start, one of the other side on the target, and the first attacks it."""
+def passes(position, start, target):
+    """A pawn of the side to move attacks the en passant square, which is the target."""
+    pawn = code(PAWN, position.side)
+    return target == position.state.passant and position.board[start] == pawn and attacks_from(pawn, start, 0) >> target & 1 == 1
+
+
+def may_capture(position, start, target, mode=FIRST):
+    """A piece of the side to move on the start, one of the other side on the target, and the first attacks it; in the second mode a pawn may pass, too."""
+    if mode == SECOND and passes(position, start, target):
+        return True
     piece, taken = position.board[start], position.board[target]
     if piece == EMPTY or taken == EMPTY or piece % 2 != position.side or taken % 2 == position.side:
         return False
@@ -41,22 +54,29 @@ def crowded(position):
     return count(position.occupied()) > 32 or several
 
 
-def capture_list(position, start, target, order=KINDS):
-    """Each capture's square, kind and the value that it takes: v0 the target, v1 the first capturer, and so on."""
+def capture_list(position, start, target, order=KINDS, mode=FIRST):
+    """Each capture's square, kind and the value that it takes: v0 what is taken first, v1 the first capturer, and so on. In the second mode a passed pawn is v0
+    and leaves with the first capture; a pawn that captures onto the last rank takes 913 more, and is a queen to who takes it."""
     captures = []
-    standing, capturer = position.board[target], (start, KIND_OF_CODE[position.board[start]])
-    side, occupied = position.side, position.occupied()
+    capturer, side, occupied = (start, KIND_OF_CODE[position.board[start]]), position.side, position.occupied()
+    if mode == SECOND and passes(position, start, target):
+        standing = PAWN
+        occupied &= ~(1 << passed(target, side))
+    else:
+        standing = KIND_OF_CODE[position.board[target]]
     while capturer is not None:
-        captures.append((*capturer, value_of(standing)))
-        standing = position.board[capturer[0]]
-        occupied &= ~(1 << capturer[0])
+        square, kind = capturer
+        promotes = mode == SECOND and kind == PAWN and target // 8 == (7, 0)[side]
+        captures.append((square, kind, VALUE[standing] + (PROMOTION if promotes else 0)))
+        standing = QUEEN if promotes else kind
+        occupied &= ~(1 << square)
         side = 1 - side
         capturer = least(position, side, attackers(position, target, occupied), occupied, order)
     return captures
 
 
-def values_taken(position, start, target, order=KINDS):
-    return [taken for _, _, taken in capture_list(position, start, target, order)]
+def values_taken(position, start, target, order=KINDS, mode=FIRST):
+    return [taken for _, _, taken in capture_list(position, start, target, order, mode)]
 
 
 def settled(values):
@@ -67,17 +87,17 @@ def settled(values):
     return s
 
 
-def begins(position, start, target, order):
+def begins(position, start, target, order, mode):
     tested(position)
     refuse_unless(0 <= start <= 63 and 0 <= target <= 63, SQUARE)
     refuse_unless(is_order(order), ORDER)
-    refuse_unless(may_capture(position, start, target), MOVE)
+    refuse_unless(may_capture(position, start, target, mode), MOVE)
     refuse_unless(not crowded(position), CROWD)
 
 
-def see(position, start, target, order=KINDS):
-    begins(position, start, target, order)
-    return settled(values_taken(position, start, target, order))
+def see(position, start, target, order=KINDS, mode=FIRST):
+    begins(position, start, target, order, mode)
+    return settled(values_taken(position, start, target, order, mode))
 
 
 def stop(values):
@@ -85,8 +105,8 @@ def stop(values):
     return next((place for place in range(1, len(values)) if settled(values[place:]) <= 0), None)
 
 
-def told(position, start, target, order=KINDS):
+def told(position, start, target, order=KINDS, mode=FIRST):
     """All captures, and where the exchange stops; what is taken before that adds up to the value."""
-    begins(position, start, target, order)
-    captures = capture_list(position, start, target, order)
+    begins(position, start, target, order, mode)
+    captures = capture_list(position, start, target, order, mode)
     return captures, stop([taken for _, _, taken in captures])

@@ -12,7 +12,7 @@ from .score import eval_position
 def shown(read):
     """The score for the side to move, the verdict, or `over`."""
     try:
-        return eval_position(placed(read.board, read.side))
+        return eval_position(placed(read.board, read.state))
     except Refused:
         return "over"
 
@@ -20,7 +20,7 @@ def shown(read):
 def read_real_play(line):
     """The line's refusals, then the profile's."""
     read = read_line(line)
-    judge(placed(read.board, read.side))
+    judge(placed(read.board, read.state))
     return read
 
 

@@ -1,7 +1,11 @@
-"""One line of a collection (01, "A collection's line"), as bytes without LF and the dropped CR."""
+"""One line of a collection (01, "A collection's line", with 02's W-203 and W-213), as bytes without LF and the dropped CR."""
+
+import re
+from itertools import product
 
 from .pieces import BLACK, EMPTY, LETTERS, WHITE
-from .refusal import BYTE, FIELD, LONG, PLACE, RESULT, SIDE, Refused, refuse_unless
+from .refusal import BYTE, COUNTER, FIELD, LONG, PASSANT, PLACE, RESULT, RIGHTS, SIDE, Refused, refuse_unless
+from .state import State, at_home, counted, just_passed
 
 LONGEST = 256
 BLANK = b" \t\r"
@@ -9,14 +13,22 @@ SIDES = {b"w": WHITE, b"b": BLACK}
 HALF_POINTS = {b"1-0": 2, b"1/2-1/2": 1, b"0-1": 0}
 PIECES = {ord(letter): piece for letter, piece in LETTERS.items()}
 DIGITS = {ord(str(digit)): digit for digit in range(1, 9)}
+# Every word that says rights: `-`, or letters in the order KQkq. Every word that says a square, or none.
+RIGHTS_OF = {"".join(letter for letter, right in zip("KQkq", rights) if right).encode() or b"-": rights
+             for rights in product((False, True), repeat=4)}
+SQUARE_OF = {b"-": None, **{f"{file}{rank}".encode(): files + 8 * ranks
+                            for files, file in enumerate("abcdefgh") for ranks, rank in enumerate("12345678")}}
+# Decimal without leading zeros.
+NUMBER = re.compile(rb"0|[1-9][0-9]*")
 
 
 class Line:
     """What a line that is not refused says."""
 
-    def __init__(self, board, side, half_points, start, length):
+    def __init__(self, board, state, half_points, start, length):
         self.board = board
-        self.side = side
+        self.state = state
+        self.side = state.side
         self.half_points = half_points
         self.start = start
         self.length = length
@@ -43,13 +55,27 @@ def placement(text):
     return [piece for rank in reversed(ranks) for piece in rank]
 
 
+def read_state(words, board):
+    """Side; then nothing, or rights and square, or these and both counters. Each is refused by its text or by its rule before the next is looked at;
+    three fields of a line lack the square, five and more than six are not its counters."""
+    refuse_unless(words and words[0] in SIDES, SIDE)
+    state = State(SIDES[words[0]])
+    if len(words) > 1:
+        refuse_unless(words[1] in RIGHTS_OF and at_home(RIGHTS_OF[words[1]], board), RIGHTS)
+        refuse_unless(len(words) > 2 and words[2] in SQUARE_OF and just_passed(SQUARE_OF[words[2]], state.side, board), PASSANT)
+        state.rights, state.passant = RIGHTS_OF[words[1]], SQUARE_OF[words[2]]
+    if len(words) > 3:
+        refuse_unless(len(words) == 5 and all(NUMBER.fullmatch(word) for word in words[3:]), COUNTER)
+        state.halfmoves, state.moves = (int(word) for word in words[3:])
+        refuse_unless(counted(state.halfmoves, state.moves), COUNTER)
+    return state
+
+
 def position_of(field):
-    """The board and side of a trimmed position field. The ranks end at the first space or the field's end."""
+    """The board and state of a trimmed position field. The ranks end at the first space or the field's end, and spaces alone part what follows."""
     ranks, _, after = field.partition(b" ")
     board = placement(ranks)
-    side = after.lstrip(b" ").split(b" ")[0]
-    refuse_unless(side in SIDES, SIDE)
-    return board, SIDES[side]
+    return board, read_state([word for word in after.split(b" ") if word], board)
 
 
 def read_line(line):
@@ -58,10 +84,10 @@ def read_line(line):
     refuse_unless(b";" in line, FIELD)
     fields = line.split(b";")
     field, result = fields[0].strip(BLANK), fields[1].strip(BLANK)
-    board, side = position_of(field)
+    board, state = position_of(field)
     refuse_unless(result in HALF_POINTS, RESULT)
     start = len(fields[0]) - len(fields[0].lstrip(BLANK))
-    return Line(board, side, HALF_POINTS[result], start, len(field))
+    return Line(board, state, HALF_POINTS[result], start, len(field))
 
 
 def position_field(line):

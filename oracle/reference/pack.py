@@ -8,12 +8,12 @@ from .writer import ended_line, sifted
 
 
 def packed(collection):
-    """The record of each loaded line."""
-    return sifted(lines_of(collection), read_line, record)
+    """The record of each loaded line: pieces, side and half points, and nothing else of it."""
+    return sifted(lines_of(collection), read_line, lambda board, state, half_points: record(board, state.side, half_points))
 
 
 def unpacked(store):
-    """The line of each record that is loaded."""
+    """The line of each record that is loaded: no rights, no square, counters 0 and 1."""
     return sifted(pieces_of(store), read_piece, ended_line)
 
 

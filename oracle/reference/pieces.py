@@ -22,6 +22,3 @@ KIND_OF_CODE = {CODE_OF_KIND[kind] + colour: kind for kind in KINDS for colour i
 def code(kind, colour):
     return CODE_OF_KIND[kind] + colour
 
-
-def value_of(piece):
-    return VALUE[KIND_OF_CODE[piece]]

@@ -1,16 +1,18 @@
-"""A position: 14 bitboards, 64 board bytes, a side; and 01's test of its consistency."""
+"""A position: 14 bitboards, 64 board bytes, a state; and the test of its consistency, 01's and what 02's W-213 adds."""
 
 from .pieces import CODES, COLOURS, EMPTY
 from .refusal import BYTEBOARD, OVERLAP, SHAPE, UNION, refuse_lowest, refuse_unless
+from .state import judge_state
 
 
 class Position:
     """What a caller lends; nothing is promised of it before it is tested."""
 
-    def __init__(self, bitboards, board, side):
+    def __init__(self, bitboards, board, state):
         self.bitboards = bitboards
         self.board = board
-        self.side = side
+        self.state = state
+        self.side = state.side
 
     def occupied(self):
         return self.bitboards[0] | self.bitboards[1]
@@ -19,14 +21,14 @@ class Position:
         return self.bitboards[code]
 
 
-def placed(board, side):
-    """The consistent position that these board bytes make."""
+def placed(board, state):
+    """The position that these board bytes make: consistent as far as pieces go."""
     bitboards = [0] * 14
     for square, piece in enumerate(board):
         if piece != EMPTY:
             bitboards[piece] |= 1 << square
             bitboards[piece % 2] |= 1 << square
-    return Position(bitboards, list(board), side)
+    return Position(bitboards, list(board), state)
 
 
 def has_shape(position):
@@ -63,8 +65,9 @@ def byte_agrees(position, square):
 
 
 def tested(position, *colours):
-    """SHAPE, then OVERLAP, UNION, BYTEBOARD: the first tests of everything that takes a position. Each goes over all squares before the next."""
+    """SHAPE, then OVERLAP, UNION, BYTEBOARD, each over all squares before the next, then RIGHTS, PASSANT, COUNTER: the first tests of every call."""
     refuse_unless(has_shape(position) and all(colour in COLOURS for colour in colours), SHAPE)
     refuse_lowest(overlapping(position), OVERLAP)
     refuse_lowest(split(position), UNION)
     refuse_lowest(disagreeing(position), BYTEBOARD)
+    judge_state(position.state, position.board)

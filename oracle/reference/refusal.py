@@ -1,4 +1,4 @@
-"""The refusals of document 01, "Numbers given back instead", and those of 02 that have landed."""
+"""The refusals of document 01, "Numbers given back instead", and those of 02."""
 
 SHAPE = 1
 # 2 was BOARD. Document 02 has 14 to 16 in its place, and no other refusal has its number.
@@ -11,6 +11,7 @@ ENTRY = 21
 MANY = 22
 ITERATION = 23
 KINGS, PAWNS, PIECES, RANK, CHECK = range(24, 29)
+RIGHTS, PASSANT, COUNTER = range(29, 32)
 ABSENT = 32
 
 

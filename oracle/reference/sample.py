@@ -26,8 +26,8 @@ def sifted(collection):
         try:
             read = read_line(line)
         except Refused:
-            rows.append(row(number, line)[0])
+            rows.append(row(number, line, read_line)[0])
             continue
-        samples.append(sample(placed(read.board, read.side), read.half_points))
+        samples.append(sample(placed(read.board, read.state), read.half_points))
     rows.append(f"lines {len(lines)} loaded {len(samples)} refused {len(lines) - len(samples)}")
     return samples, "".join(text + "\n" for text in rows)

@@ -7,6 +7,7 @@ from .line import Line
 from .pieces import CODES, EMPTY
 from .position import Position, tested
 from .refusal import ABSENT, CODE, LENGTH, RESULT, SHAPE, SIDE, Refused, refuse_lowest, refuse_unless
+from .state import State
 
 SIZE = 34
 
@@ -18,14 +19,14 @@ def record(board, side, half_points):
 
 
 def read_piece(piece):
-    """LENGTH, CODE with the lowest square, SIDE, RESULT."""
+    """LENGTH, CODE with the lowest square, SIDE, RESULT. A record has no rights, square and counters (02, W-213)."""
     refuse_unless(len(piece) == SIZE, LENGTH)
     board = [half for byte in piece[:32] for half in (byte % 16, byte // 16)]
     refuse_lowest([square for square, code in enumerate(board) if code != EMPTY and code not in CODES], CODE)
     side, half_points = piece[32], piece[33]
     refuse_unless(side in (0, 1), SIDE)
     refuse_unless(half_points in (0, 1, 2), RESULT)
-    return Line(board, side, half_points, None, None)
+    return Line(board, State(side), half_points, None, None)
 
 
 def read_record(run, number, bitboards=14, board=64):
@@ -36,12 +37,12 @@ def read_record(run, number, bitboards=14, board=64):
     return read_piece(run[SIZE * number:SIZE * (number + 1)])
 
 
-def write_record(bitboards, board, side, half_points, place):
+def write_record(bitboards, board, state, half_points, place):
     """The position's tests, RESULT, LENGTH of the place; then the record."""
-    tested(Position(bitboards, board, side))
+    tested(Position(bitboards, board, state))
     refuse_unless(half_points in (0, 1, 2), RESULT)
     refuse_unless(place == SIZE, LENGTH)
-    return record(board, side, half_points)
+    return record(board, state.side, half_points)
 
 
 def pieces_of(store):

@@ -38,20 +38,20 @@ def put(run, number, piece):
     return run[:SIZE * number] + piece + run[SIZE * (number + 1):]
 
 
-def add_record(bitboards, board, side, half_points, run, summary):
+def add_record(bitboards, board, state, half_points, run, summary):
     """SHAPE of the summary, what writing a record calls for, LENGTH of the run, MANY, ROOM; then run and summary afterwards."""
     refuse_unless(len(summary) == PLACES, SHAPE)
-    piece = write_record(bitboards, board, side, half_points, SIZE)
+    piece = write_record(bitboards, board, state, half_points, SIZE)
     refuse_unless(len(run) % SIZE == 0, LENGTH)
     refuse_unless(summary[0] < MOST, MANY)
     refuse_unless(summary[0] < len(run) // SIZE, ROOM)
     return put(run, summary[0], piece), moved(summary, piece, 1)
 
 
-def replace_record(bitboards, board, side, half_points, number, run, summary):
+def replace_record(bitboards, board, state, half_points, number, run, summary):
     """SHAPE of the summary, what writing a record and then reading the old one call for, ABSENT of the summary."""
     refuse_unless(len(summary) == PLACES, SHAPE)
-    piece = write_record(bitboards, board, side, half_points, SIZE)
+    piece = write_record(bitboards, board, state, half_points, SIZE)
     read_record(run, number)
     refuse_unless(number < summary[0], ABSENT)
     old = run[SIZE * number:SIZE * (number + 1)]

@@ -1,14 +1,13 @@
-"""The line of a position (02, W-202), and a collection written back in it."""
+"""The line of a position (02, W-202), all six fields of it (W-213), and a collection written back in it."""
 
 import sys
 
-from .line import HALF_POINTS, SIDES, lines_of, read_line
+from .line import HALF_POINTS, RIGHTS_OF, SIDES, SQUARE_OF, lines_of, read_line
 from .pieces import EMPTY, LETTERS
 from .refusal import Refused
 
 LETTER = {piece: letter for letter, piece in LETTERS.items()}
-SIDE = {side: word for word, side in SIDES.items()}
-RESULT = {half: word for word, half in HALF_POINTS.items()}
+SIDE, RESULT, RIGHTS, SQUARE = ({said: word for word, said in words.items()} for words in (SIDES, HALF_POINTS, RIGHTS_OF, SQUARE_OF))
 
 
 def rank_text(codes):
@@ -19,17 +18,19 @@ def rank_text(codes):
     return text
 
 
-def position_text(board, side):
-    ranks = [rank_text(board[first:first + 8]) for first in range(56, -1, -8)]
-    return ("/".join(ranks)).encode() + b" " + SIDE[side]
+def position_text(board, state):
+    """Six fields with one space between them."""
+    ranks = "/".join(rank_text(board[first:first + 8]) for first in range(56, -1, -8))
+    counters = (str(counter).encode() for counter in (state.halfmoves, state.moves))
+    return b" ".join((ranks.encode(), SIDE[state.side], RIGHTS[state.rights], SQUARE[state.passant], *counters))
 
 
-def line_text(board, side, half_points):
-    return position_text(board, side) + b";" + RESULT[half_points]
+def line_text(board, state, half_points):
+    return position_text(board, state) + b";" + RESULT[half_points]
 
 
-def ended_line(board, side, half_points):
-    return line_text(board, side, half_points) + b"\n"
+def ended_line(board, state, half_points):
+    return line_text(board, state, half_points) + b"\n"
 
 
 def sifted(pieces, read, make):
@@ -41,7 +42,7 @@ def sifted(pieces, read, make):
         except Refused as refused:
             rows.append(f"{number} refused {refused.number}\n")
             continue
-        made.append(make(one.board, one.side, one.half_points))
+        made.append(make(one.board, one.state, one.half_points))
     rows.append(f"lines {number} loaded {len(made)} refused {len(rows)}\n")
     return b"".join(made), "".join(rows)
 

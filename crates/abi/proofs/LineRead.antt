@@ -1,41 +1,36 @@
--- How a line that was read passes its door. Assumes nothing.
-use mathlib.Core.Path.{_≡_, refl, ap, _∙_}
-use mathlib.Core.List.{List}
+-- How what a reader says passes its door. Assumes nothing.
+use mathlib.Core.Path.{_≡_, sym, ap, _∙_}
+use mathlib.Core.List.{List, []}
 use Prim.Native.Nat.{ℕ}
-use Rattle.refusal.specs.Answer.{Answer, given, refused}
+use Rattle.refusal.specs.Answer.{Answer}
+use Rattle.refusal.specs.declared.Refusal.{Refusal}
+use Rattle.chess.specs.Named.{white}
+use Rattle.position.specs.Checked.{ofSide}
 use Rattle.position.specs.declared.State.{State}
 use Rattle.line_parse.specs.Line.{Line}
-use Rattle.line_parse.specs.Promises as S
-use Rattle.line.specs.Promises as L
-use Rattle.abi_codes.specs.Codes.{answerNumber, lentAfter}
-use Rattle.abi_codes.proofs.Passed.{met}
-use Rattle.abi.specs.Promises.{ReadsSaid}
+use Rattle.line_parse.specs.Promises.{paper}
 use Rattle.line_parse.specs.declared.Read.{Read}
+use Rattle.line_parse.specs.declared.Read.the-variants.{Position, Refused}
+use Rattle.line.specs.Promises.{Reads}
+use Rattle.abi_codes.specs.Codes.{code, refusalCode}
 use Rattle.abi_codes.specs.declared.Code.{Code}
+use Rattle.abi_states.specs.States.{stateTold}
+use Rattle.abi_states.specs.declared.State.{State as Stated}
+use Rattle.abi.specs.Promises.{lineRecord, GivesLine, ReadsSaid}
+use Rattle.abi.specs.declared.lines.Line.{Line as Told}
 
--- ---- what comes back by value is a part of what the line says
-pub value-code : (a : Answer Line) → answerNumber (S.byValue a) ≡ answerNumber a
-value-code (given l) = refl
-value-code (refused n v) = refl
+-- ---- by value
+pub turned-line : {read : Read} {q : Refusal} → read ≡ Refused q → (n : Code) → n ≡ refusalCode q → (s : State) → s ≡ ofSide white → (t : Stated) → t ≡ stateTold s
+    → GivesLine read (record { code = n; state = t; half = 0 })
+turned-line {q = q} m n h s o t g =
+    (λ i. record { code = h i; state = (g ∙ ap stateTold o) i; half = 0 }) ∙ ap (λ (x : Read). lineRecord (paper x)) (sym m)
 
-pub side-after : (old : ℕ) (a : Answer Line) → lentAfter (λ (p : State × ℕ). p .0 .side) old (S.byValue a) ≡ lentAfter (λ (l : Line). l .state .side) old a
-side-after old (given l) = refl
-side-after old (refused n v) = refl
+pub told-line : {read : Read} {state : State} {half : ℕ} → read ≡ Position state half → (t : Stated) → t ≡ stateTold state
+    → GivesLine read (record { code = code 0 []; state = t; half = half })
+told-line {half = half} m t g =
+    (λ i. record { code = code 0 []; state = g i; half = half }) ∙ ap (λ (x : Read). lineRecord (paper x)) (sym m)
 
-pub half-after : (old : ℕ) (a : Answer Line) → lentAfter (λ (p : State × ℕ). p .1) old (S.byValue a) ≡ lentAfter (λ (l : Line). l .half) old a
-half-after old (given l) = refl
-half-after old (refused n v) = refl
-
-pub line-read : {a : Answer Line} {bitboards board : List ℕ} {side half : ℕ} {r x : Read} {bitboards′ board′ : List ℕ} {n : Code} {side′ half′ : ℕ}
-    → L.Reads a bitboards board r bitboards′ board′ → r ≡ x → n ≡ answerNumber (S.paper x)
-    → side′ ≡ lentAfter (λ (p : State × ℕ). p .0 .side) side (S.paper x) → half′ ≡ lentAfter (λ (p : State × ℕ). p .1) half (S.paper x)
-    → ReadsSaid a bitboards board side half n bitboards′ board′ side′ half′
-line-read {a = a} {side = side} {half = half} p m h g k =
-    let e = met S.paper (p .answer) m in
-    record {
-      code = h ∙ ap answerNumber e ∙ value-code a;
-      boards = p .boards;
-      bytes = p .bytes;
-      lent = g ∙ ap (lentAfter (λ (q : State × ℕ). q .0 .side) side) e ∙ side-after side a;
-      lent2 = k ∙ ap (lentAfter (λ (q : State × ℕ). q .1) half) e ∙ half-after half a;
-    }
+-- ---- and in lent memory
+pub line-read : {a : Answer Line} {bitboards board : List ℕ} {x : Read} {r : Told} {bitboards′ board′ : List ℕ}
+    → Reads a bitboards board x bitboards′ board′ → GivesLine x r → ReadsSaid a bitboards board r bitboards′ board′
+line-read p g = record { said = g ∙ ap lineRecord (p .answer); boards = p .boards; bytes = p .bytes }

@@ -3,7 +3,8 @@ ghost use Rattle.abi.specs.Promises.{EvalsEnding, EvalsMaterial, Evals};
 use crate::GIVEN;
 use abi_codes::Code;
 use abi_codes::refused;
-use position::State;
+use abi_states::State;
+use abi_states::taken;
 use score::Scored;
 use score_material::Material;
 use score_verdict::Ending;
@@ -18,17 +19,17 @@ pub const WON: u8 = 2;
 
 pub const DRAWN: u8 = 3;
 
-// The verdict for the side to move: SHAPE, OVERLAP, UNION, BYTEBOARD.
+// The verdict for the side to move: SHAPE, OVERLAP, UNION, BYTEBOARD, RIGHTS, PASSANT, COUNTER.
 #[no_mangle]
 pub extern "C" fn chess_eval_ending(
     bitboards: &[u64],
     board: &[u8],
-    side: u8,
+    state: State,
     verdict: &mut u8,
 ) -> Code
-    ensures { λ r. ⌜ EvalsEnding (now (bitboards .entry)) (now (board .entry)) side (now (verdict .entry)) r (now (verdict .exit)) ⌝ }
+    ensures { λ r. ⌜ EvalsEnding (now (bitboards .entry)) (now (board .entry)) state (now (verdict .entry)) r (now (verdict .exit)) ⌝ }
 {
-    let answer = score_verdict::eval_ending(bitboards, board, State { side });
+    let answer = score_verdict::eval_ending(bitboards, board, taken(state));
     match answer {
         Ending::Refused(refusal) => refused(refusal),
         Ending::Is(is) => {
@@ -43,18 +44,18 @@ pub extern "C" fn chess_eval_ending(
     }
 }
 
-// What a colour's pieces are worth, without the pair of bishops: SHAPE, OVERLAP, UNION, BYTEBOARD, SCORE.
+// What a colour's pieces are worth, without the pair of bishops: SHAPE, OVERLAP, UNION, BYTEBOARD, RIGHTS, PASSANT, COUNTER, SCORE.
 #[no_mangle]
 pub extern "C" fn chess_eval_material(
     bitboards: &[u64],
     board: &[u8],
-    side: u8,
+    state: State,
     color: u8,
     material: &mut i16,
 ) -> Code
-    ensures { λ r. ⌜ EvalsMaterial (now (bitboards .entry)) (now (board .entry)) side color (now (material .entry)) r (now (material .exit)) ⌝ }
+    ensures { λ r. ⌜ EvalsMaterial (now (bitboards .entry)) (now (board .entry)) state color (now (material .entry)) r (now (material .exit)) ⌝ }
 {
-    let answer = score_material::eval_material(bitboards, board, State { side }, color);
+    let answer = score_material::eval_material(bitboards, board, taken(state), color);
     match answer {
         Material::Refused(refusal) => refused(refusal),
         Material::Is(z) => {
@@ -64,18 +65,18 @@ pub extern "C" fn chess_eval_material(
     }
 }
 
-// The verdict, and beside it 0; or none, and the score for the side to move: SHAPE, OVERLAP, UNION, BYTEBOARD, SCORE.
+// The verdict, and beside it 0; or none, and the score for the side to move: SHAPE, OVERLAP, UNION, BYTEBOARD, RIGHTS, PASSANT, COUNTER, SCORE.
 #[no_mangle]
 pub extern "C" fn chess_eval(
     bitboards: &[u64],
     board: &[u8],
-    side: u8,
+    state: State,
     verdict: &mut u8,
     score: &mut i16,
 ) -> Code
-    ensures { λ r. ⌜ Evals (now (bitboards .entry)) (now (board .entry)) side (now (verdict .entry)) (now (score .entry)) r (now (verdict .exit)) (now (score .exit)) ⌝ }
+    ensures { λ r. ⌜ Evals (now (bitboards .entry)) (now (board .entry)) state (now (verdict .entry)) (now (score .entry)) r (now (verdict .exit)) (now (score .exit)) ⌝ }
 {
-    let answer = score::eval(bitboards, board, State { side });
+    let answer = score::eval(bitboards, board, taken(state));
     match answer {
         Scored::Refused(refusal) => refused(refusal),
         Scored::Lost => {

@@ -5,12 +5,13 @@ use Prim.Native.Nat.{ℕ}
 use Rattle.refusal.proofs.Paper.{one}
 use Rattle.abi_captures.specs.Promises.{TellsCaptures}
 use Rattle.abi_codes.specs.declared.Code.{Code}
+use Rattle.abi_states.specs.declared.State.{State as Stated}
 
-pub captures : (kinds bitboards board : List ℕ) (side from to : ℕ) (squares by taken : List ℕ) (count stop : ℕ) (r s : Code) (a b : List ℕ) (c d : List ℕ) (e f : List ℕ) (g h i j : ℕ)
-    → TellsCaptures kinds bitboards board side from to squares by taken count stop r a c e g i
-    → TellsCaptures kinds bitboards board side from to squares by taken count stop s b d f h j
+pub captures : (number : ℕ) (kinds bitboards board : List ℕ) (state : Stated) (from to : ℕ) (squares by taken : List ℕ) (count stop : ℕ) (r s : Code) (a b : List ℕ) (c d : List ℕ) (e f : List ℕ) (g h i j : ℕ)
+    → TellsCaptures number kinds bitboards board state from to squares by taken count stop r a c e g i
+    → TellsCaptures number kinds bitboards board state from to squares by taken count stop s b d f h j
     → (r ≡ s) × (a ≡ b) × (c ≡ d) × (e ≡ f) × (g ≡ h) × (i ≡ j)
-captures kinds bitboards board side from to squares by taken count stop r s a b c d e f g h i j p q = (
+captures number kinds bitboards board state from to squares by taken count stop r s a b c d e f g h i j p q = (
   one (p .code) (q .code),
   one (p .made-from) (q .made-from),
   one (p .made-by) (q .made-by),

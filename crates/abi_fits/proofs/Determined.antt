@@ -9,14 +9,15 @@ use Rattle.abi_codes.proofs.Determined.{door}
 use Rattle.abi_fits.specs.Promises.{ComputesTrace, EvalsTrace, AddsGradient, StepsAdam, Ships}
 use Rattle.fit_adam.specs.Adam.{Fit}
 use Rattle.abi_codes.specs.declared.Code.{Code}
+use Rattle.abi_states.specs.declared.State.{State as Stated}
 
 -- ---- traces
-pub compute-trace : (bitboards board : List ℕ) (side : ℕ) (counts mobility : List ℤ) (sign pieces : ℤ) (entries : List ℤ)
+pub compute-trace : (bitboards board : List ℕ) (state : Stated) (counts mobility : List ℤ) (sign pieces : ℤ) (entries : List ℤ)
     (r s : Code) (c d m n : List ℤ) (t u p q : ℤ) (v w : List ℤ)
-    → ComputesTrace bitboards board side counts mobility sign pieces entries r c m t p v
-    → ComputesTrace bitboards board side counts mobility sign pieces entries s d n u q w
+    → ComputesTrace bitboards board state counts mobility sign pieces entries r c m t p v
+    → ComputesTrace bitboards board state counts mobility sign pieces entries s d n u q w
     → (r ≡ s) × (c ≡ d) × (m ≡ n) × (t ≡ u) × (p ≡ q) × (v ≡ w)
-compute-trace bitboards board side counts mobility sign pieces entries r s c d m n t u p q v w x y = (
+compute-trace bitboards board state counts mobility sign pieces entries r s c d m n t u p q v w x y = (
   one (x .code) (y .code),
   one (x .counted) (y .counted),
   one (x .moved) (y .moved),

@@ -4,7 +4,6 @@ use mathlib.Core.List.{List}
 use Prim.Native.Nat.{ℕ}
 use lib.Ieee.{Float}
 use lib.IntN.{ℤ}
-use Rattle.position.specs.Checked.{ofSide}
 use Rattle.trace_counts.specs.declared.Trace.{Trace}
 use Rattle.trace_double.specs.Promises.{doubleOf}
 use Rattle.trace.specs.Promises.{tracedOf, entriesAfter}
@@ -15,16 +14,18 @@ use Rattle.fit_adam.specs.Promises.{fitFrom, fitAfter, fitStep}
 use Rattle.abi_codes.specs.Codes.{answerNumber, lentAfter, Door, asItIs}
 use Rattle.abi_records.specs.Records.{countsOf, traceOfNumbers, namedOf, weightsOf}
 use Rattle.abi_codes.specs.declared.Code.{Code}
+use Rattle.abi_states.specs.States.{stateTaken}
+use Rattle.abi_states.specs.declared.State.{State as Stated}
 
 -- ---- traces
-pub record ComputesTrace (bitboards board : List ℕ) (side : ℕ) (counts mobility : List ℤ) (sign pieces : ℤ) (entries : List ℤ)
+pub record ComputesTrace (bitboards board : List ℕ) (state : Stated) (counts mobility : List ℤ) (sign pieces : ℤ) (entries : List ℤ)
     (r : Code) (counts′ mobility′ : List ℤ) (sign′ pieces′ : ℤ) (entries′ : List ℤ) : Type 0 where
-  pub code : r ≡ answerNumber (tracedOf bitboards board (ofSide side) entries)
-  pub counted : counts′ ≡ lentAfter countsOf counts (tracedOf bitboards board (ofSide side) entries)
-  pub moved : mobility′ ≡ lentAfter (λ (t : Trace). t .mobility) mobility (tracedOf bitboards board (ofSide side) entries)
-  pub turn : sign′ ≡ lentAfter (λ (t : Trace). t .side) sign (tracedOf bitboards board (ofSide side) entries)
-  pub total : pieces′ ≡ lentAfter (λ (t : Trace). t .«piece_count») pieces (tracedOf bitboards board (ofSide side) entries)
-  pub marked : entries′ ≡ entriesAfter (tracedOf bitboards board (ofSide side) entries) bitboards entries
+  pub code : r ≡ answerNumber (tracedOf bitboards board (stateTaken state) entries)
+  pub counted : counts′ ≡ lentAfter countsOf counts (tracedOf bitboards board (stateTaken state) entries)
+  pub moved : mobility′ ≡ lentAfter (λ (t : Trace). t .mobility) mobility (tracedOf bitboards board (stateTaken state) entries)
+  pub turn : sign′ ≡ lentAfter (λ (t : Trace). t .side) sign (tracedOf bitboards board (stateTaken state) entries)
+  pub total : pieces′ ≡ lentAfter (λ (t : Trace). t .«piece_count») pieces (tracedOf bitboards board (stateTaken state) entries)
+  pub marked : entries′ ≡ entriesAfter (tracedOf bitboards board (stateTaken state) entries) bitboards entries
 
 abbrev pub EvalsTrace : List ℤ → List ℤ → ℤ → ℤ → List ℤ → List Float → List Float → Float → Code → Float → Type 0
 EvalsTrace counts mobility sign pieces entries weights squares value r value′ =

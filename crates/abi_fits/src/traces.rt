@@ -6,26 +6,27 @@ use abi_codes::refused;
 use abi_records::COUNTS;
 use abi_records::MOBILITY;
 use abi_records::NAMED;
+use abi_states::State;
+use abi_states::taken;
 use position::Checked;
-use position::State;
 use trace_double::Doubled;
 use trace_shipped::Written;
 
-// The trace of a position: SHAPE, also where there are not 768 entries, OVERLAP, UNION, BYTEBOARD.
+// The trace of a position: SHAPE, also where there are not 768 entries, OVERLAP, UNION, BYTEBOARD, RIGHTS, PASSANT, COUNTER.
 #[no_mangle]
 pub extern "C" fn chess_compute_trace(
     bitboards: &[u64],
     board: &[u8],
-    side: u8,
+    state: State,
     counts: &mut [i32; COUNTS],
     mobility: &mut [i32; MOBILITY],
     sign: &mut i32,
     pieces: &mut i32,
     entries: &mut [i32],
 ) -> Code
-    ensures { λ r. ⌜ ComputesTrace (now (bitboards .entry)) (now (board .entry)) side (now (counts .entry)) (now (mobility .entry)) (now (sign .entry)) (now (pieces .entry)) (now (entries .entry)) r (now (counts .exit)) (now (mobility .exit)) (now (sign .exit)) (now (pieces .exit)) (now (entries .exit)) ⌝ }
+    ensures { λ r. ⌜ ComputesTrace (now (bitboards .entry)) (now (board .entry)) state (now (counts .entry)) (now (mobility .entry)) (now (sign .entry)) (now (pieces .entry)) (now (entries .entry)) r (now (counts .exit)) (now (mobility .exit)) (now (sign .exit)) (now (pieces .exit)) (now (entries .exit)) ⌝ }
 {
-    let traced = trace::compute_trace(bitboards, board, State { side }, entries);
+    let traced = trace::compute_trace(bitboards, board, taken(state), entries);
     let checked = traced.checked;
     if let Checked::Refused(refusal) = checked {
         return refused(refusal);

@@ -8,6 +8,7 @@ use Rattle.refusal.proofs.Paper.{one}
 use Rattle.abi_codes.proofs.Determined.{door}
 use Rattle.abi_lists.specs.Promises.{EvalsList, ListsTrace, FlattensList, ComputesTraceList, AddsTraceList}
 use Rattle.abi_codes.specs.declared.Code.{Code}
+use Rattle.abi_states.specs.declared.State.{State as Stated}
 
 pub list-eval : (counts mobility : List ℤ) (sign total : ℤ) (used : ℕ) (list : List ℕ) (weights squares : List Float) (value : Float) (r s : Code) (v w : Float)
     → EvalsList counts mobility sign total used list weights squares value r v
@@ -26,12 +27,12 @@ pub list-add : (counts mobility : List ℤ) (sign total : ℤ) (used : ℕ) (lis
     → AddsTraceList counts mobility sign total used list c gradient r g → AddsTraceList counts mobility sign total used list c gradient s h → (r ≡ s) × (g ≡ h)
 list-add counts mobility sign total used list c gradient r s g h = door
 
-pub compute-list : (bitboards board : List ℕ) (side : ℕ) (counts mobility : List ℤ) (sign total : ℤ) (used : ℕ) (list : List ℕ)
+pub compute-list : (bitboards board : List ℕ) (state : Stated) (counts mobility : List ℤ) (sign total : ℤ) (used : ℕ) (list : List ℕ)
     (r s : Code) (c d m n : List ℤ) (t u p q : ℤ) (i j : ℕ) (k l : List ℕ)
-    → ComputesTraceList bitboards board side counts mobility sign total used list r c m t p i k
-    → ComputesTraceList bitboards board side counts mobility sign total used list s d n u q j l
+    → ComputesTraceList bitboards board state counts mobility sign total used list r c m t p i k
+    → ComputesTraceList bitboards board state counts mobility sign total used list s d n u q j l
     → (r ≡ s) × (c ≡ d) × (m ≡ n) × (t ≡ u) × (p ≡ q) × (i ≡ j) × (k ≡ l)
-compute-list bitboards board side counts mobility sign total used list r s c d m n t u p q i j k l x y = (
+compute-list bitboards board state counts mobility sign total used list r s c d m n t u p q i j k l x y = (
   one (x .code) (y .code),
   one (x .counted) (y .counted),
   one (x .moved) (y .moved),

@@ -5,7 +5,7 @@ use Prim.Native.Nat.{ℕ}
 use lib.Ieee.{Float}
 use lib.IntN.{ℤ}
 use Rattle.refusal.specs.Answer.{Answer, given, refused}
-use Rattle.position.specs.Checked.{ofSide}
+use Rattle.position.specs.declared.State.{State}
 use Rattle.score_material.specs.Pieces.{pieces}
 use Rattle.trace_counts.specs.declared.Trace.{Trace}
 use Rattle.trace_list_turn.specs.Promises as T
@@ -15,6 +15,8 @@ use Rattle.trace_list_computed.specs.Promises.{listTracedOf, usedAfter, listAft
 use Rattle.fit_gradient.specs.Promises as G
 use Rattle.fit_gradient.specs.Lists as L
 use Rattle.fit_gradient.specs.declared.Added.{Added}
+use Rattle.abi_states.specs.States.{stateTaken}
+use Rattle.abi_states.specs.declared.State.{State as Stated}
 use Rattle.abi_codes.specs.Codes.{answerNumber, lentAfter, Door, asItIs}
 use Rattle.abi_records.specs.Records.{countsOf, traceOfNumbers}
 use Rattle.abi_fits.proofs.Fitted.{sums-code, sums-after}
@@ -58,19 +60,21 @@ many-after : (a : Answer Trace) (bbs : List ℕ) (used used′ n : ℕ) → n �
 many-after (given t) bbs used used′ n e h = h ∙ e
 many-after (refused m l) bbs used used′ n e h = h
 
-pub traced : (bbs bytes : List ℕ) (side : ℕ) {counts mobility : List ℤ} {sign total : ℤ} {used : ℕ} {list : List ℕ}
+pub traced : (bbs bytes : List ℕ) (state : Stated) {taken : State} {counts mobility : List ℤ} {sign total : ℤ} {used : ℕ} {list : List ℕ}
     {x : Answer Trace} {n : Code} {counts′ mobility′ : List ℤ} {sign′ total′ : ℤ} {used′ : ℕ} {list′ : List ℕ} (m : ℕ)
-    → x ≡ listTracedOf bbs bytes (ofSide side) → n ≡ answerNumber x → counts′ ≡ lentAfter countsOf counts x → mobility′ ≡ lentAfter (λ (t : Trace). t .mobility) mobility x
+    → taken ≡ stateTaken state → x ≡ listTracedOf bbs bytes taken → n ≡ answerNumber x → counts′ ≡ lentAfter countsOf counts x → mobility′ ≡ lentAfter (λ (t : Trace). t .mobility) mobility x
     → sign′ ≡ lentAfter (λ (t : Trace). t .side) sign x → total′ ≡ lentAfter (λ (t : Trace). t .«piece_count») total x
-    → used′ ≡ lentAfter (λ (t : Trace). m) used x → m ≡ usedAfter (listTracedOf bbs bytes (ofSide side)) bbs
-    → list′ ≡ listAfter (listTracedOf bbs bytes (ofSide side)) bbs list
-    → ComputesTraceList bbs bytes side counts mobility sign total used list n counts′ mobility′ sign′ total′ used′ list′
-traced bbs bytes side {counts} {mobility} {sign} {total} {used} {used′ = used′} m e h g o s p u v k = record {
-  code = h ∙ ap answerNumber e;
-  counted = g ∙ ap (lentAfter countsOf counts) e;
-  moved = o ∙ ap (lentAfter (λ (t : Trace). t .mobility) mobility) e;
-  turn = s ∙ ap (lentAfter (λ (t : Trace). t .side) sign) e;
-  whole = p ∙ ap (lentAfter (λ (t : Trace). t .«piece_count») total) e;
-  many = many-after (listTracedOf bbs bytes (ofSide side)) bbs used used′ m v (u ∙ ap (lentAfter (λ (t : Trace). m) used) e);
-  lent = k;
-}
+    → used′ ≡ lentAfter (λ (t : Trace). m) used x → m ≡ usedAfter (listTracedOf bbs bytes taken) bbs
+    → list′ ≡ listAfter (listTracedOf bbs bytes taken) bbs list
+    → ComputesTraceList bbs bytes state counts mobility sign total used list n counts′ mobility′ sign′ total′ used′ list′
+traced bbs bytes state {counts = counts} {mobility = mobility} {sign = sign} {total = total} {used = used} {list = list} {used′ = used′} m t q h g o s p u v k =
+    let e = q ∙ ap (listTracedOf bbs bytes) t in
+    record {
+      code = h ∙ ap answerNumber e;
+      counted = g ∙ ap (lentAfter countsOf counts) e;
+      moved = o ∙ ap (lentAfter (λ (t : Trace). t .mobility) mobility) e;
+      turn = s ∙ ap (lentAfter (λ (t : Trace). t .side) sign) e;
+      whole = p ∙ ap (lentAfter (λ (t : Trace). t .«piece_count») total) e;
+      many = many-after (listTracedOf bbs bytes (stateTaken state)) bbs used used′ m (v ∙ ap (λ (y : State). usedAfter (listTracedOf bbs bytes y) bbs) t) (u ∙ ap (lentAfter (λ (t : Trace). m) used) e);
+      lent = k ∙ ap (λ (y : State). listAfter (listTracedOf bbs bytes y) bbs list) t;
+    }

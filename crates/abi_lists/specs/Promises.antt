@@ -4,7 +4,6 @@ use mathlib.Core.List.{List}
 use Prim.Native.Nat.{ℕ}
 use lib.Ieee.{Float}
 use lib.IntN.{ℤ}
-use Rattle.position.specs.Checked.{ofSide}
 use Rattle.score_material.specs.Pieces.{pieces}
 use Rattle.trace_counts.specs.declared.Trace.{Trace}
 use Rattle.trace_list_double.specs.Promises.{listDoubleOf}
@@ -14,6 +13,8 @@ use Rattle.fit_gradient.specs.Lists.{listAddedOf}
 use Rattle.abi_codes.specs.Codes.{answerNumber, lentAfter, Door, asItIs}
 use Rattle.abi_records.specs.Records.{countsOf, traceOfNumbers, weightsOf}
 use Rattle.abi_codes.specs.declared.Code.{Code}
+use Rattle.abi_states.specs.States.{stateTaken}
+use Rattle.abi_states.specs.declared.State.{State as Stated}
 
 abbrev pub EvalsList : List ℤ → List ℤ → ℤ → ℤ → ℕ → List ℕ → List Float → List Float → Float → Code → Float → Type 0
 EvalsList counts mobility sign total used list weights squares value r value′ =
@@ -32,12 +33,12 @@ abbrev pub AddsTraceList : List ℤ → List ℤ → ℤ → ℤ → ℕ → Lis
 AddsTraceList counts mobility sign total used list c gradient r gradient′ =
     Door (listAddedOf (traceOfNumbers counts mobility sign total) used list c gradient) asItIs gradient r gradient′
 
-pub record ComputesTraceList (bitboards board : List ℕ) (side : ℕ) (counts mobility : List ℤ) (sign total : ℤ) (used : ℕ) (list : List ℕ)
+pub record ComputesTraceList (bitboards board : List ℕ) (state : Stated) (counts mobility : List ℤ) (sign total : ℤ) (used : ℕ) (list : List ℕ)
     (r : Code) (counts′ mobility′ : List ℤ) (sign′ total′ : ℤ) (used′ : ℕ) (list′ : List ℕ) : Type 0 where
-  pub code : r ≡ answerNumber (listTracedOf bitboards board (ofSide side))
-  pub counted : counts′ ≡ lentAfter countsOf counts (listTracedOf bitboards board (ofSide side))
-  pub moved : mobility′ ≡ lentAfter (λ (t : Trace). t .mobility) mobility (listTracedOf bitboards board (ofSide side))
-  pub turn : sign′ ≡ lentAfter (λ (t : Trace). t .side) sign (listTracedOf bitboards board (ofSide side))
-  pub whole : total′ ≡ lentAfter (λ (t : Trace). t .«piece_count») total (listTracedOf bitboards board (ofSide side))
-  pub many : used′ ≡ lentAfter (λ (t : Trace). pieces bitboards) used (listTracedOf bitboards board (ofSide side))
-  pub lent : list′ ≡ listAfter (listTracedOf bitboards board (ofSide side)) bitboards list
+  pub code : r ≡ answerNumber (listTracedOf bitboards board (stateTaken state))
+  pub counted : counts′ ≡ lentAfter countsOf counts (listTracedOf bitboards board (stateTaken state))
+  pub moved : mobility′ ≡ lentAfter (λ (t : Trace). t .mobility) mobility (listTracedOf bitboards board (stateTaken state))
+  pub turn : sign′ ≡ lentAfter (λ (t : Trace). t .side) sign (listTracedOf bitboards board (stateTaken state))
+  pub whole : total′ ≡ lentAfter (λ (t : Trace). t .«piece_count») total (listTracedOf bitboards board (stateTaken state))
+  pub many : used′ ≡ lentAfter (λ (t : Trace). pieces bitboards) used (listTracedOf bitboards board (stateTaken state))
+  pub lent : list′ ≡ listAfter (listTracedOf bitboards board (stateTaken state)) bitboards list

@@ -6,9 +6,10 @@ use abi_codes::refused;
 use abi_records::COUNTS;
 use abi_records::MOBILITY;
 use abi_records::NAMED;
+use abi_states::State;
+use abi_states::taken;
 use fit_gradient::Added;
 use position::Checked;
-use position::State;
 use trace_double::Doubled;
 use trace_list::BYTES;
 use trace_list_turn::Flattened;
@@ -111,12 +112,12 @@ pub extern "C" fn chess_list_add(
     }
 }
 
-// The trace of a position as a list: SHAPE, OVERLAP, UNION, BYTEBOARD.
+// The trace of a position as a list: SHAPE, OVERLAP, UNION, BYTEBOARD, RIGHTS, PASSANT, COUNTER.
 #[no_mangle]
 pub extern "C" fn chess_compute_list(
     bitboards: &[u64],
     board: &[u8],
-    side: u8,
+    state: State,
     counts: &mut [i32; COUNTS],
     mobility: &mut [i32; MOBILITY],
     sign: &mut i32,
@@ -124,9 +125,9 @@ pub extern "C" fn chess_compute_list(
     used: &mut u8,
     list: &mut [u8; BYTES],
 ) -> Code
-    ensures { λ r. ⌜ ComputesTraceList (now (bitboards .entry)) (now (board .entry)) side (now (counts .entry)) (now (mobility .entry)) (now (sign .entry)) (now (pieces .entry)) (now (used .entry)) (now (list .entry)) r (now (counts .exit)) (now (mobility .exit)) (now (sign .exit)) (now (pieces .exit)) (now (used .exit)) (now (list .exit)) ⌝ }
+    ensures { λ r. ⌜ ComputesTraceList (now (bitboards .entry)) (now (board .entry)) state (now (counts .entry)) (now (mobility .entry)) (now (sign .entry)) (now (pieces .entry)) (now (used .entry)) (now (list .entry)) r (now (counts .exit)) (now (mobility .exit)) (now (sign .exit)) (now (pieces .exit)) (now (used .exit)) (now (list .exit)) ⌝ }
 {
-    let traced = trace_list_computed::compute_list(bitboards, board, State { side }, list);
+    let traced = trace_list_computed::compute_list(bitboards, board, taken(state), list);
     let checked = traced.checked;
     if let Checked::Refused(refusal) = checked {
         return refused(refusal);

@@ -4,13 +4,13 @@ use mathlib.Core.List.{List}
 use Prim.Native.Nat.{ℕ}
 use Rattle.refusal.proofs.Paper.{one}
 use Rattle.abi_codes.specs.declared.Code.{Code}
+use Rattle.abi_states.specs.declared.State.{State as Stated}
+use Rattle.abi.specs.declared.lines.Line.{Line}
 use Rattle.abi_profiles.specs.Promises.{JudgesDoor, ReadsDoor}
 
-pub chess-profile : (bitboards board : List ℕ) (side : ℕ) (r s : Code) → JudgesDoor bitboards board side r → JudgesDoor bitboards board side s → r ≡ s
-chess-profile bitboards board side r s p q = one p q
+pub chess-profile : (bitboards board : List ℕ) (state : Stated) (r s : Code) → JudgesDoor bitboards board state r → JudgesDoor bitboards board state s → r ≡ s
+chess-profile bitboards board state r s p q = one p q
 
-pub chess-read-profile : (line bitboards board : List ℕ) (side half : ℕ) (r s : Code) (b b′ y y′ : List ℕ) (v w h k : ℕ)
-    → ReadsDoor line bitboards board side half r b y v h → ReadsDoor line bitboards board side half s b′ y′ w k
-    → (r ≡ s) × (b ≡ b′) × (y ≡ y′) × (v ≡ w) × (h ≡ k)
-chess-read-profile line bitboards board side half r s b b′ y y′ v w h k p q =
-    (one (p .code) (q .code), one (p .boards) (q .boards), one (p .bytes) (q .bytes), one (p .lent) (q .lent), one (p .lent2) (q .lent2))
+pub chess-read-profile : (line bitboards board : List ℕ) (r s : Line) (b b′ y y′ : List ℕ) → ReadsDoor line bitboards board r b y
+    → ReadsDoor line bitboards board s b′ y′ → (r ≡ s) × (b ≡ b′) × (y ≡ y′)
+chess-read-profile line bitboards board r s b b′ y y′ p q = (one (p .said) (q .said), one (p .boards) (q .boards), one (p .bytes) (q .bytes))

@@ -1,47 +1,39 @@
 // The doors for C and Rust to the records of a store. Each gives 0, or a refusal and changes nothing.
 ghost use Rattle.abi_stores.specs.Promises.{RecordRead, RecordWritten};
+use abi::lines::Line;
+use abi::lines::line_of;
 use abi_codes::Code;
 use abi_codes::GIVEN;
 use abi_codes::refused;
-use line_parse::Read;
-use position::State;
+use abi_states::State;
+use abi_states::taken;
 use store_record::Stored;
 
-// The position, the side to move and the half points of a record, by its number from 0: SHAPE, LENGTH, ABSENT, CODE, SIDE, RESULT.
+// The position, its state and the half points of a record, by its number from 0: SHAPE, LENGTH, ABSENT, CODE, SIDE, RESULT.
 #[no_mangle]
 pub extern "C" fn chess_read_record(
     run: &[u8],
     number: u64,
     bitboards: &mut [u64],
     board: &mut [u8],
-    side: &mut u8,
-    half: &mut u8,
-) -> Code
-    ensures { λ r. ⌜ RecordRead (now (run .entry)) number (now (bitboards .entry)) (now (board .entry)) (now (side .entry)) (now (half .entry)) r (now (bitboards .exit)) (now (board .exit)) (now (side .exit)) (now (half .exit)) ⌝ }
+) -> Line
+    ensures { λ r. ⌜ RecordRead (now (run .entry)) number (now (bitboards .entry)) (now (board .entry)) r (now (bitboards .exit)) (now (board .exit)) ⌝ }
 {
-    let answer = store_record::read_record(run, number, bitboards, board);
-    match answer {
-        Read::Refused(refusal) => refused(refusal),
-        Read::Position(state, points) => {
-            *side = state.side;
-            *half = points;
-            GIVEN
-        }
-    }
+    line_of(store_record::read_record(run, number, bitboards, board))
 }
 
-// The 34 bytes of a position and its half points, in the lent place: SHAPE, OVERLAP, UNION, BYTEBOARD, RESULT, LENGTH.
+// The 34 bytes of a position and its half points, in the lent place: SHAPE, OVERLAP, UNION, BYTEBOARD, RIGHTS, PASSANT, COUNTER, RESULT, LENGTH.
 #[no_mangle]
 pub extern "C" fn chess_write_record(
     bitboards: &[u64],
     board: &[u8],
-    side: u8,
+    state: State,
     half: u8,
     place: &mut [u8],
 ) -> Code
-    ensures { λ r. ⌜ RecordWritten (now (bitboards .entry)) (now (board .entry)) side half (now (place .entry)) r (now (place .exit)) ⌝ }
+    ensures { λ r. ⌜ RecordWritten (now (bitboards .entry)) (now (board .entry)) state half (now (place .entry)) r (now (place .exit)) ⌝ }
 {
-    let answer = store_record::write_record(bitboards, board, State { side }, half, place);
+    let answer = store_record::write_record(bitboards, board, taken(state), half, place);
     match answer {
         Stored::Done => GIVEN,
         Stored::Refused(refusal) => refused(refusal),

@@ -26,6 +26,7 @@ use Rattle.line.specs.declared.inner.Loaded.{Loaded}
 use Rattle.line_held.specs.Held.{saidOf, ReadsHeld}
 use Rattle.text_out.specs.Text.{Puts}
 use Rattle.text_out.specs.declared.Placed.{Placed}
+use Rattle.exchange_start.specs.declared.Mode.{Mode}
 use Rattle.exchange_start.proofs.Begun.{knows, tells, passes-on, a-side, from-on}
 use Rattle.exchange_value.specs.Settled.{settled}
 use Rattle.exchange_value.specs.declared.inner.Stopped.{Stopped}
@@ -65,26 +66,26 @@ put-refused old new at number checked l stop p q e h =
     subst (λ (x : Checked). PutsRow old new at (Position.paper x) (checkedRows number x l stop) (record { placed = p; loaded = false })) (sym e) (record { puts = h; loaded = refl })
 
 -- ---- what the door tells
-module _ (kinds bbs bytes : List ℕ) (state : State) (from to : ℕ) (r : Told) (promise : Captures kinds bbs bytes state from to r) where
+module _ (mode : Mode) (kinds bbs bytes : List ℕ) (state : State) (from to : ℕ) (r : Told) (promise : Captures mode kinds bbs bytes state from to r) where
   cs : List Capture
-  cs = capturesOf kinds bbs bytes (state .side) from to
+  cs = capturesOf mode kinds bbs bytes state from to
 
   a : Answer (List Capture)
-  a = toldOf kinds bbs bytes state from to
+  a = toldOf mode kinds bbs bytes state from to
 
   answered : r .checked ≡ C.Fit → a ≡ given cs
   unfolding cs a
-  answered e = told-is kinds bbs bytes state from to ∙ sym (tells kinds bbs bytes state from to (r .checked) (promise .0) cs e)
+  answered e = told-is mode kinds bbs bytes state from to ∙ sym (tells mode kinds bbs bytes state from to (r .checked) (promise .0) cs e)
 
   turned-away : (q : Refusal) → r .checked ≡ C.Refused q → a ≡ refusalOf q
   unfolding cs a
-  turned-away q e = told-is kinds bbs bytes state from to ∙ sym (passes-on kinds bbs bytes state from to (r .checked) (promise .0) cs q e)
+  turned-away q e = told-is mode kinds bbs bytes state from to ∙ sym (passes-on mode kinds bbs bytes state from to (r .checked) (promise .0) cs q e)
 
   short : r .checked ≡ C.Fit → length cs ≤ 32
   unfolding cs
   short e =
-      let b = knows kinds bbs bytes state from to (r .checked) (promise .0) e in
-      subst (λ (l : List Capture). length l ≤ 32) (all-listed kinds bbs bytes (state .side) from to (from-on b) (a-side b) (b .may) (b .few)) (at-most-32 kinds bbs bytes (state .side) from to)
+      let b = knows mode kinds bbs bytes state from to (r .checked) (promise .0) e in
+      subst (λ (l : List Capture). length l ≤ 32) (all-listed mode kinds bbs bytes state from to (from-on b) (a-side b) (b .may) (b .few)) (at-most-32 mode kinds bbs bytes state from to)
 
   holds : (l : List Capture) → theCaptures a ≡ l → HoldsCaptures l (r .listed)
   unfolding a
@@ -118,7 +119,7 @@ module _ (kinds bbs bytes : List ℕ) (state : State) (from to : ℕ) (r : Told)
       (ap₂ (stopRow number) (promise .2 ∙ ap theStop t)
       (ap settled (ap₂ (λ (n : ℕ) (l : List ℕ). take n l) (h .0) (h .3) ∙ column-taken (λ c. c .taken) 32 cs few)))
 
-  pub rows-told : (number : ℕ) → checkedRows number (r .checked) (r .listed) (r .stop) ≡ answerRows number (toldOf kinds bbs bytes state from to)
+  pub rows-told : (number : ℕ) → checkedRows number (r .checked) (r .listed) (r .stop) ≡ answerRows number (toldOf mode kinds bbs bytes state from to)
   unfolding a
   rows-told number = go (r .checked) refl
     where
@@ -126,7 +127,7 @@ module _ (kinds bbs bytes : List ℕ) (state : State) (from to : ℕ) (r : Told)
       go C.Fit e = rows-fit e number ∙ sym (ap (answerRows number) (answered e))
       go (C.Refused q) e = sym (ap (answerRows number) (turned-away q e))
 
-  pub is-told : isLoaded (Position.paper (r .checked)) ≡ isLoaded (toldOf kinds bbs bytes state from to)
+  pub is-told : isLoaded (Position.paper (r .checked)) ≡ isLoaded (toldOf mode kinds bbs bytes state from to)
   unfolding a
   is-told = go (r .checked) refl
     where
@@ -135,27 +136,27 @@ module _ (kinds bbs bytes : List ℕ) (state : State) (from to : ℕ) (r : Told)
       go (C.Refused q) e = sym (ap isLoaded (turned-away q e))
 
 -- ---- what was read of the line
-abbrev asked : List ℕ → Answer Line → Answer (List Capture)
-asked q said = answerTo (kindsIn (orderField q)) (nthSquare (moveField q) 0) (nthSquare (moveField q) 2) said
+abbrev asked : Mode → List ℕ → Answer Line → Answer (List Capture)
+asked mode q said = answerTo mode (kindsIn (orderField q)) (nthSquare (moveField q) 0) (nthSquare (moveField q) 2) said
 
-asked-held : (line : List ℕ) (size : ℕ) → asked (take size line) (saidOf line size) ≡ heldAnswer line size
-asked-held line size = go (ltb (length line) size)
+asked-held : (mode : Mode) (line : List ℕ) (size : ℕ) → asked mode (take size line) (saidOf line size) ≡ heldAnswer mode line size
+asked-held mode line size = go (ltb (length line) size)
   where
-    go : (t : Bool) → asked (take size line) (cond t (refusalOf R.Long) (lineOf (take size line))) ≡ cond t (refusalOf R.Long) (questionOf (take size line))
+    go : (t : Bool) → asked mode (take size line) (cond t (refusalOf R.Long) (lineOf (take size line))) ≡ cond t (refusalOf R.Long) (questionOf mode (take size line))
     go true = refl
     go false = refl
 
-module _ (line : List ℕ) (size : ℕ) (read : Loaded) (reads : ReadsHeld line size read) where
+module _ (mode : Mode) (line : List ℕ) (size : ℕ) (read : Loaded) (reads : ReadsHeld line size read) where
   abbrev Row-of : List ℕ → List ℕ → ℕ → ℕ → Answer (List Capture) → Row → Type 0
   Row-of old new at number said r = PutsRow old new at said (answerRows number said) r
 
   pub line-refused : (q : Refusal) → read .answer ≡ Refused q → (old new : List ℕ) (at number : ℕ) (p : Placed)
-      → Puts old new at (refusedRow number (numberOf q)) p → AnswersHeld old new at number line size (record { placed = p; loaded = false })
+      → Puts old new at (refusedRow number (numberOf q)) p → AnswersHeld mode old new at number line size (record { placed = p; loaded = false })
   line-refused q told old new at number p h =
-      subst (λ (x : Answer (List Capture)). Row-of old new at number x (record { placed = p; loaded = false })) (go (saidOf line size) (sym (ap paper told) ∙ reads .answer) ∙ asked-held line size)
+      subst (λ (x : Answer (List Capture)). Row-of old new at number x (record { placed = p; loaded = false })) (go (saidOf line size) (sym (ap paper told) ∙ reads .answer) ∙ asked-held mode line size)
       (record { puts = h; loaded = refl })
     where
-      go : (s : Answer Line) → refusalOf q ≡ byValue s → refusalOf q ≡ asked (take size line) s
+      go : (s : Answer Line) → refusalOf q ≡ byValue s → refusalOf q ≡ asked mode (take size line) s
       go (given l) e = given-not (sym e)
       go (refused n v) e =
           let a : numberOf q ≡ n = cc in
@@ -171,11 +172,11 @@ module _ (line : List ℕ) (size : ℕ) (read : Loaded) (reads : ReadsHeld line 
       go false e f = ltb-false (length line) size e
 
   pub line-asked : (state : State) (half : ℕ) → read .answer ≡ Position state half → (question : Asked) → Asks (take size line) question
-      → toldOf (question .order) (read .bitboards) (read .board) state (question .from) (question .to) ≡ heldAnswer line size
-  line-asked state half told question asks = go (saidOf line size) (sym (ap paper told) ∙ reads .answer) (reads .boards) (reads .bytes) ∙ asked-held line size
+      → toldOf mode (question .order) (read .bitboards) (read .board) state (question .from) (question .to) ≡ heldAnswer mode line size
+  line-asked state half told question asks = go (saidOf line size) (sym (ap paper told) ∙ reads .answer) (reads .boards) (reads .bytes) ∙ asked-held mode line size
     where
       go : (s : Answer Line) → given (state, half) ≡ byValue s → read .bitboards ≡ bitboardsAfter s (bitboardsOf emptyBoard) → read .board ≡ boardAfter s emptyBoard
-          → toldOf (question .order) (read .bitboards) (read .board) state (question .from) (question .to) ≡ asked (take size line) s
+          → toldOf mode (question .order) (read .bitboards) (read .board) state (question .from) (question .to) ≡ asked mode (take size line) s
       go (refused n v) e f g = given-not e
       go (given l) e f g =
           let both : _≡_ {A = State × ℕ} (state, half) (l .state, l .half) = cc in
@@ -183,19 +184,19 @@ module _ (line : List ℕ) (size : ℕ) (read : Loaded) (reads : ReadsHeld line 
           let k = asks .kinds in
           let x = asks .start in
           let y = asks .target in
-          ap₂ (λ (bbs bytes : List ℕ). toldOf (question .order) bbs bytes state (question .from) (question .to)) f g
-          ∙ ap₂ (λ (o : List ℕ) (t : State). toldOf o (bitboardsOf (l .board)) (l .board) t (question .from) (question .to)) k s
-          ∙ ap₂ (toldOf (kindsIn (orderField (take size line))) (bitboardsOf (l .board)) (l .board) (l .state)) x y
+          ap₂ (λ (bbs bytes : List ℕ). toldOf mode (question .order) bbs bytes state (question .from) (question .to)) f g
+          ∙ ap₂ (λ (o : List ℕ) (t : State). toldOf mode o (bitboardsOf (l .board)) (l .board) t (question .from) (question .to)) k s
+          ∙ ap₂ (toldOf mode (kindsIn (orderField (take size line))) (bitboardsOf (l .board)) (l .board) (l .state)) x y
 
   pub line-told : (state : State) (half : ℕ) → read .answer ≡ Position state half → (question : Asked) → Asks (take size line) question → (r : Told)
-      → Captures (question .order) (read .bitboards) (read .board) state (question .from) (question .to) r
+      → Captures mode (question .order) (read .bitboards) (read .board) state (question .from) (question .to) r
       → (old new : List ℕ) (at number : ℕ) (row : Row)
-      → PutsRow old new at (Position.paper (r .checked)) (checkedRows number (r .checked) (r .listed) (r .stop)) row → AnswersHeld old new at number line size row
+      → PutsRow old new at (Position.paper (r .checked)) (checkedRows number (r .checked) (r .listed) (r .stop)) row → AnswersHeld mode old new at number line size row
   line-told state half told question asks r promise old new at number row h =
       let e = line-asked state half told question asks in
       record {
         puts =
             subst (λ (t : List ℕ). Puts old new at t (row .placed))
-            (rows-told (question .order) (read .bitboards) (read .board) state (question .from) (question .to) r promise number ∙ ap (answerRows number) e) (h .puts);
-        loaded = h .loaded ∙ is-told (question .order) (read .bitboards) (read .board) state (question .from) (question .to) r promise ∙ ap isLoaded e;
+            (rows-told mode (question .order) (read .bitboards) (read .board) state (question .from) (question .to) r promise number ∙ ap (answerRows number) e) (h .puts);
+        loaded = h .loaded ∙ is-told mode (question .order) (read .bitboards) (read .board) state (question .from) (question .to) r promise ∙ ap isLoaded e;
       }

@@ -12,6 +12,7 @@ use Rattle.refusal.proofs.Answers.{given-not}
 use Rattle.position_boards.specs.Boards.{bitboardsOf}
 use Rattle.position.specs.declared.State.{State}
 use Rattle.line_parse.specs.Line.{Line, lineOf}
+use Rattle.exchange_start.specs.declared.Mode.{Mode}
 use Rattle.exchange_start.proofs.Begun.{answered-knows, all-answered, a-side, from-on}
 use Rattle.exchange_value.specs.Settled.{settled}
 use Rattle.exchange.specs.Exchange.{Capture, capturesOf}
@@ -29,25 +30,25 @@ use Rattle.captures_close.specs.Answered.{captureRows, answerRows, heldA
 same-given : {A : Type 0} {x y : A} → given x ≡ given y → x ≡ y
 same-given e = cc
 
-few-given : (kinds bbs bytes : List ℕ) (state : State) (from to : ℕ) (cs : List Capture) → given cs ≡ toldOf kinds bbs bytes state from to → length cs ≤ 32
-few-given kinds bbs bytes state from to cs e =
-    let all : List Capture = capturesOf kinds bbs bytes (state .side) from to in
-    let q = e ∙ told-is kinds bbs bytes state from to in
-    let b = answered-knows kinds bbs bytes state from to all cs q in
-    let same : cs ≡ all = same-given (q ∙ sym (all-answered kinds bbs bytes state from to all b)) in
-    subst (λ (l : List Capture). length l ≤ 32) (all-listed kinds bbs bytes (state .side) from to (from-on b) (a-side b) (b .may) (b .few) ∙ sym same) (at-most-32 kinds bbs bytes (state .side) from to)
+few-given : (mode : Mode) (kinds bbs bytes : List ℕ) (state : State) (from to : ℕ) (cs : List Capture) → given cs ≡ toldOf mode kinds bbs bytes state from to → length cs ≤ 32
+few-given mode kinds bbs bytes state from to cs e =
+    let all : List Capture = capturesOf mode kinds bbs bytes state from to in
+    let q = e ∙ told-is mode kinds bbs bytes state from to in
+    let b = answered-knows mode kinds bbs bytes state from to all cs q in
+    let same : cs ≡ all = same-given (q ∙ sym (all-answered mode kinds bbs bytes state from to all b)) in
+    subst (λ (l : List Capture). length l ≤ 32) (all-listed mode kinds bbs bytes state from to (from-on b) (a-side b) (b .may) (b .few) ∙ sym same) (at-most-32 mode kinds bbs bytes state from to)
 
-few-held : (line : List ℕ) (size : ℕ) (cs : List Capture) → given cs ≡ heldAnswer line size → length cs ≤ 32
-few-held line size cs = go (ltb (length line) size)
+few-held : (mode : Mode) (line : List ℕ) (size : ℕ) (cs : List Capture) → given cs ≡ heldAnswer mode line size → length cs ≤ 32
+few-held mode line size cs = go (ltb (length line) size)
   where
     q : List ℕ
     q = take size line
 
-    said : (a : Answer Line) → given cs ≡ answerTo (kindsIn (orderField q)) (nthSquare (moveField q) 0) (nthSquare (moveField q) 2) a → length cs ≤ 32
+    said : (a : Answer Line) → given cs ≡ answerTo mode (kindsIn (orderField q)) (nthSquare (moveField q) 0) (nthSquare (moveField q) 2) a → length cs ≤ 32
     said (refused n v) e = given-not e
-    said (given l) e = few-given (kindsIn (orderField q)) (bitboardsOf (l .board)) (l .board) (l .state) (nthSquare (moveField q) 0) (nthSquare (moveField q) 2) cs e
+    said (given l) e = few-given mode (kindsIn (orderField q)) (bitboardsOf (l .board)) (l .board) (l .state) (nthSquare (moveField q) 0) (nthSquare (moveField q) 2) cs e
 
-    go : (t : Bool) → given cs ≡ cond t (refusalOf R.Long) (questionOf q) → length cs ≤ 32
+    go : (t : Bool) → given cs ≡ cond t (refusalOf R.Long) (questionOf mode q) → length cs ≤ 32
     go true e = given-not e
     go false e = said (lineOf q) e
 
@@ -64,5 +65,5 @@ rows-room number (given cs) few =
     let worth = settled (valuesTaken cs) in
     omega (arith, length-append (captureRows number cs) (stopRow number (theStop cs) worth), length-captures number cs, few cs refl, fits-stop number (theStop cs) worth)
 
-pub held-2048 : (number : ℕ) (line : List ℕ) (size : ℕ) → length (answerRows number (heldAnswer line size)) ≤ 2048
-held-2048 number line size = rows-room number (heldAnswer line size) (few-held line size)
+pub held-2048 : (mode : Mode) (number : ℕ) (line : List ℕ) (size : ℕ) → length (answerRows number (heldAnswer mode line size)) ≤ 2048
+held-2048 mode number line size = rows-room number (heldAnswer mode line size) (few-held mode line size)

@@ -6,6 +6,7 @@ use lib.Dec.{ltb}
 use lib.ListN.{length, take}
 use Rattle.refusal.specs.Answer.{Answer, given, refused, refusalOf}
 use Rattle.refusal.specs.declared.Refusal.the-variants as R
+use Rattle.exchange_start.specs.declared.Mode.{Mode}
 use Rattle.exchange_value.specs.Settled.{settled}
 use Rattle.exchange.specs.Exchange.{Capture}
 use Rattle.exchange_told.specs.Told.{valuesTaken, theStop}
@@ -30,9 +31,9 @@ answerRows number (given cs) = toldRows number cs
 answerRows number (refused n beside) = refusedRow number n
 
 -- the answer to a question of so many bytes: LONG where the buffer does not hold it, or what the buffer holds
-abbrev pub heldAnswer : List ℕ → ℕ → Answer (List Capture)
-heldAnswer line size = cond (ltb (length line) size) (refusalOf R.Long) (questionOf (take size line))
+abbrev pub heldAnswer : Mode → List ℕ → ℕ → Answer (List Capture)
+heldAnswer mode line size = cond (ltb (length line) size) (refusalOf R.Long) (questionOf mode (take size line))
 
 -- what the function promises: the rows of the answer are put, and it is said whether there was one
-abbrev pub AnswersHeld : List ℕ → List ℕ → ℕ → ℕ → List ℕ → ℕ → Row → Type 0
-AnswersHeld old new at number line size r = PutsRow old new at (heldAnswer line size) (answerRows number (heldAnswer line size)) r
+abbrev pub AnswersHeld : Mode → List ℕ → List ℕ → ℕ → ℕ → List ℕ → ℕ → Row → Type 0
+AnswersHeld mode old new at number line size r = PutsRow old new at (heldAnswer mode line size) (answerRows number (heldAnswer mode line size)) r

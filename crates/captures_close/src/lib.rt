@@ -7,6 +7,7 @@ ghost use Rattle.ledger_row.specs.Promises.{PutsRow};
 ghost use Rattle.captures_close.specs.Answered.{AnswersHeld};
 ghost use Rattle.captures_close.specs.PrivateColumns.{rowsUpTo, listedRows, checkedRows, Filled, RoomyRows};
 use exchange::inner::Listed;
+use exchange_start::Mode;
 use exchange_told::Told;
 use exchange_value::inner::Stopped;
 use exchange_value::inner::settle;
@@ -83,8 +84,8 @@ fn put_told(line: u64, told: Told, out: &mut [u8], at: usize) -> Row
 }
 
 // A question of so many bytes is LONG where the buffer does not hold it whole.
-pub fn close(line: &[u8], size: usize, number: u64, out: &mut [u8], at: usize) -> Row
-    ensures { λ r. ⌜ AnswersHeld (now (out .entry)) (now (out .exit)) at number (now (line .entry)) size r ⌝ }
+pub fn close(mode: Mode, line: &[u8], size: usize, number: u64, out: &mut [u8], at: usize) -> Row
+    ensures { λ r. ⌜ AnswersHeld mode (now (out .entry)) (now (out .exit)) at number (now (line .entry)) size r ⌝ }
 {
     let read = line_held::read(line, size);
     let answer = read.answer;
@@ -99,6 +100,7 @@ pub fn close(line: &[u8], size: usize, number: u64, out: &mut [u8], at: usize) -
             let asked = captures_question::inner::read(&line[..size]);
             let order = asked.order;
             let told = exchange_told::captures(
+                mode,
                 &bitboards,
                 &board,
                 state,

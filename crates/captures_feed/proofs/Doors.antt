@@ -13,6 +13,7 @@ use Rattle.text_out.specs.Text.{Puts, place, writtenOf, roomFor}
 use Rattle.text_out.specs.declared.Placed.{Placed}
 use Rattle.text_out.specs.declared.Placed.the-variants.{At, Full}
 use Rattle.line_cut.specs.Lines.{ends}
+use Rattle.exchange_start.specs.declared.Mode.{Mode}
 use Rattle.ledger_feed.specs.Machine.{Machine, at}
 use Rattle.ledger_feed.specs.Promises.{Came, turnedBy, many, full, came, fed, cameByValue, lineAfter, textAfter, wrote}
 use Rattle.ledger_feed.specs.declared.SoFar.{SoFar}
@@ -27,7 +28,7 @@ use Rattle.captures_feed.specs.Machine.{runTold, finishedTold}
 use Rattle.captures_feed.specs.Promises.{tellOf, TellsQuestions, lastOf, TellsLast, ReadyChunk, TakesChunk}
 
 -- ---- feed
-module _ (state : SoFar) (line chunk out : List ℕ) where
+module _ (mode : Mode) (state : SoFar) (line chunk out : List ℕ) where
   lines : ℕ
   lines = state .loaded + state .refused + ends chunk
 
@@ -35,11 +36,11 @@ module _ (state : SoFar) (line chunk out : List ℕ) where
   room = leb (2048 * ends chunk) (length out)
 
   m : Machine
-  m = runTold (at state line []) chunk
+  m = runTold mode (at state line []) chunk
 
   -- an answer of its own, with nothing changed
-  unchanged : (r : Fed) (a : Came Machine) → tellOf state line chunk out ≡ a → fed r ≡ cameByValue a → lineAfter a line ≡ line → textAfter a ≡ [] → wrote (fed r) ≡ 0
-      → TellsQuestions state line chunk out r line out
+  unchanged : (r : Fed) (a : Came Machine) → tellOf mode state line chunk out ≡ a → fed r ≡ cameByValue a → lineAfter a line ≡ line → textAfter a ≡ [] → wrote (fed r) ≡ 0
+      → TellsQuestions mode state line chunk out r line out
   unchanged r a e f k t z = record {
     answer = f ∙ sym (ap cameByValue e);
     kept = sym (ap (λ (b : Came Machine). lineAfter b line) e ∙ k);
@@ -47,27 +48,27 @@ module _ (state : SoFar) (line chunk out : List ℕ) where
     within = omega arith;
   }
 
-  pub feed-shape : (length line ≡ 256 → ⊥) → TellsQuestions state line chunk out (F.Refused R.Shape) line out
+  pub feed-shape : (length line ≡ 256 → ⊥) → TellsQuestions mode state line chunk out (F.Refused R.Shape) line out
   unfolding lines room m
   feed-shape n = unchanged (F.Refused R.Shape) (turnedBy R.Shape) (fit-shape line lines room m n) refl refl refl refl
 
   module _ (size : length line ≡ 256) where
-    pub feed-many : ltb (state .loaded + state .refused + ends chunk) (2 ^ 64) ≡ false → TellsQuestions state line chunk out F.Many line out
+    pub feed-many : ltb (state .loaded + state .refused + ends chunk) (2 ^ 64) ≡ false → TellsQuestions mode state line chunk out F.Many line out
     unfolding lines room m
     feed-many n = unchanged F.Many many (fit-many line lines room m size n) refl refl refl refl
 
     module _ (counts : ltb (state .loaded + state .refused + ends chunk) (2 ^ 64) ≡ true) where
-      pub feed-full : length out / 2048 < ends chunk → TellsQuestions state line chunk out F.Full line out
+      pub feed-full : length out / 2048 < ends chunk → TellsQuestions mode state line chunk out F.Full line out
       unfolding lines room m
       feed-full n = unchanged F.Full full (fit-full line lines room m size counts (lt-leb (2048 * ends chunk) (length out) (omega arith))) refl refl refl refl
 
       pub feed-ready : ends chunk ≤ length out / 2048 → ReadyChunk state line chunk out
       feed-ready h = record { size = size; counts = ltb-true (state .loaded + state .refused + ends chunk) (2 ^ 64) counts; room = omega arith }
 
-      pub feed-rows : ends chunk ≤ length out / 2048 → (r : Fed) (line′ out′ : List ℕ) → TakesChunk state line chunk out r line′ out′ → TellsQuestions state line chunk out r line′ out′
+      pub feed-rows : ends chunk ≤ length out / 2048 → (r : Fed) (line′ out′ : List ℕ) → TakesChunk mode state line chunk out r line′ out′ → TellsQuestions mode state line chunk out r line′ out′
       unfolding lines room m
       feed-rows h r line′ out′ t =
-          let e : tellOf state line chunk out ≡ came m = fit-came line lines room m size counts (le-leb (2048 * ends chunk) (length out) (omega arith)) in
+          let e : tellOf mode state line chunk out ≡ came m = fit-came line lines room m size counts (le-leb (2048 * ends chunk) (length out) (omega arith)) in
           record {
             answer = ap fed (t .answer) ∙ sym (ap cameByValue e);
             kept = t .kept ∙ sym (ap (λ (a : Came Machine). lineAfter a line) e);
@@ -76,42 +77,42 @@ module _ (state : SoFar) (line chunk out : List ℕ) where
           }
 
 -- ---- finish
-module _ (state : SoFar) (line out : List ℕ) where
+module _ (mode : Mode) (state : SoFar) (line out : List ℕ) where
   text : List ℕ
-  text = finishedTold (at state line [])
+  text = finishedTold mode (at state line [])
 
-  silent : (r : Finished) (a : Came (List ℕ)) → lastOf state line out ≡ a → finishPaper r ≡ lengthOf a → lastText a ≡ [] → lastWrote (finishPaper r) ≡ 0
-      → (out′ : List ℕ) → out′ ≡ out → TellsLast state line out r out′
+  silent : (r : Finished) (a : Came (List ℕ)) → lastOf mode state line out ≡ a → finishPaper r ≡ lengthOf a → lastText a ≡ [] → lastWrote (finishPaper r) ≡ 0
+      → (out′ : List ℕ) → out′ ≡ out → TellsLast mode state line out r out′
   silent r a e f t z out′ o = record {
     answer = f ∙ sym (ap lengthOf e);
     rows = o ∙ written-nothing out ∙ sym (ap (λ (b : Came (List ℕ)). writtenOf out 0 (lastText b)) e ∙ ap (writtenOf out 0) t);
     within = omega arith;
   }
 
-  pub finish-shape : (length line ≡ 256 → ⊥) → TellsLast state line out (E.Refused R.Shape) out
+  pub finish-shape : (length line ≡ 256 → ⊥) → TellsLast mode state line out (E.Refused R.Shape) out
   unfolding text
   finish-shape n = silent (E.Refused R.Shape) (turnedBy R.Shape) (fit-shape line (lastLines state) (roomFor out 0 text) text n) refl refl refl out refl
 
   module _ (size : length line ≡ 256) where
-    pub finish-many : ltb (lastLines state) (2 ^ 64) ≡ false → TellsLast state line out E.Many out
+    pub finish-many : ltb (lastLines state) (2 ^ 64) ≡ false → TellsLast mode state line out E.Many out
     unfolding text
     finish-many n = silent E.Many many (fit-many line (lastLines state) (roomFor out 0 text) text size n) refl refl refl out refl
 
-    module _ (counts : ltb (lastLines state) (2 ^ 64) ≡ true) (made : List ℕ) (is : made ≡ finishedTold (at state line [])) (out′ : List ℕ) (p : Placed) (put : Puts out out′ 0 made p) where
-      puts : Puts out out′ 0 (finishedTold (at state line [])) p
+    module _ (counts : ltb (lastLines state) (2 ^ 64) ≡ true) (made : List ℕ) (is : made ≡ finishedTold mode (at state line [])) (out′ : List ℕ) (p : Placed) (put : Puts out out′ 0 made p) where
+      puts : Puts out out′ 0 (finishedTold mode (at state line [])) p
       puts = subst (λ (t : List ℕ). Puts out out′ 0 t p) is put
 
-      pub finish-full : p ≡ Full → TellsLast state line out E.Full out′
+      pub finish-full : p ≡ Full → TellsLast mode state line out E.Full out′
       unfolding text
       finish-full told =
           let none = placed-full out 0 text (sym (ap place told) ∙ puts .0) in
           silent E.Full full (fit-full line (lastLines state) (roomFor out 0 text) text size counts none) refl refl refl out′ (puts .1 ∙ unwritten out 0 text none)
 
-      pub finish-rows : (n : ℕ) → p ≡ At n → TellsLast state line out (E.Rows n) out′
+      pub finish-rows : (n : ℕ) → p ≡ At n → TellsLast mode state line out (E.Rows n) out′
       unfolding text
       finish-rows n told =
           let one = placed-at out 0 text n (sym (ap place told) ∙ puts .0) in
-          let e : lastOf state line out ≡ came text = fit-came line (lastLines state) (roomFor out 0 text) text size counts (one .0) in
+          let e : lastOf mode state line out ≡ came text = fit-came line (lastLines state) (roomFor out 0 text) text size counts (one .0) in
           record {
             answer = ap came (one .1 ∙ zero-add (length text)) ∙ sym (ap lengthOf e);
             rows = puts .1 ∙ sym (ap (λ (a : Came (List ℕ)). writtenOf out 0 (lastText a)) e);

@@ -17,6 +17,7 @@ use Rattle.line_cut.specs.Promises.{opened, CutsNext}
 use Rattle.line_cut.specs.declared.Begun.{Begun}
 use Rattle.line_cut.specs.declared.Cut.{Cut}
 use Rattle.line_cut.proofs.Loop as Lines
+use Rattle.exchange_start.specs.declared.Mode.{Mode}
 use Rattle.ledger_row.specs.Row.{isLoaded}
 use Rattle.ledger_feed.specs.Machine.{Machine, Kept, openOf, keptOf, machineOf, at, tally}
 use Rattle.ledger_feed.specs.Promises.{stateOf, MakesState}
@@ -40,28 +41,28 @@ beyond w k x y h p =
     rw e (sym (drop-drop (k - w) w x) ∙ ap (drop (k - w)) p ∙ drop-drop (k - w) w y)
 
 -- ---- no line ended
-pub count-none : (w : Written) (line : List ℕ) (ended : Bool) (size : ℕ) (out : List ℕ) → ended ≡ false
-    → CountsQuestion w line ended size out (record { loaded = w .loaded; refused = w .refused; wrote = w .wrote }) out
-count-none w line ended size out e =
-    subst (λ (t : Bool). CountsQuestion w line t size out (record { loaded = w .loaded; refused = w .refused; wrote = w .wrote }) out) (sym e)
+pub count-none : (mode : Mode) (w : Written) (line : List ℕ) (ended : Bool) (size : ℕ) (out : List ℕ) → ended ≡ false
+    → CountsQuestion mode w line ended size out (record { loaded = w .loaded; refused = w .refused; wrote = w .wrote }) out
+count-none mode w line ended size out e =
+    subst (λ (t : Bool). CountsQuestion mode w line t size out (record { loaded = w .loaded; refused = w .refused; wrote = w .wrote }) out) (sym e)
     (record { kept = refl; sum = omega arith; from = omega arith; to = omega arith; long = refl; rest = λ k g. refl })
 
 pub ready-count : {w : Written} {ended : Bool} {out : List ℕ} → ReadyLine w ended out → ended ≡ true → w .loaded + w .refused + 1 < 2 ^ 64
 ready-count {w} r e = subst (λ (t : Bool). w .loaded + w .refused + cond t 1 0 < 2 ^ 64) e (r .counts)
 
 -- ---- a line ended
-pub count-line : (w : Written) (line : List ℕ) (ended : Bool) (size : ℕ) (out : List ℕ) → ReadyLine w ended out → ended ≡ true → (out′ : List ℕ) (w′ : ℕ)
-    → Adds out (w .wrote) (answerRows (w .loaded + w .refused + 1) (heldAnswer line size)) out′ w′
-    → (is : Bool) → is ≡ isLoaded (heldAnswer line size) → (loaded refused : ℕ) → loaded ≡ tally (w .loaded) is → refused ≡ tally (w .refused) (not is)
-    → CountsQuestion w line ended size out (record { loaded = loaded; refused = refused; wrote = w′ }) out′
-count-line w line ended size out ready e out′ w′ a is il loaded refused l q =
+pub count-line : (mode : Mode) (w : Written) (line : List ℕ) (ended : Bool) (size : ℕ) (out : List ℕ) → ReadyLine w ended out → ended ≡ true → (out′ : List ℕ) (w′ : ℕ)
+    → Adds out (w .wrote) (answerRows (w .loaded + w .refused + 1) (heldAnswer mode line size)) out′ w′
+    → (is : Bool) → is ≡ isLoaded (heldAnswer mode line size) → (loaded refused : ℕ) → loaded ≡ tally (w .loaded) is → refused ≡ tally (w .refused) (not is)
+    → CountsQuestion mode w line ended size out (record { loaded = loaded; refused = refused; wrote = w′ }) out′
+count-line mode w line ended size out ready e out′ w′ a is il loaded refused l q =
     let room : w .wrote + 2048 * 1 ≤ length out = subst (λ (t : Bool). w .wrote + 2048 * cond t 1 0 ≤ length out) e (ready .room) in
-    let row : List ℕ = answerRows (w .loaded + w .refused + 1) (heldAnswer line size) in
-    let short : length row ≤ 2048 = held-2048 (w .loaded + w .refused + 1) line size in
+    let row : List ℕ = answerRows (w .loaded + w .refused + 1) (heldAnswer mode line size) in
+    let short : length row ≤ 2048 = held-2048 mode (w .loaded + w .refused + 1) line size in
     let fits : w .wrote + length row ≤ length out = omega arith in
     let to : w′ ≡ w .wrote + length row = adds-to a fits in
     let both = tally-both is (w .loaded) (w .refused) in
-    subst (λ (t : Bool). CountsQuestion w line t size out (record { loaded = loaded; refused = refused; wrote = w′ }) out′) (sym e)
+    subst (λ (t : Bool). CountsQuestion mode w line t size out (record { loaded = loaded; refused = refused; wrote = w′ }) out′) (sym e)
     (record {
       kept = rows-same (l ∙ ap (tally (w .loaded)) il) (q ∙ ap (λ (x : Bool). tally (w .refused) (not x)) il) (adds-front a fits);
       sum = ap₂ _+_ l q ∙ both;
@@ -79,15 +80,15 @@ as-written out out′ w within size rest =
     ∙ sym (written-is out 0 (take w out′) (omega arith))
 
 -- ---- the loop
-pub record Turn (whole : CutSoFar Kept) (chunk out₀ line out : List ℕ) (begun : Begun) (w : Written) (i : ℕ) : Type 0 where
-  pub lines : Lines.Turn closeTold whole 256 chunk line begun (keptIn w out) i
+pub record Turn (mode : Mode) (whole : CutSoFar Kept) (chunk out₀ line out : List ℕ) (begun : Begun) (w : Written) (i : ℕ) : Type 0 where
+  pub lines : Lines.Turn (closeTold mode) whole 256 chunk line begun (keptIn w out) i
   pub kept : length out ≡ length out₀
   pub room : w .wrote + 2048 * ends (drop i chunk) ≤ length out₀
   pub counts : w .loaded + w .refused + ends (drop i chunk) < 2 ^ 64
   pub rest : (k : ℕ) → w .wrote ≤ k → drop k out ≡ drop k out₀
 
-module _ (whole : CutSoFar Kept) (chunk out₀ line out : List ℕ) (begun : Begun) (w : Written) (i : ℕ)
-    (t : Turn whole chunk out₀ line out begun w i) (r : Cut) (line′ : List ℕ) (p : CutsNext begun line chunk i r line′) where
+module _ (mode : Mode) (whole : CutSoFar Kept) (chunk out₀ line out : List ℕ) (begun : Begun) (w : Written) (i : ℕ)
+    (t : Turn mode whole chunk out₀ line out begun w i) (r : Cut) (line′ : List ℕ) (p : CutsNext begun line chunk i r line′) where
   passed : ends (drop i chunk) ≡ ends (drop (r .at) chunk) + cond (r .ended) 1 0
   passed = go (r .ended) refl
     where
@@ -102,11 +103,11 @@ module _ (whole : CutSoFar Kept) (chunk out₀ line out : List ℕ) (begun : Beg
   module _ (h : i < length chunk) where
     -- it goes on by a byte at least
     pub turn-less : i < r .at
-    turn-less = Lines.turn-less closeTold whole 256 chunk line begun (keptIn w out) i (t .lines) h r line′ p
+    turn-less = Lines.turn-less (closeTold mode) whole 256 chunk line begun (keptIn w out) i (t .lines) h r line′ p
 
-    pub turn-next : (out′ : List ℕ) (w′ : Written) → CountsQuestion w line′ (r .ended) (r .size) out w′ out′ → Turn whole chunk out₀ line′ out′ (r .begun) w′ (r .at)
+    pub turn-next : (out′ : List ℕ) (w′ : Written) → CountsQuestion mode w line′ (r .ended) (r .size) out w′ out′ → Turn mode whole chunk out₀ line′ out′ (r .begun) w′ (r .at)
     turn-next out′ w′ k = record {
-      lines = Lines.turn-next closeTold whole 256 chunk line begun (keptIn w out) i (t .lines) h r line′ p (keptIn w′ out′) (k .kept);
+      lines = Lines.turn-next (closeTold mode) whole 256 chunk line begun (keptIn w out) i (t .lines) h r line′ p (keptIn w′ out′) (k .kept);
       kept = k .long ∙ t .kept;
       room = omega (arith, t .room, k .to, passed);
       counts = omega (arith, t .counts, k .sum, passed);
@@ -114,18 +115,18 @@ module _ (whole : CutSoFar Kept) (chunk out₀ line out : List ℕ) (begun : Beg
     }
 
 -- what the machine comes to over the chunk
-abbrev pub ranOf : SoFar → List ℕ → List ℕ → CutSoFar Kept
-ranOf state line chunk = runBy closeTold (openOf (at state line [])) (keptOf (at state line [])) chunk
+abbrev pub ranOf : Mode → SoFar → List ℕ → List ℕ → CutSoFar Kept
+ranOf mode state line chunk = runBy (closeTold mode) (openOf (at state line [])) (keptOf (at state line [])) chunk
 
 abbrev writtenIn : SoFar → Written
 writtenIn state = record { loaded = state .loaded; refused = state .refused; wrote = 0 }
 
 -- before the first byte
-pub turn-none : (state : SoFar) (line chunk out : List ℕ) → ReadyChunk state line chunk out
-    → Turn (ranOf state line chunk) chunk out line out (begunIn state) (writtenIn state) 0
-turn-none state line chunk out r = record {
-  lines = subst (λ (n : ℕ). Lines.Turn closeTold (ranOf state line chunk) n chunk line (begunIn state) (rows (state .loaded) (state .refused) []) 0) (r .size)
-      (Lines.turn-none closeTold chunk line (begunIn state) (rows (state .loaded) (state .refused) []));
+pub turn-none : (mode : Mode) (state : SoFar) (line chunk out : List ℕ) → ReadyChunk state line chunk out
+    → Turn mode (ranOf mode state line chunk) chunk out line out (begunIn state) (writtenIn state) 0
+turn-none mode state line chunk out r = record {
+  lines = subst (λ (n : ℕ). Lines.Turn (closeTold mode) (ranOf mode state line chunk) n chunk line (begunIn state) (rows (state .loaded) (state .refused) []) 0) (r .size)
+      (Lines.turn-none (closeTold mode) chunk line (begunIn state) (rows (state .loaded) (state .refused) []));
   kept = refl;
   room = omega (arith, r .room);
   counts = omega (arith, r .counts);
@@ -133,12 +134,12 @@ turn-none state line chunk out r = record {
 }
 
 -- after the last
-pub turn-end : (state : SoFar) (line₀ chunk out₀ line out : List ℕ) (begun : Begun) (w : Written) (i : ℕ) → length chunk ≤ i
-    → Turn (ranOf state line₀ chunk) chunk out₀ line out begun w i
-    → (next : SoFar) → MakesState (begun .held) (begun .cr) (w .loaded) (w .refused) next → TakesChunk state line₀ chunk out₀ (F.Rows next (w .wrote)) line out
-turn-end state line₀ chunk out₀ line out begun w i h t next made =
-    let ran = Lines.turn-end closeTold (ranOf state line₀ chunk) 256 chunk line begun (keptIn w out) i (t .lines) h in
-    let m : runTold (at state line₀ []) chunk ≡ machineOf (record { left = opened begun line; kept = keptIn w out }) = ap machineOf ran in
+pub turn-end : (mode : Mode) (state : SoFar) (line₀ chunk out₀ line out : List ℕ) (begun : Begun) (w : Written) (i : ℕ) → length chunk ≤ i
+    → Turn mode (ranOf mode state line₀ chunk) chunk out₀ line out begun w i
+    → (next : SoFar) → MakesState (begun .held) (begun .cr) (w .loaded) (w .refused) next → TakesChunk mode state line₀ chunk out₀ (F.Rows next (w .wrote)) line out
+turn-end mode state line₀ chunk out₀ line out begun w i h t next made =
+    let ran = Lines.turn-end (closeTold mode) (ranOf mode state line₀ chunk) 256 chunk line begun (keptIn w out) i (t .lines) h in
+    let m : runTold mode (at state line₀ []) chunk ≡ machineOf (record { left = opened begun line; kept = keptIn w out }) = ap machineOf ran in
     let within : w .wrote ≤ length out₀ = omega (arith, t .room) in
     let size : length (take (w .wrote) out) ≡ w .wrote = length-take-le (w .wrote) out (omega (arith, t .kept)) in
     record {
@@ -156,11 +157,11 @@ last-ready state out room few = record { counts = few; room = go (ltb 0 (state .
     go true = omega arith
     go false = omega arith
 
-pub last-adds : (state : SoFar) (line out mid new : List ℕ) (w : Written) (b : ℕ) → 2132 ≤ length out
-    → CountsQuestion (writtenIn state) line (ltb 0 (state .held)) (state .held) out w mid
+pub last-adds : (mode : Mode) (state : SoFar) (line out mid new : List ℕ) (w : Written) (b : ℕ) → 2132 ≤ length out
+    → CountsQuestion mode (writtenIn state) line (ltb 0 (state .held)) (state .held) out w mid
     → Adds mid (w .wrote) (countsRow (w .loaded + w .refused) (w .loaded) (w .refused)) new b
-    → Adds out 0 (finishedTold (at state line [])) new b
-last-adds state line out mid new w b room k a =
+    → Adds out 0 (finishedTold mode (at state line [])) new b
+last-adds mode state line out mid new w b room k a =
     subst (λ (t : List ℕ). Adds out 0 t new b) (ap lastTold (k .kept)) (adds-then first a (omega (arith, long, wrote, fits-counts (w .loaded + w .refused) (w .loaded) (w .refused))))
   where
     most : (t : Bool) → 0 + 2048 * cond t 1 0 ≤ 2048
@@ -182,21 +183,21 @@ last-adds state line out mid new w b room k a =
       buffer = as-written out mid (w .wrote) (omega (arith, wrote)) (k .long) (k .rest (w .wrote) (omega arith));
     }
 
-pub finished-2132 : (state : SoFar) (line : List ℕ) → 0 + length (finishedTold (at state line [])) ≤ 2132
-finished-2132 state line = go (ltb 0 (state .held))
+pub finished-2132 : (mode : Mode) (state : SoFar) (line : List ℕ) → 0 + length (finishedTold mode (at state line [])) ≤ 2132
+finished-2132 mode state line = go (ltb 0 (state .held))
   where
     m : Kept
     m = keptOf (at state line [])
 
     n : Kept
-    n = closeTold m line (state .held)
+    n = closeTold mode m line (state .held)
 
     go : (t : Bool) → 0 + length (lastTold (cond t n m)) ≤ 2132
     go true =
-        let row : List ℕ = answerRows (m .loaded + m .refused + 1) (heldAnswer line (state .held)) in
-        omega (arith, length-append row (countsRow (n .loaded + n .refused) (n .loaded) (n .refused)), held-2048 (m .loaded + m .refused + 1) line (state .held), fits-counts (n .loaded + n .refused) (n .loaded) (n .refused))
+        let row : List ℕ = answerRows (m .loaded + m .refused + 1) (heldAnswer mode line (state .held)) in
+        omega (arith, length-append row (countsRow (n .loaded + n .refused) (n .loaded) (n .refused)), held-2048 mode (m .loaded + m .refused + 1) line (state .held), fits-counts (n .loaded + n .refused) (n .loaded) (n .refused))
     go false = omega (arith, fits-counts (m .loaded + m .refused) (m .loaded) (m .refused))
 
-pub one-unfinished : (state : SoFar) (w : Written) (line out mid : List ℕ) → lastLines state < 2 ^ 64
-    → CountsQuestion (writtenIn state) line (ltb 0 (state .held)) (state .held) out w mid → w .loaded + w .refused < 2 ^ 64
-one-unfinished state w line out mid few k = omega (arith, k .sum)
+pub one-unfinished : (mode : Mode) (state : SoFar) (w : Written) (line out mid : List ℕ) → lastLines state < 2 ^ 64
+    → CountsQuestion mode (writtenIn state) line (ltb 0 (state .held)) (state .held) out w mid → w .loaded + w .refused < 2 ^ 64
+one-unfinished mode state w line out mid few k = omega (arith, k .sum)

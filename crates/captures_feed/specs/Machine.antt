@@ -4,6 +4,7 @@ use mathlib.Core.Bool.{not}
 use mathlib.Core.List.{List, _++_}
 use Prim.Native.Nat.{ℕ, _+_}
 use Rattle.refusal.specs.Answer.{Answer}
+use Rattle.exchange_start.specs.declared.Mode.{Mode}
 use Rattle.exchange.specs.Exchange.{Capture}
 use Rattle.line_cut.specs.Cut.{runBy, endBy}
 use Rattle.ledger_row.specs.Row.{isLoaded}
@@ -19,19 +20,19 @@ toldMore rows said = record {
   text = rows .text ++ answerRows (rows .loaded + rows .refused + 1) said;
 }
 
-abbrev pub closeTold : Kept → List ℕ → ℕ → Kept
-closeTold rows line size = toldMore rows (heldAnswer line size)
+abbrev pub closeTold : Mode → Kept → List ℕ → ℕ → Kept
+closeTold mode rows line size = toldMore rows (heldAnswer mode line size)
 
 -- the line machine, with the tool as its consumer
-abbrev pub runTold : Machine → List ℕ → Machine
-runTold m s = machineOf (runBy closeTold (openOf m) (keptOf m) s)
+abbrev pub runTold : Mode → Machine → List ℕ → Machine
+runTold mode m s = machineOf (runBy (closeTold mode) (openOf m) (keptOf m) s)
 
 -- ---- the end of the input: an unfinished question is answered, and the last row counts
-abbrev pub endedTold : Machine → Kept
-endedTold m = endBy closeTold (record { left = openOf m; kept = keptOf m })
+abbrev pub endedTold : Mode → Machine → Kept
+endedTold mode m = endBy (closeTold mode) (record { left = openOf m; kept = keptOf m })
 
 abbrev pub lastTold : Kept → List ℕ
 lastTold rows = rows .text ++ countsRow (rows .loaded + rows .refused) (rows .loaded) (rows .refused)
 
-abbrev pub finishedTold : Machine → List ℕ
-finishedTold m = lastTold (endedTold m)
+abbrev pub finishedTold : Mode → Machine → List ℕ
+finishedTold mode m = lastTold (endedTold mode m)

@@ -11,6 +11,7 @@ ghost use Rattle.ledger_finish.specs.Promises.{unfinished, lastLines};
 ghost use Rattle.captures_feed.specs.Machine.{finishedTold};
 ghost use Rattle.captures_feed.specs.Promises.{TellsQuestions, TellsLast, ReadyLine, CountsQuestion, ReadyChunk, TakesChunk};
 use captures_close::ROOM;
+use exchange_start::Mode;
 use ledger_feed::Fed;
 use ledger_feed::SoFar;
 use ledger_feed::countable;
@@ -49,9 +50,16 @@ fn made(held: usize, cr: bool, loaded: u64, refused: u64) -> SoFar
 }
 
 // The rows of a line, where one ended.
-fn counted(written: Written, line: &[u8], ended: bool, size: usize, out: &mut [u8]) -> Written
+fn counted(
+    mode: Mode,
+    written: Written,
+    line: &[u8],
+    ended: bool,
+    size: usize,
+    out: &mut [u8],
+) -> Written
     requires { ⌜ ReadyLine written ended (now out) ⌝ }
-    ensures { λ r. ⌜ CountsQuestion written (now (line .entry)) ended size (now (out .entry)) r (now (out .exit)) ⌝ }
+    ensures { λ r. ⌜ CountsQuestion mode written (now (line .entry)) ended size (now (out .entry)) r (now (out .exit)) ⌝ }
 {
     let loaded = written.loaded;
     let refused = written.refused;
@@ -63,7 +71,7 @@ fn counted(written: Written, line: &[u8], ended: bool, size: usize, out: &mut [u
             wrote: from,
         };
     }
-    let row = captures_close::close(line, size, loaded + refused + 1, out, from);
+    let row = captures_close::close(mode, line, size, loaded + refused + 1, out, from);
     let placed = row.placed;
     let is_told = row.loaded;
     let wrote = placed.or(from);
@@ -75,9 +83,9 @@ fn counted(written: Written, line: &[u8], ended: bool, size: usize, out: &mut [u
 }
 
 // The bytes of a chunk, where there is room for their rows: from line's end to line's end.
-fn take(state: SoFar, line: &mut [u8], chunk: &[u8], out: &mut [u8]) -> Fed
+fn take(mode: Mode, state: SoFar, line: &mut [u8], chunk: &[u8], out: &mut [u8]) -> Fed
     requires { ⌜ ReadyChunk state (now line) (now chunk) (now out) ⌝ }
-    ensures { λ r. ⌜ TakesChunk state (now (line .entry)) (now (chunk .entry)) (now (out .entry)) r (now (line .exit)) (now (out .exit)) ⌝ }
+    ensures { λ r. ⌜ TakesChunk mode state (now (line .entry)) (now (chunk .entry)) (now (out .entry)) r (now (line .exit)) (now (out .exit)) ⌝ }
 {
     let mut begun = Begun {
         held: state.held,
@@ -94,7 +102,7 @@ fn take(state: SoFar, line: &mut [u8], chunk: &[u8], out: &mut [u8]) -> Fed
         at = cut.at;
         let next = cut.begun;
         begun = next;
-        written = counted(written, line, cut.ended, cut.size, out);
+        written = counted(mode, written, line, cut.ended, cut.size, out);
     }
     Fed::Rows(
         made(begun.held, begun.cr, written.loaded, written.refused),
@@ -102,9 +110,9 @@ fn take(state: SoFar, line: &mut [u8], chunk: &[u8], out: &mut [u8]) -> Fed
     )
 }
 
-// Takes a chunk of any size: rows for each line that ends in it. It needs 2,048 bytes of room for each of them.
-pub fn feed(state: SoFar, line: &mut [u8], chunk: &[u8], out: &mut [u8]) -> Fed
-    ensures { λ r. ⌜ TellsQuestions state (now (line .entry)) (now (chunk .entry)) (now (out .entry)) r (now (line .exit)) (now (out .exit)) ⌝ }
+// Takes a chunk of any size: rows for each line that ends in it, by its exchange in a mode. It needs 2,048 bytes of room for each of them.
+pub fn feed(mode: Mode, state: SoFar, line: &mut [u8], chunk: &[u8], out: &mut [u8]) -> Fed
+    ensures { λ r. ⌜ TellsQuestions mode state (now (line .entry)) (now (chunk .entry)) (now (out .entry)) r (now (line .exit)) (now (out .exit)) ⌝ }
 {
     if line.len() != LINE {
         return Fed::Refused(Refusal::Shape);
@@ -116,7 +124,7 @@ pub fn feed(state: SoFar, line: &mut [u8], chunk: &[u8], out: &mut [u8]) -> Fed
     if out.len() / ROOM < ends {
         return Fed::Full;
     }
-    take(state, line, chunk, out)
+    take(mode, state, line, chunk, out)
 }
 
 // One more line where some of it was held.
@@ -127,9 +135,9 @@ fn more(held: usize) -> usize
 }
 
 // The rows of the last question, if it has no LF, and the counts.
-fn last_rows(state: SoFar, line: &[u8], out: &mut [u8]) -> usize
+fn last_rows(mode: Mode, state: SoFar, line: &[u8], out: &mut [u8]) -> usize
     requires { ⌜ (2132 ≤ length (now out)) × (lastLines state < 2 ^ 64) ⌝ }
-    ensures { λ r. ⌜ Adds (now (out .entry)) 0 (finishedTold (at state (now (line .entry)) [])) (now (out .exit)) r ⌝ }
+    ensures { λ r. ⌜ Adds (now (out .entry)) 0 (finishedTold mode (at state (now (line .entry)) [])) (now (out .exit)) r ⌝ }
 {
     let none = Written {
         loaded: state.loaded,
@@ -137,7 +145,7 @@ fn last_rows(state: SoFar, line: &[u8], out: &mut [u8]) -> usize
         wrote: 0,
     };
     let held = state.held;
-    let all = counted(none, line, 0 < held, held, out);
+    let all = counted(mode, none, line, 0 < held, held, out);
     captures_row::inner::counts(
         all.loaded + all.refused,
         all.loaded,
@@ -148,8 +156,8 @@ fn last_rows(state: SoFar, line: &[u8], out: &mut [u8]) -> usize
 }
 
 // The end of the input: the rows of a last question with no LF, and the counts.
-pub fn finish(state: SoFar, line: &[u8], out: &mut [u8]) -> Finished
-    ensures { λ r. ⌜ TellsLast state (now (line .entry)) (now (out .entry)) r (now (out .exit)) ⌝ }
+pub fn finish(mode: Mode, state: SoFar, line: &[u8], out: &mut [u8]) -> Finished
+    ensures { λ r. ⌜ TellsLast mode state (now (line .entry)) (now (out .entry)) r (now (out .exit)) ⌝ }
 {
     if line.len() != LINE {
         return Finished::Refused(Refusal::Shape);
@@ -158,7 +166,7 @@ pub fn finish(state: SoFar, line: &[u8], out: &mut [u8]) -> Finished
         return Finished::Many;
     }
     let mut rows = [0u8; LAST];
-    let end = last_rows(state, line, &mut rows);
+    let end = last_rows(mode, state, line, &mut rows);
     let placed = text_out::put(out, 0, &rows[..end]);
     match placed {
         Placed::At(wrote) => Finished::Rows(wrote),

@@ -1,36 +1,18 @@
 -- What the fields of a question say, as the code tests them. Assumes nothing.
 use mathlib.Core.Path.{_≡_, refl, sym, ap, _∙_}
-use mathlib.Core.Bool.{Bool, cond, _&&_, and-false}
+use mathlib.Core.Bool.{Bool, cond}
 use mathlib.Core.List.{List, [], _∷_}
-use Prim.Native.Nat.{ℕ, _+_, _*_, _-_, _≤_, _<_}
+use Prim.Native.Nat.{ℕ, _+_, _≤_}
 use native.Mathlib.Omega.{arith}
-use lib.Dec.{leb}
 use lib.ListN.{length, length-append}
-use borrow.Author.Tests.{le-leb, lt-leb, eq-eqb, ne-eqb}
+use borrow.Author.Tests.{eq-eqb, ne-eqb}
 use Rattle.text_in.specs.Text.{text, before}
 use Rattle.text_in.proofs.Within.{before-within}
 use Rattle.exchange_order.specs.Orders.{order}
 use Rattle.chess.specs.Named.{squareOf}
 use Rattle.captures_question.specs.Question.{nthSquare, kindOfLetter, letterAt, orderOf, kindsIn}
 
--- ---- a square
-module _ (file rank : ℕ) where
-  pub low-file : file < 97 → 64 ≡ squareOf file rank
-  low-file h = rw (lt-leb 97 file h) refl
-
-  pub high-file : 104 < file → 64 ≡ squareOf file rank
-  high-file h = rw (lt-leb file 104 h, and-false (leb 97 file)) refl
-
-  pub low-rank : rank < 49 → 64 ≡ squareOf file rank
-  low-rank h = rw (lt-leb 49 rank h, and-false (leb 97 file && leb file 104)) refl
-
-  pub high-rank : 56 < rank → 64 ≡ squareOf file rank
-  high-rank h = rw (lt-leb rank 56 h, and-false (leb 49 rank), and-false (leb 97 file && leb file 104)) refl
-
-  pub on-board : 97 ≤ file → file ≤ 104 → 49 ≤ rank → rank ≤ 56 → 8 * (rank - 49) + (file - 97) ≡ squareOf file rank
-  on-board a b c d = rw (le-leb 97 file a, le-leb file 104 b, le-leb 49 rank c, le-leb rank 56 d) refl
-
--- ---- two of them
+-- ---- two squares
 module _ (s : List ℕ) (at : ℕ) where
   pub not-four : (length s ≡ 4 → ⊥) → 64 ≡ nthSquare s at
   not-four h = rw (ne-eqb (length s) 4 h) refl

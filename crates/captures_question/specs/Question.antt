@@ -11,6 +11,7 @@ use Rattle.position_boards.specs.Boards.{bitboardsOf}
 use Rattle.text_in.specs.Text.{text, semicolon, before, after, trim}
 use Rattle.line_parse.specs.Line.{Line, lineOf}
 use Rattle.exchange_order.specs.Orders.{order}
+use Rattle.exchange_start.specs.declared.Mode.{Mode}
 use Rattle.exchange.specs.Exchange.{Capture}
 use Rattle.exchange_told.specs.Told.{toldOf}
 
@@ -46,11 +47,11 @@ orderOf s =
 abbrev pub kindsIn : List ℕ → List ℕ
 kindsIn s = cond (eqb (length s) 0) order (orderOf s)
 
--- ---- the answer: the line's refusals, then those of the exchange
-abbrev pub answerTo : List ℕ → ℕ → ℕ → Answer Line → Answer (List Capture)
-answerTo kinds from to (given l) = toldOf kinds (bitboardsOf (l .board)) (l .board) (l .state) from to
-answerTo kinds from to (refused number beside) = refused number beside
+-- ---- the answer, in a mode: the line's refusals, then those of the exchange
+abbrev pub answerTo : Mode → List ℕ → ℕ → ℕ → Answer Line → Answer (List Capture)
+answerTo mode kinds from to (given l) = toldOf mode kinds (bitboardsOf (l .board)) (l .board) (l .state) from to
+answerTo mode kinds from to (refused number beside) = refused number beside
 
-abbrev pub questionOf : List ℕ → Answer (List Capture)
-questionOf question =
-    answerTo (kindsIn (orderField question)) (nthSquare (moveField question) 0) (nthSquare (moveField question) 2) (lineOf question)
+abbrev pub questionOf : Mode → List ℕ → Answer (List Capture)
+questionOf mode question =
+    answerTo mode (kindsIn (orderField question)) (nthSquare (moveField question) 0) (nthSquare (moveField question) 2) (lineOf question)

@@ -1,11 +1,11 @@
 // The move and the order that a question names, for the crates above: total, no door. What is no square is 64 and what is no kind 6, which the exchange refuses.
 ghost use mathlib.Core.Path.{_≡_};
 ghost use Prim.Native.Nat.{_≤_};
-ghost use Rattle.chess.specs.Named.{squareOf};
 ghost use Rattle.captures_question.specs.Question.{nthSquare, kindOfLetter, orderOf, kindsIn};
 ghost use Rattle.captures_question.specs.Promises.{Asks};
 use chess::kind::Kind;
-use chess::square::Square;
+use line_tail::inner::NOWHERE;
+use line_tail::inner::square;
 use text_in::inner::find;
 use text_in::inner::text_after;
 use text_in::inner::text_before;
@@ -16,28 +16,6 @@ pub struct Asked {
     pub from: u8,
     pub to: u8,
     pub order: [u8; Kind::COUNT],
-}
-
-// No square.
-const NOWHERE: u8 = Square::COUNT as u8;
-
-// A file's letter and a rank's digit.
-fn square(file: u8, rank: u8) -> u8
-    ensures { λ r. ⌜ r ≡ squareOf file rank ⌝ }
-{
-    if file < b'a' {
-        return NOWHERE;
-    }
-    if file > b'h' {
-        return NOWHERE;
-    }
-    if rank < b'1' {
-        return NOWHERE;
-    }
-    if rank > b'8' {
-        return NOWHERE;
-    }
-    8 * (rank - b'1') + (file - b'a')
 }
 
 // The square that begins at a place of a text of two squares.

@@ -9,6 +9,7 @@ use lib.Dec.{ltb, leb, eqb}
 use lib.ListN.{length}
 use borrow.Author.Tests.{lt-ltb, le-leb}
 use Rattle.refusal.specs.Answer.{Answer}
+use Rattle.exchange_start.specs.declared.Mode.{Mode}
 use Rattle.exchange.specs.Exchange.{Capture}
 use Rattle.exchange_value.proofs.Stopping.{adds-up}
 use Rattle.exchange_told.specs.Told.{valuesTaken}
@@ -41,43 +42,43 @@ use Rattle.captures_whole.specs.Whole.{TellsMade, RoomyTold, WholeTold, 
 use Rattle.captures_whole.proofs.Machines.{machine-answers, machine-lines}
 
 -- ---- each call begins with no text: the texts that the calls write are joined
-close-shift : (t : List ℕ) (r : Kept) (line : List ℕ) (size : ℕ) → closeTold (shift t r) line size ≡ shift t (closeTold r line size)
-close-shift t r line size =
-    let a : Answer (List Capture) = heldAnswer line size in
+close-shift : (mode : Mode) (t : List ℕ) (r : Kept) (line : List ℕ) (size : ℕ) → closeTold mode (shift t r) line size ≡ shift t (closeTold mode r line size)
+close-shift mode t r line size =
+    let a : Answer (List Capture) = heldAnswer mode line size in
     ap (λ (u : List ℕ). record { loaded = tally (r .loaded) (isLoaded a); refused = tally (r .refused) (not (isLoaded a)); text = u })
     (append-assoc t (r .text) (answerRows (r .loaded + r .refused + 1) a))
 
-run-after : (t : List ℕ) (m : Machine) (s : List ℕ) → runTold (afterText t m) s ≡ afterText t (runTold m s)
-run-after t m s = ap machineOf (run-told (shift t) closeTold closeTold (close-shift t) (openOf m) (keptOf m) s)
+run-after : (mode : Mode) (t : List ℕ) (m : Machine) (s : List ℕ) → runTold mode (afterText t m) s ≡ afterText t (runTold mode m s)
+run-after mode t m s = ap machineOf (run-told (shift t) (closeTold mode) (closeTold mode) (close-shift mode t) (openOf m) (keptOf m) s)
 
-finished-after : (t : List ℕ) (m : Machine) → finishedTold (afterText t m) ≡ t ++ finishedTold m
-finished-after t m = go (ltb 0 (m .held))
+finished-after : (mode : Mode) (t : List ℕ) (m : Machine) → finishedTold mode (afterText t m) ≡ t ++ finishedTold mode m
+finished-after mode t m = go (ltb 0 (m .held))
   where
     r : Kept
-    r = closeTold (keptOf m) (m .line) (m .held)
+    r = closeTold mode (keptOf m) (m .line) (m .held)
 
-    go : (x : Bool) → lastTold (cond x (closeTold (shift t (keptOf m)) (m .line) (m .held)) (shift t (keptOf m))) ≡ t ++ lastTold (cond x r (keptOf m))
-    go true = ap lastTold (close-shift t (keptOf m) (m .line) (m .held)) ∙ append-assoc t (r .text) (countsRow (r .loaded + r .refused) (r .loaded) (r .refused))
+    go : (x : Bool) → lastTold (cond x (closeTold mode (shift t (keptOf m)) (m .line) (m .held)) (shift t (keptOf m))) ≡ t ++ lastTold (cond x r (keptOf m))
+    go true = ap lastTold (close-shift mode t (keptOf m) (m .line) (m .held)) ∙ append-assoc t (r .text) (countsRow (r .loaded + r .refused) (r .loaded) (r .refused))
     go false = append-assoc t (m .text) (countsRow (m .loaded + m .refused) (m .loaded) (m .refused))
 
-pieces : (m : Machine) (s t : List ℕ) → runTold m (s ++ t) ≡ afterText (runTold m s .text) (runTold (quiet (runTold m s)) t)
-pieces m s t =
-    ap machineOf (run-append closeTold (openOf m) (keptOf m) s t) ∙ ap (λ (x : Machine). runTold x t) (split (runTold m s)) ∙ run-after (runTold m s .text) (quiet (runTold m s)) t
+pieces : (mode : Mode) (m : Machine) (s t : List ℕ) → runTold mode m (s ++ t) ≡ afterText (runTold mode m s .text) (runTold mode (quiet (runTold mode m s)) t)
+pieces mode m s t =
+    ap machineOf (run-append (closeTold mode) (openOf m) (keptOf m) s t) ∙ ap (λ (x : Machine). runTold mode x t) (split (runTold mode m s)) ∙ run-after mode (runTold mode m s .text) (quiet (runTold mode m s)) t
 
 -- ---- how many lines were counted
-run-counts : (o : Open) (r : Kept) (s : List ℕ) → runBy closeTold o r s .kept .loaded + runBy closeTold o r s .kept .refused ≡ r .loaded + r .refused + ends s
+run-counts : (mode : Mode) (o : Open) (r : Kept) (s : List ℕ) → runBy (closeTold mode) o r s .kept .loaded + runBy (closeTold mode) o r s .kept .refused ≡ r .loaded + r .refused + ends s
 unfolding runBy ends
-run-counts o r [] = sym (add-zero (r .loaded + r .refused))
-run-counts o r (b ∷ s) = go (eqb b lf) (run-counts (lineEmptied o) (closeTold r (o .line) (bareOf (o .held) (o .cr))) s) (run-counts (pushed o b) r s)
+run-counts mode o r [] = sym (add-zero (r .loaded + r .refused))
+run-counts mode o r (b ∷ s) = go (eqb b lf) (run-counts mode (lineEmptied o) (closeTold mode r (o .line) (bareOf (o .held) (o .cr))) s) (run-counts mode (pushed o b) r s)
   where
     a : Answer (List Capture)
-    a = heldAnswer (o .line) (bareOf (o .held) (o .cr))
+    a = heldAnswer mode (o .line) (bareOf (o .held) (o .cr))
 
     e : CutSoFar Kept
-    e = runBy closeTold (lineEmptied o) (closeTold r (o .line) (bareOf (o .held) (o .cr))) s
+    e = runBy (closeTold mode) (lineEmptied o) (closeTold mode r (o .line) (bareOf (o .held) (o .cr))) s
 
     f : CutSoFar Kept
-    f = runBy closeTold (pushed o b) r s
+    f = runBy (closeTold mode) (pushed o b) r s
 
     go : (x : Bool)
         → e .kept .loaded + e .kept .refused ≡ tally (r .loaded) (isLoaded a) + tally (r .refused) (not (isLoaded a)) + ends s
@@ -87,11 +88,11 @@ run-counts o r (b ∷ s) = go (eqb b lf) (run-counts (lineEmptied o) (closeTold 
     go false p q = q
 
 -- ---- a call with room
-feed-given : (state : SoFar) (line chunk out : List ℕ) (r : Fed) (line′ out′ : List ℕ) → TellsQuestions state line chunk out r line′ out′
-    → length line ≡ 256 → state .loaded + state .refused + ends chunk < 2 ^ 64 → 2048 * ends chunk ≤ length out → Given (runTold (at state line []) chunk) r line′ out′
-feed-given state line chunk out r line′ out′ f size counts room =
-    let m : Machine = runTold (at state line []) chunk in
-    let e : tellOf state line chunk out ≡ came m =
+feed-given : (mode : Mode) (state : SoFar) (line chunk out : List ℕ) (r : Fed) (line′ out′ : List ℕ) → TellsQuestions mode state line chunk out r line′ out′
+    → length line ≡ 256 → state .loaded + state .refused + ends chunk < 2 ^ 64 → 2048 * ends chunk ≤ length out → Given (runTold mode (at state line []) chunk) r line′ out′
+feed-given mode state line chunk out r line′ out′ f size counts room =
+    let m : Machine = runTold mode (at state line []) chunk in
+    let e : tellOf mode state line chunk out ≡ came m =
     fit-came line (state .loaded + state .refused + ends chunk) (leb (2048 * ends chunk) (length out)) m size
     (lt-ltb (state .loaded + state .refused + ends chunk) (2 ^ 64) counts) (le-leb (2048 * ends chunk) (length out) room) in
     let a : r ≡ F.Rows (stateOf m) (length (m .text)) = rows-of r (stateOf m) (length (m .text)) (f .answer ∙ ap cameByValue e) in
@@ -104,52 +105,52 @@ feed-given state line chunk out r line′ out′ f size counts room =
           ∙ taken out out′ (m .text) (f .rows ∙ ap (λ (x : Came Machine). writtenOf out 0 (textAfter x)) e) h;
     }
 
-finish-given : (state : SoFar) (line out : List ℕ) (r : Finished) (out′ : List ℕ) → TellsLast state line out r out′
-    → length line ≡ 256 → lastLines state < 2 ^ 64 → 2132 ≤ length out → lastRowsOf r out′ ≡ finishedTold (at state line [])
-finish-given state line out r out′ f size counts room =
-    let t : List ℕ = finishedTold (at state line []) in
-    let h : 0 + length t ≤ 2132 = finished-2132 state line in
-    let e : lastOf state line out ≡ came t =
+finish-given : (mode : Mode) (state : SoFar) (line out : List ℕ) (r : Finished) (out′ : List ℕ) → TellsLast mode state line out r out′
+    → length line ≡ 256 → lastLines state < 2 ^ 64 → 2132 ≤ length out → lastRowsOf r out′ ≡ finishedTold mode (at state line [])
+finish-given mode state line out r out′ f size counts room =
+    let t : List ℕ = finishedTold mode (at state line []) in
+    let h : 0 + length t ≤ 2132 = finished-2132 mode state line in
+    let e : lastOf mode state line out ≡ came t =
     fit-came line (lastLines state) (roomFor out 0 t) t size (lt-ltb (lastLines state) (2 ^ 64) counts) (le-leb (0 + length t) (length out) (omega arith)) in
     ap (λ (q : Finished). lastRowsOf q out′) (last-of r (length t) (f .answer ∙ ap lengthOf e))
     ∙ taken out out′ t (f .rows ∙ ap (λ (x : Came (List ℕ)). writtenOf out 0 (lastText x)) e) (omega arith)
 
 -- ---- all calls
-all : (state : SoFar) (line : List ℕ) (calls : List Call) (last : Last) → length line ≡ 256 → RoomyTold calls last
-    → linesIn (runTold (at state line []) (input calls)) < 2 ^ 64 → TellsMade state line calls last
-    → allWritten calls last ≡ finishedTold (runTold (at state line []) (input calls))
+all : (mode : Mode) (state : SoFar) (line : List ℕ) (calls : List Call) (last : Last) → length line ≡ 256 → RoomyTold calls last
+    → linesIn (runTold mode (at state line []) (input calls)) < 2 ^ 64 → TellsMade mode state line calls last
+    → allWritten calls last ≡ finishedTold mode (runTold mode (at state line []) (input calls))
 unfolding runBy input RoomyTold TellsMade allWritten
-all state line [] last size room counts made = finish-given state line (last .out) (last .finished) (last .out′) made size counts room
-all state line (c ∷ cs) last size room counts made =
-    let m : Machine = runTold (at state line []) (c .chunk) in
+all mode state line [] last size room counts made = finish-given mode state line (last .out) (last .finished) (last .out′) made size counts room
+all mode state line (c ∷ cs) last size room counts made =
+    let m : Machine = runTold mode (at state line []) (c .chunk) in
     let s : List ℕ = input cs in
-    let cut : runTold (at state line []) (c .chunk ++ s) ≡ afterText (m .text) (runTold (quiet m) s) = pieces (at state line []) (c .chunk) s in
-    let total = run-counts (openOf (at state line [])) (keptOf (at state line [])) (c .chunk ++ s) ∙ ap (λ (n : ℕ). state .loaded + state .refused + n) (ends-append (c .chunk) s) in
-    let g = feed-given state line (c .chunk) (c .out) (c .fed) (c .line′) (c .out′) (made .0) size
+    let cut : runTold mode (at state line []) (c .chunk ++ s) ≡ afterText (m .text) (runTold mode (quiet m) s) = pieces mode (at state line []) (c .chunk) s in
+    let total = run-counts mode (openOf (at state line [])) (keptOf (at state line [])) (c .chunk ++ s) ∙ ap (λ (n : ℕ). state .loaded + state .refused + n) (ends-append (c .chunk) s) in
+    let g = feed-given mode state line (c .chunk) (c .out) (c .fed) (c .line′) (c .out′) (made .0) size
     (part-counts _ (state .loaded + state .refused) (ends (c .chunk)) (ends s) _ total counts) (room .0) in
-    let rest : TellsMade (stateOf m) (m .line) cs last =
-    subst (λ (l : List ℕ). TellsMade (stateOf m) l cs last) (g .kept)
-    (subst (λ (r : Fed). TellsMade (next r state) (c .line′) cs last) (g .answer) (made .1)) in
+    let rest : TellsMade mode (stateOf m) (m .line) cs last =
+    subst (λ (l : List ℕ). TellsMade mode (stateOf m) l cs last) (g .kept)
+    (subst (λ (r : Fed). TellsMade mode (next r state) (c .line′) cs last) (g .answer) (made .1)) in
     ap₂ _++_ (g .rows)
-    (all (stateOf m) (m .line) cs last (run-size closeTold (openOf (at state line [])) (keptOf (at state line [])) (c .chunk) ∙ size) (room .1) (subst (λ (n : ℕ). n < 2 ^ 64) (ap linesIn cut) counts) rest)
-    ∙ sym (finished-after (m .text) (runTold (quiet m) s)) ∙ sym (ap finishedTold cut)
+    (all mode (stateOf m) (m .line) cs last (run-size (closeTold mode) (openOf (at state line [])) (keptOf (at state line [])) (c .chunk) ∙ size) (room .1) (subst (λ (n : ℕ). n < 2 ^ 64) (ap linesIn cut) counts) rest)
+    ∙ sym (finished-after mode (m .text) (runTold mode (quiet m) s)) ∙ sym (ap (finishedTold mode) cut)
 
 -- the claim, for every line buffer and all calls
-pub rows-of-whole : (line : List ℕ) (calls : List Call) (last : Last) → WholeTold line calls last
-rows-of-whole line calls last = record {
-  rows = λ size room few made. all fresh line calls last size room (subst (λ (n : ℕ). n < 2 ^ 64) (sym (machine-lines line (input calls) size)) few) made
-      ∙ machine-answers line (input calls) size;
+pub rows-of-whole : (mode : Mode) (line : List ℕ) (calls : List Call) (last : Last) → WholeTold mode line calls last
+rows-of-whole mode line calls last = record {
+  rows = λ size room few made. all mode fresh line calls last size room (subst (λ (n : ℕ). n < 2 ^ 64) (sym (machine-lines mode line (input calls) size)) few) made
+      ∙ machine-answers mode line (input calls) size;
 }
 
 -- ---- every question is counted, told or refused
-both-counts : (qs : List (List ℕ)) → toldIn qs + untoldIn qs ≡ length qs
+both-counts : (mode : Mode) (qs : List (List ℕ)) → toldIn mode qs + untoldIn mode qs ≡ length qs
 unfolding toldIn untoldIn
-both-counts [] = refl
-both-counts (q ∷ qs) = go (isLoaded (questionOf q)) (both-counts qs)
+both-counts mode [] = refl
+both-counts mode (q ∷ qs) = go (isLoaded (questionOf mode q)) (both-counts mode qs)
   where
-    go : (t : Bool) → toldIn qs + untoldIn qs ≡ length qs → cond t 1 0 + toldIn qs + (cond t 0 1 + untoldIn qs) ≡ suc (length qs)
+    go : (t : Bool) → toldIn mode qs + untoldIn mode qs ≡ length qs → cond t 1 0 + toldIn mode qs + (cond t 0 1 + untoldIn mode qs) ≡ suc (length qs)
     go true e = omega arith
     go false e = omega arith
 
-pub told : (questions : List (List ℕ)) → Told questions
-told questions = record { counts = both-counts questions; worth = λ cs. adds-up (valuesTaken cs) }
+pub told : (mode : Mode) (questions : List (List ℕ)) → Told mode questions
+told mode questions = record { counts = both-counts mode questions; worth = λ cs. adds-up (valuesTaken cs) }

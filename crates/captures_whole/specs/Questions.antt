@@ -3,30 +3,31 @@ use mathlib.Core.Bool.{cond}
 use mathlib.Core.List.{List, [], _∷_, _++_}
 use Prim.Native.Nat.{ℕ, _+_}
 use lib.ListN.{length}
+use Rattle.exchange_start.specs.declared.Mode.{Mode}
 use Rattle.line_cut.specs.Lines.{linesOf}
 use Rattle.ledger_row.specs.Row.{isLoaded}
 use Rattle.captures_question.specs.Question.{questionOf}
 use Rattle.captures_row.specs.Rows.{countsRow}
 use Rattle.captures_close.specs.Answered.{answerRows}
 
--- each question's rows, numbered from the number given
-unfoldable pub answersFrom : ℕ → List (List ℕ) → List ℕ
-answersFrom number [] = []
-answersFrom number (q ∷ qs) = answerRows number (questionOf q) ++ answersFrom (number + 1) qs
+-- each question's rows in a mode, numbered from the number given
+unfoldable pub answersFrom : Mode → ℕ → List (List ℕ) → List ℕ
+answersFrom mode number [] = []
+answersFrom mode number (q ∷ qs) = answerRows number (questionOf mode q) ++ answersFrom mode (number + 1) qs
 
 -- how many of them are told, and how many refused
-unfoldable pub toldIn : List (List ℕ) → ℕ
-toldIn [] = 0
-toldIn (q ∷ qs) = cond (isLoaded (questionOf q)) 1 0 + toldIn qs
+unfoldable pub toldIn : Mode → List (List ℕ) → ℕ
+toldIn mode [] = 0
+toldIn mode (q ∷ qs) = cond (isLoaded (questionOf mode q)) 1 0 + toldIn mode qs
 
-unfoldable pub untoldIn : List (List ℕ) → ℕ
-untoldIn [] = 0
-untoldIn (q ∷ qs) = cond (isLoaded (questionOf q)) 0 1 + untoldIn qs
+unfoldable pub untoldIn : Mode → List (List ℕ) → ℕ
+untoldIn mode [] = 0
+untoldIn mode (q ∷ qs) = cond (isLoaded (questionOf mode q)) 0 1 + untoldIn mode qs
 
 -- the last row counts the same questions
-abbrev pub questionCounts : List (List ℕ) → List ℕ
-questionCounts questions = countsRow (length questions) (toldIn questions) (untoldIn questions)
+abbrev pub questionCounts : Mode → List (List ℕ) → List ℕ
+questionCounts mode questions = countsRow (length questions) (toldIn mode questions) (untoldIn mode questions)
 
 -- ALL ROWS: those of each question, in the questions' order, and the counts
-unfoldable pub answersOf : List ℕ → List ℕ
-answersOf input = answersFrom 1 (linesOf input) ++ questionCounts (linesOf input)
+unfoldable pub answersOf : Mode → List ℕ → List ℕ
+answersOf mode input = answersFrom mode 1 (linesOf input) ++ questionCounts mode (linesOf input)

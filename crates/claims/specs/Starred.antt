@@ -12,10 +12,12 @@ use Rattle.bits.specs.Bitboard.{has, those, some, howMany}
 use Rattle.position_boards.specs.Boards.{bitboardsOf}
 use Rattle.position_boards.specs.Sound.{boardsWith, ofColour}
 use Rattle.position_odds.specs.Odds.{orOdds}
+use Rattle.position_further.specs.Rule.{home, atHome, justPassed}
 use Rattle.position.specs.Checked.{ofSide, checked}
 use Rattle.exchange_order.specs.Orders.{order, eachOnce}
 use Rattle.exchange.specs.Exchange.{exchangeOf}
 use Rattle.exchange_start.specs.Capture.{mayCapture, uncrowded}
+use Rattle.exchange_start.specs.declared.Mode.the-variants.{First}
 use Rattle.exchange.specs.Answers.{seeOf}
 use Rattle.claims_examples.specs.Written.{bytesOf, squareNamed}
 use Rattle.score_verdict.specs.Verdict.{lost, won, drawn}
@@ -31,13 +33,13 @@ abbrev pub valued : Answer ℤ → Answer Outcome
 valued (given z) = given (score z)
 valued (refused number beside) = refused number beside
 
--- what the doors of the score and of the exchange, in document 01's order, answer, refusals and all
+-- what the doors of the score and of the exchange, in document 01's mode and order, answer, refusals and all
 unfoldable pub answerOf : String → Question → Answer Outcome
-unfolding bytesOf bitboardsOf tabulate those has some howMany allBelow boardsWith ofColour orOdds checked evalOf eachOnce mayCapture uncrowded exchangeOf
+unfolding bytesOf bitboardsOf tabulate those has some howMany allBelow boardsWith ofColour orOdds home atHome justPassed checked evalOf eachOnce mayCapture uncrowded exchangeOf
 answerOf ranks (scored side) = let bytes : List ℕ = bytesOf ranks in evalOf (bitboardsOf bytes) bytes (ofSide side)
 answerOf ranks (exchanged from to) =
     let bytes : List ℕ = bytesOf ranks in
-    valued (seeOf order (bitboardsOf bytes) bytes (ofSide white) (squareNamed from) (squareNamed to))
+    valued (seeOf First order (bitboardsOf bytes) bytes (ofSide white) (squareNamed from) (squareNamed to))
 
 pub record Starred : Type 0 where
   pub ranks : String

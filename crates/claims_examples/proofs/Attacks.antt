@@ -9,6 +9,7 @@ use Rattle.refusal.specs.Answer.{given, refused}
 use Rattle.bits.specs.Bitboard.{has, some, howMany}
 use Rattle.position_boards.specs.Sound.{boardsWith, ofColour}
 use Rattle.position_odds.specs.Odds.{orOdds}
+use Rattle.position_further.specs.Rule.{home, atHome, justPassed}
 use Rattle.position.specs.Checked.{ofSide, checked}
 use Rattle.attack.specs.Attacks.{attacks}
 use Rattle.attack_to.specs.Attackers.{attackers, isAttacked, isCheck}
@@ -83,13 +84,13 @@ bare = tabulate 64 (λ k. 0)
 
 position-refusals : attacksToOf (0 ∷ []) bare (ofSide 0) 64 0 ∷ attacksToOf none bare (ofSide 2) 64 0 ∷ attacksToOf none bare (ofSide 1) 64 0 ∷ attacksToOf none bare (ofSide 1) 63 0 ∷ []
     ≡ refused 1 [] ∷ refused 1 [] ∷ refused 4 [] ∷ given 0 ∷ []
-unfolding checked orOdds boardsWith ofColour howMany some has allBelow bare attackers
+unfolding checked orOdds home atHome justPassed boardsWith ofColour howMany some has allBelow bare attackers
 position-refusals = refl
 
 colour-refusals : isAttackedOf none bare (ofSide 0) 0 2 ∷ isAttackedOf none bare (ofSide 0) 64 1 ∷ isAttackedOf none bare (ofSide 0) 0 1
     ∷ isCheckOf none bare (ofSide 0) 2 ∷ isCheckOf none bare (ofSide 0) 0 ∷ []
     ≡ refused 1 [] ∷ refused 4 [] ∷ given false ∷ refused 1 [] ∷ given true ∷ []
-unfolding checked orOdds boardsWith ofColour howMany some has allBelow bare isAttacked isCheck
+unfolding checked orOdds home atHome justPassed boardsWith ofColour howMany some has allBelow bare isAttacked isCheck
 colour-refusals = refl
 
 -- ---- the boards are those of the positions that they are called

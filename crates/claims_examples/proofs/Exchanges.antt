@@ -14,7 +14,9 @@ use Rattle.position_boards.specs.Boards.{bitboardsOf}
 use Rattle.position_boards.specs.Sound.{boardsWith, ofColour}
 use Rattle.position_odds.specs.Named.{lowestWrong}
 use Rattle.position_odds.specs.Odds.{orOdds}
+use Rattle.position_further.specs.Rule.{home, atHome, justPassed}
 use Rattle.position.specs.Checked.{ofSide, checked}
+use Rattle.position.specs.declared.State.{State}
 use Rattle.attack.specs.Attacks.{occupied}
 use Rattle.attack_to.specs.Attackers.{attackers}
 use Rattle.claims_examples.specs.Written.{bytesOf, squareNamed}
@@ -22,18 +24,25 @@ use Rattle.exchange_order.specs.Orders.{order, eachOnce}
 use Rattle.exchange_least.specs.Least.{Attacker, nobody, attacker, leastOf}
 use Rattle.exchange_least.specs.Answers.{lvpOf}
 use Rattle.exchange_start.specs.Capture.{mayCapture, uncrowded}
+use Rattle.exchange_start.specs.declared.Mode.{Mode}
+use Rattle.exchange_start.specs.declared.Mode.the-variants.{First}
 use Rattle.exchange_value.specs.Stop.{Stop, playedOut, before, stopOf, carriedOut, alternating}
 use Rattle.exchange.specs.Exchange.{Capture, capturesOf, exchangeOf}
 use Rattle.exchange.specs.PrivateSource.{sourceSee}
 use Rattle.exchange.specs.Answers.{seeOf}
 
--- the door's answer with White to move, refusals and all, for any six kinds; and for document 01's order
-unfoldable answeredBy : List ℕ → String → String → String → Answer ℤ
-unfolding bytesOf bitboardsOf tabulate those has some howMany allBelow boardsWith ofColour orOdds checked eachOnce mayCapture uncrowded exchangeOf
-answeredBy kinds ranks from to =
+-- the door's answer in a mode, refusals and all, for any six kinds and any state
+unfoldable pub answeredIn : Mode → List ℕ → State → String → String → String → Answer ℤ
+unfolding bytesOf bitboardsOf tabulate those has some howMany allBelow boardsWith ofColour orOdds home atHome justPassed checked eachOnce mayCapture uncrowded exchangeOf
+answeredIn mode kinds state ranks from to =
     let bytes : List ℕ = bytesOf ranks in
     let bbs : List ℕ = bitboardsOf bytes in
-    seeOf kinds bbs bytes (ofSide white) (squareNamed from) (squareNamed to)
+    seeOf mode kinds bbs bytes state (squareNamed from) (squareNamed to)
+
+-- in document 01's mode with White to move; and for document 01's order
+unfoldable answeredBy : List ℕ → String → String → String → Answer ℤ
+unfolding answeredIn
+answeredBy kinds = answeredIn First kinds (ofSide white)
 
 unfoldable answered : String → String → String → Answer ℤ
 unfolding answeredBy
@@ -58,16 +67,20 @@ abbrev noKing : List ℕ
 noKing = pawn ∷ knight ∷ bishop ∷ rook ∷ queen ∷ 6 ∷ []
 
 -- ---- the queen's exchange: each capture's square, kind and value taken
-abbrev capture : String → ℕ → ℕ → Capture
+abbrev pub capture : String → ℕ → ℕ → Capture
 capture from kind taken = record { from = squareNamed from; kind = kind; taken = taken }
 
--- the captures with White to move
-unfoldable told : List ℕ → String → String → String → List Capture
+-- the captures in a mode; and in document 01's with White to move
+unfoldable pub toldIn : Mode → List ℕ → State → String → String → String → List Capture
 unfolding bytesOf bitboardsOf tabulate those capturesOf
-told kinds ranks from to =
+toldIn mode kinds state ranks from to =
     let bytes : List ℕ = bytesOf ranks in
     let bbs : List ℕ = bitboardsOf bytes in
-    capturesOf kinds bbs bytes white (squareNamed from) (squareNamed to)
+    capturesOf mode kinds bbs bytes state (squareNamed from) (squareNamed to)
+
+unfoldable told : List ℕ → String → String → String → List Capture
+unfolding toldIn
+told kinds = toldIn First kinds (ofSide white)
 
 -- for any order of the kinds
 unfoldable queens : List ℕ → List Capture
@@ -93,7 +106,7 @@ unfolding answeredBy
 orders = refl
 
 -- ---- where exchanges stop (document 02, W-207), and what the captures before that add up to
-unfoldable stops : List ℕ → Stop
+unfoldable pub stops : List ℕ → Stop
 unfolding stopOf
 stops vs = stopOf vs
 
@@ -101,7 +114,7 @@ unfoldable sums : List ℕ → ℤ
 unfolding stopOf alternating
 sums vs = alternating (carriedOut (stopOf vs) vs)
 
-abbrev taken : List Capture → List ℕ
+abbrev pub taken : List Capture → List ℕ
 taken cs = map (λ c. c .taken) cs
 
 -- at once after the first: pawn d4 takes knight e5, which queen e7 and rook e8 defend, rook e1 behind; 304, 100, 1013, 487: S(3) is 487, S(2) 526, S(1) -426
@@ -138,7 +151,7 @@ two-orders = refl
 -- what the source folds back
 unfoldable queensBySource : ℤ
 unfolding bytesOf bitboardsOf tabulate those sourceSee
-queensBySource = let bytes : List ℕ = bytesOf queenCase in let bbs : List ℕ = bitboardsOf bytes in sourceSee order bbs bytes white (squareNamed "d1") (squareNamed "d5")
+queensBySource = let bytes : List ℕ = bytesOf queenCase in let bbs : List ℕ = bitboardsOf bytes in sourceSee order bbs bytes (ofSide white) (squareNamed "d1") (squareNamed "d5")
 
 by-source : queensBySource ≡ negsuc 708
 unfolding queensBySource
@@ -193,10 +206,10 @@ squares = refl
 
 -- BYTEBOARD with a2 where a byte is not its board's, before SQUARE; SHAPE where the side is none, before BYTEBOARD
 unfoldable amiss : ℕ → String → Answer ℤ
-unfolding bytesOf bitboardsOf tabulate those has some howMany allBelow boardsWith ofColour orOdds lowestWrong firstFrom checked eachOnce mayCapture uncrowded exchangeOf
+unfolding bytesOf bitboardsOf tabulate those has some howMany allBelow boardsWith ofColour orOdds lowestWrong firstFrom home atHome justPassed checked eachOnce mayCapture uncrowded exchangeOf
 amiss side from =
     let bbs : List ℕ = bitboardsOf (bytesOf queenCase) in
-    seeOf order bbs (bytesOf "6k1/1b6/5n2/3p4/4P3/8/P7/3Q2K1") (ofSide side) (squareNamed from) (squareNamed "d5")
+    seeOf First order bbs (bytesOf "6k1/1b6/5n2/3p4/4P3/8/P7/3Q2K1") (ofSide side) (squareNamed from) (squareNamed "d5")
 
 amiss-is : amiss white "d1" ∷ amiss white "d9" ∷ amiss 2 "d1" ∷ [] ≡ refused 16 (squareNamed "a2" ∷ []) ∷ refused 16 (squareNamed "a2" ∷ []) ∷ refused 1 [] ∷ []
 unfolding amiss
@@ -204,7 +217,7 @@ amiss-is = refl
 
 -- ---- the least attacker of a colour on d5, where only some squares are still there: the queen's position with black knights on c7 and e7 too
 unfoldable leastOn : List ℕ → ℕ → List String → Answer Attacker
-unfolding bytesOf bitboardsOf tabulate those has some howMany allBelow boardsWith ofColour orOdds checked eachOnce attackers occupied board leastOf
+unfolding bytesOf bitboardsOf tabulate those has some howMany allBelow boardsWith ofColour orOdds home atHome justPassed checked eachOnce attackers occupied board leastOf
 leastOn kinds colour still =
     let bytes : List ℕ = bytesOf "6k1/1bn1n3/5n2/3p4/4P3/8/8/3Q2K1" in
     let bbs : List ℕ = bitboardsOf bytes in

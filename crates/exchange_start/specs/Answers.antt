@@ -9,14 +9,15 @@ use Rattle.position.specs.Checked.{checked}
 use Rattle.position.specs.declared.State.{State}
 use Rattle.exchange_order.specs.Orders.{eachOnce}
 use Rattle.exchange_start.specs.Capture.{mayCapture, uncrowded}
+use Rattle.exchange_start.specs.declared.Mode.{Mode}
 
 -- SQUARE: "a square above 63"
 abbrev pub bothOnBoard : ℕ → ℕ → Bool
 bothOnBoard from to = ltb from 64 && ltb to 64
 
 -- whatever is asked of the captures of an exchange, behind its refusals
-abbrev pub behind : {A : Type 0} → List ℕ → List ℕ → List ℕ → State → ℕ → ℕ → A → Answer A
-behind kinds bbs bytes state from to asked =
+abbrev pub behind : {A : Type 0} → Mode → List ℕ → List ℕ → List ℕ → State → ℕ → ℕ → A → Answer A
+behind mode kinds bbs bytes state from to asked =
     checked bbs bytes state
     (orRefuse (bothOnBoard from to) R.Square
-    (orRefuse (eachOnce kinds) R.Order (orRefuse (mayCapture bbs bytes (state .side) from to) R.Move (orRefuse (uncrowded bbs) R.Crowd (given asked)))))
+    (orRefuse (eachOnce kinds) R.Order (orRefuse (mayCapture mode bbs bytes state from to) R.Move (orRefuse (uncrowded bbs) R.Crowd (given asked)))))

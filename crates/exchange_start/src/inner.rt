@@ -2,7 +2,10 @@
 ghost use mathlib.Core.Path.{_≡_};
 ghost use Rattle.bits.specs.Bitboard.{has};
 ghost use Rattle.position_boards.specs.Sound.{on};
-ghost use Rattle.exchange_start.specs.Promises.{KindOn, MayCapture, Uncrowded, BeginsExchange};
+ghost use Rattle.exchange_start.specs.Capture.{takesPassing, mayTake};
+ghost use Rattle.exchange_start.specs.declared.Mode.the-variants.{Second};
+ghost use Rattle.exchange_start.specs.Promises.{KindOn, TakesPassing, MayCapture, Uncrowded, BeginsExchange};
+use crate::Mode;
 use attack::inner::attacks_from;
 use attack::inner::occupied;
 use attack::inner::other;
@@ -13,9 +16,11 @@ use chess::color::WHITE;
 use chess::inner::index;
 use chess::kind::KING;
 use chess::kind::Kind;
+use chess::kind::PAWN;
 use exchange_order::inner::each_once;
 use position::Checked;
 use position::State;
+use position_further::Passant;
 use refusal::Refusal;
 
 // Whether a square stands in b; none above 63 does.
@@ -46,17 +51,58 @@ pub fn kind_on(board: &[u8], square: u8) -> u8
     KING
 }
 
-// A piece of the side on the start, one of the other side on the target, and the first attacks the second.
-pub fn may_capture(bitboards: &[u64], board: &[u8], side: u8, from: u8, to: u8) -> bool
-    ensures { λ r. ⌜ MayCapture (now (bitboards .entry)) (now (board .entry)) side from to r ⌝ }
+// A pawn on the start, and the en passant square as the target.
+fn passes(board: &[u8], state: State, from: u8, to: u8) -> bool
+    ensures { λ r. ⌜ r ≡ takesPassing Second (now (board .entry)) state from to ⌝ }
 {
-    if !stands(bitboards, side, from) {
+    if kind_on(board, from) != PAWN {
         return false;
     }
-    if !stands(bitboards, other(side), to) {
+    let passant = state.passant;
+    let Passant::On(square) = passant else {
+        return false;
+    };
+    square == to
+}
+
+// Whether the capture is one en passant, which the second mode alone knows.
+pub fn takes_passing(mode: Mode, board: &[u8], state: State, from: u8, to: u8) -> bool
+    ensures { λ r. ⌜ TakesPassing mode (now (board .entry)) state from to r ⌝ }
+{
+    match mode {
+        Mode::First => false,
+        Mode::Second => passes(board, state, from, to),
+    }
+}
+
+// A piece of the other side on the target, or a pawn that takes en passant there.
+fn may_take(mode: Mode, bitboards: &[u64], board: &[u8], state: State, from: u8, to: u8) -> bool
+    ensures { λ r. ⌜ r ≡ mayTake mode (now (bitboards .entry)) (now (board .entry)) state from to ⌝ }
+{
+    if stands(bitboards, other(state.side), to) {
+        return true;
+    }
+    takes_passing(mode, board, state, from, to)
+}
+
+// A piece of the side on the start, one that it may take on the target, and the first attacks the second.
+pub fn may_capture(
+    mode: Mode,
+    bitboards: &[u64],
+    board: &[u8],
+    state: State,
+    from: u8,
+    to: u8,
+) -> bool
+    ensures { λ r. ⌜ MayCapture mode (now (bitboards .entry)) (now (board .entry)) state from to r ⌝ }
+{
+    if !stands(bitboards, state.side, from) {
         return false;
     }
-    let targets = attacks_from(kind_on(board, from), side, from, occupied(bitboards));
+    if !may_take(mode, bitboards, board, state, from, to) {
+        return false;
+    }
+    let targets = attacks_from(kind_on(board, from), state.side, from, occupied(bitboards));
     holds(targets, to)
 }
 
@@ -73,8 +119,9 @@ pub fn uncrowded(bitboards: &[u64]) -> bool
     bits::count(standing(bitboards, KING, BLACK)) <= 1
 }
 
-// Whether a capture may start an exchange: SHAPE, OVERLAP, UNION, BYTEBOARD, SQUARE, ORDER, MOVE, CROWD.
+// Whether a capture may start an exchange: SHAPE, OVERLAP, UNION, BYTEBOARD, RIGHTS, PASSANT, COUNTER, SQUARE, ORDER, MOVE, CROWD.
 pub fn begins(
+    mode: Mode,
     bitboards: &[u64],
     board: &[u8],
     state: State,
@@ -82,7 +129,7 @@ pub fn begins(
     from: u8,
     to: u8,
 ) -> Checked
-    ensures { λ r. ⌜ BeginsExchange (now (order .entry)) (now (bitboards .entry)) (now (board .entry)) state from to r ⌝ }
+    ensures { λ r. ⌜ BeginsExchange mode (now (order .entry)) (now (bitboards .entry)) (now (board .entry)) state from to r ⌝ }
 {
     if let Checked::Refused(refusal) = position::check(bitboards, board, state) {
         return Checked::Refused(refusal);
@@ -96,7 +143,7 @@ pub fn begins(
     if !each_once(order) {
         return Checked::Refused(Refusal::Order);
     }
-    if !may_capture(bitboards, board, state.side, from, to) {
+    if !may_capture(mode, bitboards, board, state, from, to) {
         return Checked::Refused(Refusal::Move);
     }
     if !uncrowded(bitboards) {

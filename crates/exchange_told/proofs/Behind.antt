@@ -10,6 +10,7 @@ use Rattle.position.specs.declared.Checked.{Checked}
 use Rattle.position.specs.declared.Checked.the-variants.{Fit, Refused}
 use Rattle.exchange_start.specs.Answers.{behind}
 use Rattle.exchange_start.specs.Promises.{BeginsExchange}
+use Rattle.exchange_start.specs.declared.Mode.{Mode}
 use Rattle.exchange_start.proofs.Begun.{knows, tells, passes-on, a-side, from-on}
 use Rattle.exchange_value.specs.Stop.{playedOut, stopOf}
 use Rattle.exchange.specs.Exchange.{capturesOf}
@@ -19,30 +20,30 @@ use Rattle.exchange.proofs.Settling.{at-most-32}
 use Rattle.exchange.proofs.Room.{all-listed}
 use Rattle.exchange_told.specs.Told.{toldOf, theCaptures, valuesTaken}
 
-pub told-is : (kinds bbs bytes : List ℕ) (state : State) (from to : ℕ)
-    → toldOf kinds bbs bytes state from to ≡ behind kinds bbs bytes state from to (capturesOf kinds bbs bytes (state .side) from to)
+pub told-is : (mode : Mode) (kinds bbs bytes : List ℕ) (state : State) (from to : ℕ)
+    → toldOf mode kinds bbs bytes state from to ≡ behind mode kinds bbs bytes state from to (capturesOf mode kinds bbs bytes state from to)
 unfolding toldOf
-told-is kinds bbs bytes state from to = refl
+told-is mode kinds bbs bytes state from to = refl
 
 -- ---- after the test of a capture
-module _ (kinds bbs bytes : List ℕ) (state : State) (from to : ℕ) (r : Checked) (promise : BeginsExchange kinds bbs bytes state from to r) where
-  pub told-fit : r ≡ Fit → theCaptures (toldOf kinds bbs bytes state from to) ≡ capturesWith kinds bbs bytes (state .side) from to
+module _ (mode : Mode) (kinds bbs bytes : List ℕ) (state : State) (from to : ℕ) (r : Checked) (promise : BeginsExchange mode kinds bbs bytes state from to r) where
+  pub told-fit : r ≡ Fit → theCaptures (toldOf mode kinds bbs bytes state from to) ≡ capturesWith mode kinds bbs bytes state from to
   told-fit e =
-      let k = knows kinds bbs bytes state from to r promise e in
-      ap theCaptures (told-is kinds bbs bytes state from to ∙ sym (tells kinds bbs bytes state from to r promise (capturesOf kinds bbs bytes (state .side) from to) e))
-      ∙ sym (all-listed kinds bbs bytes (state .side) from to (from-on k) (a-side k) (k .may) (k .few))
+      let k = knows mode kinds bbs bytes state from to r promise e in
+      ap theCaptures (told-is mode kinds bbs bytes state from to ∙ sym (tells mode kinds bbs bytes state from to r promise (capturesOf mode kinds bbs bytes state from to) e))
+      ∙ sym (all-listed mode kinds bbs bytes state from to (from-on k) (a-side k) (k .may) (k .few))
 
-  pub told-refused : (q : Refusal) → r ≡ Refused q → theCaptures (toldOf kinds bbs bytes state from to) ≡ []
+  pub told-refused : (q : Refusal) → r ≡ Refused q → theCaptures (toldOf mode kinds bbs bytes state from to) ≡ []
   told-refused q e =
-      ap theCaptures (told-is kinds bbs bytes state from to ∙ sym (passes-on kinds bbs bytes state from to r promise (capturesOf kinds bbs bytes (state .side) from to) q e))
+      ap theCaptures (told-is mode kinds bbs bytes state from to ∙ sym (passes-on mode kinds bbs bytes state from to r promise (capturesOf mode kinds bbs bytes state from to) q e))
 
 -- ---- the arrays' part that is used
-module _ (kinds bbs bytes : List ℕ) (side from to n : ℕ) (array : List ℕ)
-    (en : n ≡ length (capturesWith kinds bbs bytes side from to)) (ea : array ≡ column 32 (λ c. c .taken) (capturesWith kinds bbs bytes side from to)) where
-  pub values-are : take (n - 0) array ≡ valuesTaken (capturesWith kinds bbs bytes side from to)
+module _ (mode : Mode) (kinds bbs bytes : List ℕ) (state : State) (from to n : ℕ) (array : List ℕ)
+    (en : n ≡ length (capturesWith mode kinds bbs bytes state from to)) (ea : array ≡ column 32 (λ c. c .taken) (capturesWith mode kinds bbs bytes state from to)) where
+  pub values-are : take (n - 0) array ≡ valuesTaken (capturesWith mode kinds bbs bytes state from to)
   values-are =
       ap₂ (λ (m : ℕ) (l : List ℕ). take m l) (sub-zero n ∙ en) ea
-      ∙ column-taken (λ c. c .taken) 32 (capturesWith kinds bbs bytes side from to) (at-most-32 kinds bbs bytes side from to)
+      ∙ column-taken (λ c. c .taken) 32 (capturesWith mode kinds bbs bytes state from to) (at-most-32 mode kinds bbs bytes state from to)
 
 pub stop-of-none : playedOut ≡ stopOf []
 unfolding stopOf

@@ -5,6 +5,7 @@ use Prim.Native.Nat.{ℕ}
 use Rattle.refusal.proofs.Paper.{one}
 use Rattle.position.specs.declared.State.{State}
 use Rattle.position.specs.declared.Checked.{Checked}
+use Rattle.exchange_start.specs.declared.Mode.{Mode}
 use Rattle.exchange_start.proofs.Determined as Start
 use Rattle.exchange_value.specs.declared.inner.Stopped.{Stopped}
 use Rattle.exchange_value.proofs.Determined.{stopped-one}
@@ -17,10 +18,10 @@ use Rattle.exchange_told.specs.declared.Told.{Told}
 abbrev told : Checked → Listed → Stopped → Told
 told c l s = record { checked = c; listed = l; stop = s }
 
-pub captures : (kinds bitboards board : List ℕ) (state : State) (from to : ℕ) (r s : Told)
-    → Captures kinds bitboards board state from to r → Captures kinds bitboards board state from to s → r ≡ s
-captures kinds bitboards board state from to r s p q =
-    ap (λ (c : Checked). told c (r .listed) (r .stop)) (Start.begins kinds bitboards board state from to (r .checked) (s .checked) (p .0) (q .0))
+pub captures : (mode : Mode) (kinds bitboards board : List ℕ) (state : State) (from to : ℕ) (r s : Told)
+    → Captures mode kinds bitboards board state from to r → Captures mode kinds bitboards board state from to s → r ≡ s
+captures mode kinds bitboards board state from to r s p q =
+    ap (λ (c : Checked). told c (r .listed) (r .stop)) (Start.begins mode kinds bitboards board state from to (r .checked) (s .checked) (p .0) (q .0))
     ∙ ap₂ (λ (l : Listed) (t : Stopped). told (s .checked) l t)
-    (listed-one (theCaptures (toldOf kinds bitboards board state from to)) (r .listed) (s .listed) (p .1) (q .1))
+    (listed-one (theCaptures (toldOf mode kinds bitboards board state from to)) (r .listed) (s .listed) (p .1) (q .1))
     (stopped-one (r .stop) (s .stop) (one (p .2) (q .2)))

@@ -1,5 +1,5 @@
--- The captures before the stopping point, or all of them when played out, take values that add up with alternating signs to what the exchange is worth: for every
--- order, over the definitions, and of what the two doors answer. Assumes nothing.
+-- The captures before the stopping point, or all of them when played out, take values that add up with alternating signs to what the exchange is worth: in either mode and
+-- for every order, over the definitions, and of what the two doors answer. Assumes nothing.
 use mathlib.Core.Path.{_≡_, sym, ap, ap₂, subst, _∙_}
 use mathlib.Core.List.{List}
 use Prim.Native.Nat.{ℕ, _≤_}
@@ -7,6 +7,7 @@ use lib.IntN.{ℤ}
 use lib.ListN.{length, take}
 use Rattle.refusal.specs.Answer.{given}
 use Rattle.position.specs.declared.State.{State}
+use Rattle.exchange_start.specs.declared.Mode.{Mode}
 use Rattle.exchange_start.proofs.Begun.{answered-knows, all-answered, a-side, from-on}
 use Rattle.exchange_value.specs.Settled.{settled}
 use Rattle.exchange_value.specs.Stop.{Stop, carriedOut, alternating}
@@ -28,33 +29,30 @@ use Rattle.exchange_told.proofs.Behind.{told-is}
 same-given : {A : Type 0} {x y : A} → given x ≡ given y → x ≡ y
 same-given e = cc
 
-module _ (kinds bbs bytes : List ℕ) (state : State) (from to : ℕ) where
-  abbrev side : ℕ
-  side = state .side
-
+module _ (mode : Mode) (kinds bbs bytes : List ℕ) (state : State) (from to : ℕ) where
   abbrev cs : List Capture
-  cs = capturesOf kinds bbs bytes side from to
+  cs = capturesOf mode kinds bbs bytes state from to
 
-  worth-is : exchangeOf kinds bbs bytes side from to ≡ settled (valuesTaken cs)
-  worth-is = exchange-is kinds bbs bytes side from to ∙ ap (λ (l : List Capture). settled (valuesTaken l)) (sym (captures-are kinds bbs bytes side from to))
+  worth-is : exchangeOf mode kinds bbs bytes state from to ≡ settled (valuesTaken cs)
+  worth-is = exchange-is mode kinds bbs bytes state from to ∙ ap (λ (l : List Capture). settled (valuesTaken l)) (sym (captures-are mode kinds bbs bytes state from to))
 
-  sum-is : alternating (carriedOut (theStop cs) (valuesTaken cs)) ≡ exchangeOf kinds bbs bytes side from to
+  sum-is : alternating (carriedOut (theStop cs) (valuesTaken cs)) ≡ exchangeOf mode kinds bbs bytes state from to
   sum-is = adds-up (valuesTaken cs) ∙ sym worth-is
 
   used : (l : Listed) → HoldsCaptures cs l → length cs ≤ 32 → take (l .count) (l .taken) ≡ valuesTaken cs
   used l h n = ap₂ (λ (m : ℕ) (vs : List ℕ). take m vs) (h .0) (h .3) ∙ column-taken (λ c. c .taken) 32 cs n
 
-  doors : (r : Told) (z : ℤ) → Captures kinds bbs bytes state from to r → See kinds bbs bytes state from to (Worth z)
+  doors : (r : Told) (z : ℤ) → Captures mode kinds bbs bytes state from to r → See mode kinds bbs bytes state from to (Worth z)
       → alternating (carriedOut (stopped (r .stop)) (take (r .listed .count) (r .listed .taken))) ≡ z
   doors r z p q =
-      let worth : ℤ = exchangeOf kinds bbs bytes side from to in
-      let b = answered-knows kinds bbs bytes state from to worth z q in
+      let worth : ℤ = exchangeOf mode kinds bbs bytes state from to in
+      let b = answered-knows mode kinds bbs bytes state from to worth z q in
       let few : length cs ≤ 32 =
-      subst (λ (l : List Capture). length l ≤ 32) (all-listed kinds bbs bytes side from to (from-on b) (a-side b) (b .may) (b .few)) (at-most-32 kinds bbs bytes side from to) in
-      let is : z ≡ worth = same-given (q ∙ sym (all-answered kinds bbs bytes state from to worth b)) in
-      let e : theCaptures (toldOf kinds bbs bytes state from to) ≡ cs = ap theCaptures (told-is kinds bbs bytes state from to ∙ sym (all-answered kinds bbs bytes state from to cs b)) in
+      subst (λ (l : List Capture). length l ≤ 32) (all-listed mode kinds bbs bytes state from to (from-on b) (a-side b) (b .may) (b .few)) (at-most-32 mode kinds bbs bytes state from to) in
+      let is : z ≡ worth = same-given (q ∙ sym (all-answered mode kinds bbs bytes state from to worth b)) in
+      let e : theCaptures (toldOf mode kinds bbs bytes state from to) ≡ cs = ap theCaptures (told-is mode kinds bbs bytes state from to ∙ sym (all-answered mode kinds bbs bytes state from to cs b)) in
       let h : HoldsCaptures cs (r .listed) = subst (λ (l : List Capture). HoldsCaptures l (r .listed)) e (p .1) in
       ap₂ (λ (t : Stop) (vs : List ℕ). alternating (carriedOut t vs)) (p .2 ∙ ap theStop e) (used (r .listed) h few) ∙ sum-is ∙ sym is
 
-  pub why : Why kinds bbs bytes state from to
+  pub why : Why mode kinds bbs bytes state from to
   why = record { stops = stop-means (valuesTaken cs); goes-on = out-means (valuesTaken cs); adds-up = sum-is; of-the-doors = doors }

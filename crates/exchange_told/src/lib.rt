@@ -6,6 +6,7 @@ use chess::kind::Kind;
 use exchange::inner::Listed;
 use exchange::inner::MOST;
 use exchange::inner::list;
+use exchange_start::Mode;
 use exchange_start::inner::begins;
 use exchange_value::inner::Stopped;
 use exchange_value::inner::stop;
@@ -30,8 +31,10 @@ fn none() -> Listed
     }
 }
 
-// The captures that the piece on `from` starts on `to`, the kinds capturing in the order: SHAPE, OVERLAP, UNION, BYTEBOARD, SQUARE, ORDER, MOVE, CROWD.
+// The captures that the piece on `from` starts on `to`, in a mode and the kinds capturing in the order: SHAPE, OVERLAP, UNION, BYTEBOARD, RIGHTS, PASSANT, COUNTER,
+// SQUARE, ORDER, MOVE, CROWD.
 pub fn captures(
+    mode: Mode,
     bitboards: &[u64],
     board: &[u8],
     state: State,
@@ -39,16 +42,16 @@ pub fn captures(
     from: u8,
     to: u8,
 ) -> Told
-    ensures { λ r. ⌜ Captures (now (order .entry)) (now (bitboards .entry)) (now (board .entry)) state from to r ⌝ }
+    ensures { λ r. ⌜ Captures mode (now (order .entry)) (now (bitboards .entry)) (now (board .entry)) state from to r ⌝ }
 {
-    if let Checked::Refused(refusal) = begins(bitboards, board, state, order, from, to) {
+    if let Checked::Refused(refusal) = begins(mode, bitboards, board, state, order, from, to) {
         return Told {
             checked: Checked::Refused(refusal),
             listed: none(),
             stop: Stopped::PlayedOut,
         };
     }
-    let listed = list(bitboards, board, order, state.side, from, to);
+    let listed = list(mode, bitboards, board, order, state, from, to);
     let taken = listed.taken;
     let n = listed.count;
     Told {

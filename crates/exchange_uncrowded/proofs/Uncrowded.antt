@@ -20,6 +20,7 @@ use Rattle.position_boards.specs.Sound.{apart, united}
 use Rattle.position_consistent.specs.Consistent.{agrees}
 use Rattle.position_odds.specs.Named.{lowestWrong}
 use Rattle.position_odds.specs.Odds.{orOdds}
+use Rattle.position_further.specs.Rule.{atHome, justPassed, countersFit}
 use Rattle.position.specs.Checked.{shaped, checked}
 use Rattle.attack.specs.Attacks.{standing, occupied}
 use Rattle.score_material.specs.Pieces.{count}
@@ -95,27 +96,35 @@ not-crowd a e q = true≢false (sym (ap isCrowd q) ∙ e)
 
 pub never-crowd : NeverCrowd
 unfolding checked orOdds
-never-crowd kinds bbs bytes state from to f =
-    not-crowd (seeOf kinds bbs bytes state from to)
-    (go (shaped bbs bytes state) (allBelow 64 (apart bbs)) (allBelow 64 (united bbs)) (allBelow 64 (agrees bbs bytes)) (bothOnBoard from to) (eachOnce kinds) (mayCapture bbs bytes (state .side) from to)
-    (uncrowded bbs) (no-crowd bbs (f .kings) (f .pieces)))
+never-crowd mode kinds bbs bytes state from to f =
+    not-crowd (seeOf mode kinds bbs bytes state from to)
+    (go (shaped bbs bytes state) (allBelow 64 (apart bbs)) (allBelow 64 (united bbs)) (allBelow 64 (agrees bbs bytes))
+    (atHome bytes (state .rights)) (justPassed bytes (state .side) (state .passant)) (countersFit (state .halfmoves) (state .moves))
+    (bothOnBoard from to) (eachOnce kinds) (mayCapture mode bbs bytes state from to) (uncrowded bbs) (no-crowd bbs (f .kings) (f .pieces)))
   where
-    go : (z o u b t k m c : Bool) → c ≡ true
+    go : (z o u b r p n t k m c : Bool) → c ≡ true
         → isCrowd
         (orRefuse z R.Shape
         (orRefuse o (R.Overlap (lowestWrong (apart bbs)))
         (orRefuse u (R.Union (lowestWrong (united bbs)))
         (orRefuse b (R.Byteboard (lowestWrong (agrees bbs bytes)))
-        (orRefuse t R.Square (orRefuse k R.Order (orRefuse m R.Move (orRefuse c R.Crowd (given (exchangeOf kinds bbs bytes (state .side) from to)))))))))) ≡ false
-    go true true true true true true true true e = refl
-    go true true true true true true true false e = sym e
-    go true true true true true true false c e = refl
-    go true true true true true false m c e = refl
-    go true true true true false k m c e = refl
-    go true true true false t k m c e = refl
-    go true true false b t k m c e = refl
-    go true false u b t k m c e = refl
-    go false o u b t k m c e = refl
+        (orRefuse r R.Rights
+        (orRefuse p R.Passant
+        (orRefuse n R.Counter
+        (orRefuse t R.Square
+        (orRefuse k R.Order (orRefuse m R.Move (orRefuse c R.Crowd (given (exchangeOf mode kinds bbs bytes state from to))))))))))))) ≡ false
+    go true true true true true true true true true true true e = refl
+    go true true true true true true true true true true false e = sym e
+    go true true true true true true true true true false c e = refl
+    go true true true true true true true true false m c e = refl
+    go true true true true true true true false k m c e = refl
+    go true true true true true true false t k m c e = refl
+    go true true true true true false n t k m c e = refl
+    go true true true true false p n t k m c e = refl
+    go true true true false r p n t k m c e = refl
+    go true true false b r p n t k m c e = refl
+    go true false u b r p n t k m c e = refl
+    go false o u b r p n t k m c e = refl
 
 -- ---- of a line
 played : (said : Answer Line) (l : Line) → playedLine said ≡ given l → FromRealPlay (bitboardsOf (l .board)) (l .state)
@@ -129,4 +138,4 @@ played (given m) l e =
 played (refused n v) l e = given-not (sym e)
 
 pub line-never-crowd : LineNeverCrowd
-line-never-crowd line l e kinds from to = never-crowd kinds (bitboardsOf (l .board)) (l .board) (l .state) from to (played (lineOf line) l e)
+line-never-crowd line l e mode kinds from to = never-crowd mode kinds (bitboardsOf (l .board)) (l .board) (l .state) from to (played (lineOf line) l e)

@@ -29,7 +29,7 @@ listed-192 (refused n l) bbs before h = h
 twelve : (bbs board : List ℕ) (state : State) (t : Trace) → given t ≡ listTracedOf bbs board state → length (t .mobility) ≡ 12
 unfolding traceOf
 twelve bbs board state t e =
-    let same : given (traceOf bbs (state .side)) ≡ given t = through bbs board state (given (traceOf bbs (state .side))) t (sym e) .2 in
+    let same : given (traceOf bbs (state .side)) ≡ given t = through bbs board state (given (traceOf bbs (state .side))) t (sym e) .1 in
     sym (ap (λ (a : Answer Trace). length (traceFrom a .mobility)) same)
 
 module _ (bbs board : List ℕ) (state : State) (half : ℕ) (before : List ℕ) (r : ListTraced) (after : List ℕ) (h : ComputesList bbs board state before r after) where

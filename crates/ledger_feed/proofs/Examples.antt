@@ -7,6 +7,8 @@ use lib.ListN.{replicate}
 use Rattle.laws.specs.Tables.{tabulate}
 use Rattle.text_in.specs.Text.{text, every, holds, before, after, without, withoutLast, trim, placeIn}
 use Rattle.line_ranks.specs.Ranks.{areRanks, stacked}
+use Rattle.line_tail.specs.Words.{nthWord}
+use Rattle.line_tail.specs.Tail.{rightsFit, passantFits, countersFitFields, stateSaid}
 use Rattle.line_parse.specs.Line.{fieldsSay, lineOf}
 use Rattle.position_boards.specs.Boards.{bitboardsOf}
 use Rattle.score.specs.Score.{scoreOf}
@@ -18,7 +20,7 @@ use Rattle.ledger_feed.specs.Machine.{run}
 
 -- over a buffer that held other bytes: 256 bytes are read, with CR LF too; 257 are LONG, and so is any longer line
 written : List ℕ → List ℕ
-unfolding runBy lineOf fieldsSay every holds before after without withoutLast trim placeIn areRanks stacked scoreOf tabulate bitboardsOf loadedRow refusedRow digitsUpTo
+unfolding runBy lineOf fieldsSay every holds before after without withoutLast trim placeIn areRanks stacked nthWord rightsFit passantFits countersFitFields stateSaid scoreOf tabulate bitboardsOf loadedRow refusedRow digitsUpTo
 written input = run P.Any (record { line = replicate 256 7; held = 0; cr = false; loaded = 0; refused = 0; text = [] }) input .text
 
 abbrev pub long : ℕ → List ℕ → List ℕ

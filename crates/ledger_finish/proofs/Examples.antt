@@ -7,6 +7,8 @@ use lib.ListN.{replicate}
 use Rattle.laws.specs.Tables.{tabulate}
 use Rattle.text_in.specs.Text.{text, every, holds, before, after, without, withoutLast, trim, placeIn}
 use Rattle.line_ranks.specs.Ranks.{areRanks, stacked}
+use Rattle.line_tail.specs.Words.{nthWord}
+use Rattle.line_tail.specs.Tail.{rightsFit, passantFits, countersFitFields, stateSaid}
 use Rattle.line_parse.specs.Line.{fieldsSay, lineOf}
 use Rattle.position_boards.specs.Boards.{bitboardsOf}
 use Rattle.score.specs.Score.{scoreOf}
@@ -21,7 +23,7 @@ use Rattle.ledger_finish.specs.Last.{finished}
 
 -- over a buffer that held other bytes: the CR of a last line with no LF is kept, and makes 257 bytes of 256
 written : List ℕ → List ℕ
-unfolding runBy finished lineOf fieldsSay every holds before after without withoutLast trim placeIn areRanks stacked scoreOf tabulate bitboardsOf loadedRow refusedRow lastRow digitsUpTo
+unfolding runBy finished lineOf fieldsSay every holds before after without withoutLast trim placeIn areRanks stacked nthWord rightsFit passantFits countersFitFields stateSaid scoreOf tabulate bitboardsOf loadedRow refusedRow lastRow digitsUpTo
 written input = finished P.Any (run P.Any (record { line = replicate 256 7; held = 0; cr = false; loaded = 0; refused = 0; text = [] }) input)
 
 boundaries :

@@ -11,17 +11,13 @@ use lib.Seq.{take-append-seam, drop-append-seam}
 use borrow.Author.Tests.{ne-eqb, le-leb, lt-ltb, ltb-true}
 use lib.IntN.{ℤ, pos, negsuc}
 use Rattle.laws.specs.Tests.{same}
-use Rattle.refusal.specs.Answer.{Answer, given, refused, orRefuse}
-use Rattle.refusal.specs.Refusals.{numberOf}
-use Rattle.refusal.specs.declared.Refusal.{Refusal}
-use Rattle.refusal.specs.declared.Refusal.the-variants as R
-use Rattle.refusal.proofs.Paper.{number-small}
+use Rattle.refusal.specs.Answer.{Answer, given, refused}
 use Rattle.position_boards.specs.Boards.{bitboardsOf}
 use Rattle.position.specs.declared.State.{State}
-use Rattle.text_in.specs.Text.{text, semicolon, isText, every, holds}
-use Rattle.line_ranks.specs.Ranks.{areEightRanks}
-use Rattle.line_parse.specs.Line.{Line, sides, results, isOneOf, ranksOf, sideWord, positionField, resultField, fieldsSay, lineOf}
+use Rattle.text_in.specs.Text.{text}
+use Rattle.line_parse.specs.Line.{Line, lineOf}
 use Rattle.line_parse.proofs.Given.{given-spells}
+use Rattle.line.proofs.Field.{refused-by}
 use Rattle.attack.specs.Attacks.{attacks}
 use Rattle.score_pst.specs.Pst.{pstOf}
 use Rattle.score_taper.specs.Parts.{in16}
@@ -119,63 +115,9 @@ score-16 : (bbs : List ℕ) (state : State) (z : ℤ) → given (score z) ≡ sc
 unfolding scoreOf
 score-16 bbs state z e = score-short attacks pstOf bbs (state .side) z e
 
--- ---- a line's refusals are numbers of the table: 1 to 99
-number-some : (r : Refusal) → 1 ≤ numberOf r
-number-some R.Shape = omega arith
-number-some R.Score = omega arith
-number-some R.Square = omega arith
-number-some R.Move = omega arith
-number-some R.Crowd = omega arith
-number-some R.Trace = omega arith
-number-some R.Long = omega arith
-number-some R.Byte = omega arith
-number-some R.Field = omega arith
-number-some R.Place = omega arith
-number-some R.Side = omega arith
-number-some R.Result = omega arith
-number-some (R.Overlap s) = omega arith
-number-some (R.Union s) = omega arith
-number-some (R.Byteboard s) = omega arith
-number-some R.Room = omega arith
-number-some R.Length = omega arith
-number-some (R.Code s) = omega arith
-number-some R.Order = omega arith
-number-some R.Entry = omega arith
-number-some R.Many = omega arith
-number-some R.Iteration = omega arith
-number-some R.Kings = omega arith
-number-some R.Pawns = omega arith
-number-some R.Pieces = omega arith
-number-some (R.Rank s) = omega arith
-number-some (R.Check s) = omega arith
-number-some R.Rights = omega arith
-number-some R.Passant = omega arith
-number-some R.Counter = omega arith
-number-some R.Absent = omega arith
-
-abbrev Told : ℕ → Type 0
-Told n = (1 ≤ n) × (n < 100)
-
-test-told : {A : Type 0} (holds : Bool) (r : Refusal) (n : ℕ) (v : List ℕ) (rest : Answer A) → (refused n v ≡ rest → Told n) → refused n v ≡ orRefuse holds r rest → Told n
-test-told true r n v rest k e = k e
-test-told false r n v rest k e = let q : n ≡ numberOf r = cc in (omega (arith, number-some r), omega (arith, number-small r))
-
-fields-told : (field result : List ℕ) (n : ℕ) (v : List ℕ) → refused n v ≡ fieldsSay field result → Told n
-unfolding fieldsSay
-fields-told field result n v =
-    test-told (areEightRanks (ranksOf field)) R.Place n v _
-    (test-told (isOneOf sides (sideWord field)) R.Side n v _
-    (test-told (isOneOf results result) R.Result n v _ (λ e. absurd (let k : _≡_ {A = ℕ} 0 1 = cc in omega arith))))
-
-line-refusal : (line : List ℕ) (n : ℕ) (v : List ℕ) → refused n v ≡ lineOf line → Told n
-unfolding lineOf
-line-refusal line n v =
-    test-told (leb (length line) 256) R.Long n v _
-    (test-told (every isText line) R.Byte n v _
-    (test-told (holds semicolon line) R.Field n v _ (fields-told (positionField line) (resultField line) n v)))
-
-refused-own : (n : ℕ) → Told n → saysRefused (text "refused " ++ decimalOf n) ≡ true
-refused-own n t = number-own 1 99 n (t .0) (omega (arith, t .1)) (omega (arith, t .1))
+-- ---- a line's refusals are numbers of one digit or two, from 1
+refused-own : (n : ℕ) → 1 ≤ n → n < 100 → saysRefused (text "refused " ++ decimalOf n) ≡ true
+refused-own n l u = number-own 1 99 n l (omega arith) (omega arith)
 
 -- the half points
 half-kind : (half : ℕ) (s : List ℕ) → half < 3 → isShown s ≡ true → (saysRefused (spaced half ++ s) ≡ false) × (saysLoaded (spaced half ++ s) ≡ true)
@@ -194,7 +136,10 @@ kind l (given x) e =
     let p = half-kind (x .half) (shownOf (scoreOf (bitboardsOf (x .board)) (x .state))) (given-spells l x e .half)
     (shown-own (scoreOf (bitboardsOf (x .board)) (x .state)) (score-16 (bitboardsOf (x .board)) (x .state)) (never-none (bitboardsOf (x .board)) (x .state))) in
     (p .0, ap₂ _||_ (p .0) (p .1))
-kind l (refused n v) e = let p = refused-own n (line-refusal l n v (sym e)) in (p, ap (λ (b : Bool). b || saysLoaded (text "refused " ++ decimalOf n)) p)
+kind l (refused n v) e =
+    let h = refused-by l n v e in
+    let p = refused-own n (omega (arith, h .1)) (omega (arith, h .2)) in
+    (p, ap (λ (b : Bool). b || saysLoaded (text "refused " ++ decimalOf n)) p)
 
 -- ---- one row more
 -- what comes of a row, by whether it is one, what is behind its number, and whether that says `refused`

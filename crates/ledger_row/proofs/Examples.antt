@@ -8,6 +8,8 @@ use Rattle.laws.specs.Tables.{tabulate}
 use Rattle.refusal.specs.Answer.{given, refused}
 use Rattle.text_in.specs.Text.{text, every, holds, before, after, without, withoutLast, trim, placeIn}
 use Rattle.line_ranks.specs.Ranks.{areRanks, stacked}
+use Rattle.line_tail.specs.Words.{nthWord}
+use Rattle.line_tail.specs.Tail.{rightsFit, passantFits, countersFitFields, stateSaid}
 use Rattle.line_parse.specs.Line.{fieldsSay, lineOf}
 use Rattle.position_boards.specs.Boards.{bitboardsOf}
 use Rattle.score_verdict.specs.Verdict.{won, drawn}
@@ -16,7 +18,7 @@ use Rattle.text_out.specs.Text.{digitsUpTo}
 use Rattle.ledger_row.specs.Row.{rowOf, loadedRow, refusedRow}
 
 row : ℕ → String → List ℕ
-unfolding lineOf fieldsSay every holds before after without withoutLast trim placeIn areRanks stacked scoreOf tabulate bitboardsOf loadedRow refusedRow digitsUpTo
+unfolding lineOf fieldsSay every holds before after without withoutLast trim placeIn areRanks stacked nthWord rightsFit passantFits countersFitFields stateSaid scoreOf tabulate bitboardsOf loadedRow refusedRow digitsUpTo
 row number line = rowOf number (lineOf (text line))
 
 paper :

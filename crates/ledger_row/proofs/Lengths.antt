@@ -1,47 +1,31 @@
 -- No row of a line is longer than 32 bytes: 20 digits, ` refused `, two digits and LF. Assumes nothing.
 use mathlib.Core.Path.{_≡_, refl, sym}
-use mathlib.Core.Bool.{Bool, true, false, cond}
-use mathlib.Core.List.{List, [], _∷_, _++_}
-use Prim.Native.Nat.{ℕ, zero, suc, _+_, _*_, _/_, _%_, _^_, _≤_, _<_}
-use native.Mathlib.Nat.{pow-succ'}
+use mathlib.Core.Bool.{Bool, true, false}
+use mathlib.Core.List.{List, _++_}
+use Prim.Native.Nat.{ℕ, suc, _≤_, _<_}
 use native.Mathlib.Omega.{arith}
-use lib.Dec.{ltb, leb}
 use lib.IntN.{ℤ, pos, negsuc}
 use lib.ListN.{length, length-append}
-use borrow.Author.Tests.{ltb-true, lt-ltb}
+use borrow.Author.Tests.{ltb-true}
 use Rattle.refusal.specs.Answer.{Answer, given, refused, orRefuse}
 use Rattle.refusal.specs.Refusals.{numberOf}
 use Rattle.refusal.specs.declared.Refusal.{Refusal}
-use Rattle.refusal.specs.declared.Refusal.the-variants as R
 use Rattle.refusal.proofs.Paper.{number-small}
 use Rattle.position_boards.specs.Boards.{bitboardsOf}
 use Rattle.attack.specs.Attacks.{attacks}
-use Rattle.text_in.specs.Text.{text, semicolon, isText, every, holds}
-use Rattle.line_ranks.specs.Ranks.{areEightRanks}
-use Rattle.line_parse.specs.Line.{Line, sides, results, isOneOf, ranksOf, sideWord, positionField, resultField, fieldsSay, lineOf}
+use Rattle.text_in.specs.Text.{text}
+use Rattle.line_parse.specs.Line.{Line, lineOf}
 use Rattle.line_parse.proofs.Given.{given-spells}
+use Rattle.line.proofs.Field.{refused-by}
 use Rattle.score_pst.specs.Pst.{pstOf}
 use Rattle.score_taper.specs.Parts.{in16}
 use Rattle.score_verdict.specs.Verdict.{lost, won, drawn, none}
 use Rattle.score.specs.Score.{Outcome, verdict, score, scoreOf}
-use Rattle.text_out.specs.Text.{digitsUpTo, decimalOf, signedOf}
+use Rattle.text_out.specs.Text.{decimalOf, signedOf}
+use Rattle.text_out.proofs.Spelled.{length-below}
 use Rattle.ledger_row.specs.Row.{spaced, shownOf, rowOf, loadedRow, refusedRow}
 use Rattle.ledger_row.proofs.Fits.{length-spaced}
 use Rattle.ledger_row.proofs.Rows.{score-short}
-
--- a number below a power of ten has no more digits than the power
-pub length-below : (f k n : ℕ) → n < 10 ^ suc k → length (digitsUpTo f n) ≤ suc k
-unfolding digitsUpTo
-length-below zero k n h = omega arith
-length-below (suc f) zero n h = rw (lt-ltb n 10 h) (omega arith)
-length-below (suc f) (suc k) n h = go (ltb n 10) (length-below f k (n / 10) (tenth (10 ^ suc k) (rw (pow-succ' 10 (suc k)) at h)))
-  where
-    tenth : (p : ℕ) → n < 10 * p → n / 10 < p
-    tenth p q = omega arith
-
-    go : (t : Bool) → length (digitsUpTo f (n / 10)) ≤ suc k → length (cond t ((48 + n) ∷ []) (digitsUpTo f (n / 10) ++ ((48 + n % 10) ∷ []))) ≤ suc (suc k)
-    go true q = omega arith
-    go false q = omega (arith, length-append (digitsUpTo f (n / 10)) ((48 + n % 10) ∷ []))
 
 length-short : (z : ℤ) → in16 z ≡ true → length (signedOf z) ≤ 6
 length-short (pos n) e = let h = ltb-true n 32768 e in omega (arith, length-below 20 4 n (omega arith))
@@ -55,24 +39,10 @@ shown-6 (given (verdict none)) h = omega arith
 shown-6 (given (score z)) h = length-short z (h z refl)
 shown-6 (refused n v) h = omega arith
 
--- ---- a line's refusals have two digits at most
+-- ---- a refusal has two digits at most
 pub test-small : {A : Type 0} (holds : Bool) (r : Refusal) (n : ℕ) (v : List ℕ) (rest : Answer A) → (refused n v ≡ rest → n < 100) → refused n v ≡ orRefuse holds r rest → n < 100
 test-small true r n v rest k e = k e
 test-small false r n v rest k e = let q : n ≡ numberOf r = cc in omega (arith, number-small r)
-
-fields-small : (field result : List ℕ) (n : ℕ) (v : List ℕ) → refused n v ≡ fieldsSay field result → n < 100
-unfolding fieldsSay
-fields-small field result n v =
-    test-small (areEightRanks (ranksOf field)) R.Place n v _
-    (test-small (isOneOf sides (sideWord field)) R.Side n v _
-    (test-small (isOneOf results result) R.Result n v _ (λ e. absurd (let k : _≡_ {A = ℕ} 0 1 = cc in omega arith))))
-
-line-small : (line : List ℕ) (n : ℕ) (v : List ℕ) → refused n v ≡ lineOf line → n < 100
-unfolding lineOf
-line-small line n v =
-    test-small (leb (length line) 256) R.Long n v _
-    (test-small (every isText line) R.Byte n v _
-    (test-small (holds semicolon line) R.Field n v _ (fields-small (positionField line) (resultField line) n v)))
 
 -- ---- the rows
 pub refused-32 : (number n : ℕ) → n < 100 → length (refusedRow number n) ≤ 32
@@ -100,4 +70,4 @@ answer-32 number (given l) few half =
     (shown-6 (scoreOf (bitboardsOf (l .board)) (l .state)) (score-short attacks pstOf (bitboardsOf (l .board)) (l .state .side)))
 
 pub row-32 : (number : ℕ) (line : List ℕ) → length (rowOf number (lineOf line)) ≤ 32
-row-32 number line = answer-32 number (lineOf line) (line-small line) (λ l e. let half = given-spells line l (sym e) .half in omega arith)
+row-32 number line = answer-32 number (lineOf line) (λ n v e. let h = refused-by line n v (sym e) in omega (arith, h .2)) (λ l e. let half = given-spells line l (sym e) .half in omega arith)

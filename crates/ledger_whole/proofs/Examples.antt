@@ -6,6 +6,8 @@ use Prim.Native.String.{String}
 use Rattle.laws.specs.Tables.{tabulate}
 use Rattle.text_in.specs.Text.{text, every, holds, before, after, without, withoutLast, trim, placeIn}
 use Rattle.line_ranks.specs.Ranks.{areRanks, stacked}
+use Rattle.line_tail.specs.Words.{nthWord}
+use Rattle.line_tail.specs.Tail.{rightsFit, passantFits, countersFitFields, stateSaid}
 use Rattle.line_parse.specs.Line.{fieldsSay, lineOf}
 use Rattle.line_cut.specs.Lines.{endsInCR, linesFrom, linesOf}
 use Rattle.position_boards.specs.Boards.{bitboardsOf}
@@ -18,7 +20,7 @@ use Rattle.ledger_whole.specs.Ledger.{rowsFrom, loadedIn, refusedIn, led
 
 -- ---- document 01's collection and its whole output
 ledger : List ℕ → List ℕ
-unfolding ledgerOf linesFrom endsInCR rowsFrom loadedIn refusedIn lineOf fieldsSay every holds before after without withoutLast trim placeIn areRanks stacked scoreOf tabulate bitboardsOf loadedRow refusedRow lastRow digitsUpTo
+unfolding ledgerOf linesFrom endsInCR rowsFrom loadedIn refusedIn lineOf fieldsSay every holds before after without withoutLast trim placeIn areRanks stacked nthWord rightsFit passantFits countersFitFields stateSaid scoreOf tabulate bitboardsOf loadedRow refusedRow lastRow digitsUpTo
 ledger input = ledgerOf P.Any input
 
 paper :

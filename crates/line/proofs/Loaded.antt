@@ -1,5 +1,5 @@
--- What a line that is not refused writes is a consistent position, and the only one whose bytes its ranks spell. So a call on it meets
--- neither SHAPE nor anything at odds. Assumes nothing.
+-- What a line that is not refused writes is a consistent position, with its rights, its square and its counters borne out, and the only one whose bytes
+-- its ranks spell. So a call on it meets no refusal of a position. Assumes nothing.
 use mathlib.Core.Path.{_≡_, sym, ap, _∙_}
 use mathlib.Core.Bool.{true}
 use mathlib.Core.List.{List}
@@ -12,7 +12,7 @@ use Rattle.laws.proofs.Truth.{T-true, or-r}
 use Rattle.chess.specs.Codes.{isPiece}
 use Rattle.refusal.specs.Answer.{Answer, given}
 use Rattle.position_consistent.specs.Consistent.{consistent}
-use Rattle.position.specs.Checked.{checked}
+use Rattle.position.specs.Checked.{checked, Fitting}
 use Rattle.position_boards.specs.Boards.{isByte, coded, bitboardsOf}
 use Rattle.position_consistent.proofs.Only.{made-consistent, made-length, only-made}
 use Rattle.position.proofs.Doors.{in-shape, sound}
@@ -44,8 +44,18 @@ module _ (line : List ℕ) (l : Line) (e : lineOf line ≡ given l) where
   pub loaded-only : (bitboards : List ℕ) → length bitboards ≡ 14 → ((board : ℕ) → getD bitboards board 0 < 2 ^ 64) → consistent bitboards (l .board) ≡ true → bitboards ≡ bitboardsOf (l .board)
   loaded-only bitboards n small c = only-made bitboards (l .board) c n small
 
-  -- neither SHAPE nor anything at odds stands before what is asked of it
+  -- it passes every test of a position
+  pub loaded-fits : Fitting (bitboardsOf (l .board)) (l .board) (l .state)
+  loaded-fits =
+      let s = given-spells line l e in
+      record {
+        shape = in-shape (bitboardsOf (l .board)) (l .board) (l .state) (made-length (l .board)) loaded-64 (s .side);
+        pieces = loaded-consistent;
+        rights = s .rights;
+        passant = s .passant;
+        counters = s .counters;
+      }
+
+  -- none of its refusals stands before what is asked of it
   pub loaded-checked : {A : Type 0} (rest : Answer A) → checked (bitboardsOf (l .board)) (l .board) (l .state) rest ≡ rest
-  loaded-checked rest =
-      sym (sound (bitboardsOf (l .board)) (l .board) (l .state) rest
-      (in-shape (bitboardsOf (l .board)) (l .board) (l .state) (made-length (l .board)) loaded-64 (given-spells line l e .side)) loaded-consistent)
+  loaded-checked rest = sym (sound (bitboardsOf (l .board)) (l .board) (l .state) rest loaded-fits)

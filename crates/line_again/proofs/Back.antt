@@ -19,22 +19,7 @@ use Rattle.line_text.specs.Spelt.{letterOf, runDigit, spelt, rankOf, rankText, 
 use Rattle.line_text.proofs.Marks.{squares-letter, squares-digit}
 use Rattle.line_text.proofs.Normal.{rank-above, ranks-below}
 use Rattle.line_again.proofs.Marks.{run-of-digit, piece-of-letter, letter-no-digit, squares-join}
-
--- ---- a text with a byte in it that none before it is
-module _ (test : ℕ → Bool) (mark : ℕ) (no : test mark ≡ false) where
-  other : (b : ℕ) → T (test b) → eqb b mark ≡ false
-  other b t = ne-eqb b mark (λ e. let x = T-true (test b) t in let y = ap test e ∙ no in let z : _≡_ {A = ℕ} 0 1 = cc in omega arith)
-
-  pub before-mark : (s t : List ℕ) → T (every test s) → before mark (s ++ (mark ∷ t)) ≡ s
-  unfolding every before
-  before-mark [] t m = rw (eq-eqb mark mark refl)
-  before-mark (b ∷ s) t m =
-      rw (other b (and-l (test b) (every test s) m)) (ap (λ (l : List ℕ). b ∷ l) (before-mark s t (and-r (test b) (every test s) m)))
-
-  pub after-mark : (s t : List ℕ) → T (every test s) → after mark (s ++ (mark ∷ t)) ≡ t
-  unfolding every after
-  after-mark [] t m = rw (eq-eqb mark mark refl)
-  after-mark (b ∷ s) t m = rw (other b (and-l (test b) (every test s) m)) (after-mark s t (and-r (test b) (every test s) m))
+use Rattle.line_again.proofs.Cuts.{before-mark, after-mark}
 
 -- ---- a rank's text, of any squares with a run of n before them, eight in all at most
 piece-byte : (c : ℕ) → T (isByte (suc c)) → T (isPiece (suc c))

@@ -12,8 +12,7 @@ use Rattle.refusal.specs.Answer.{Answer, given, refused, orRefuse}
 use Rattle.refusal.specs.declared.Refusal.the-variants as R
 use Rattle.refusal.proofs.Answers.{given-not, passed}
 use Rattle.position_boards.specs.Boards.{bitboardsOf}
-use Rattle.position_consistent.specs.Consistent.{consistent}
-use Rattle.position.specs.Checked.{shaped}
+use Rattle.position.specs.Checked.{Fitting}
 use Rattle.position.specs.declared.State.{State}
 use Rattle.position.proofs.Doors.{through}
 use Rattle.line_parse.specs.Line.{Line, lineOf}
@@ -41,22 +40,22 @@ module _ (bitboards board : List ℕ) (state : State) (half : ℕ) (old new : Li
   text = lineText board state half
 
   -- each test was passed, and the number given is the text's
-  tests : (shaped bitboards board state ≡ true) × (consistent bitboards board ≡ true) × (leb half 2 ≡ true) × (n ≡ length text)
+  tests : Fitting bitboards board state × (leb half 2 ≡ true) × (n ≡ length text)
   tests =
       let p = through bitboards board state (textWrittenOf board state (Half half) old) n (sym (w .answer)) in
-      let r = passed (leb half 2) R.Result n (orRoom text old) (p .2) in
+      let r = passed (leb half 2) R.Result n (orRoom text old) (p .1) in
       let s = passed (leb (length text) (length old)) R.Room n (given (length text)) (r .1) in
-      (p .0, p .1, r .0, (let e : n ≡ length text = cc (s .1) in e))
+      (p .0, r .0, (let e : n ≡ length text = cc (s .1) in e))
 
   front : take n new ≡ text
   front =
       ap (take n) (w .buffer ∙ ap (λ (a : Answer ℕ). bufferAfter a text old) (sym (w .answer)))
-      ∙ ap (λ (k : ℕ). take k (text ++ drop n old)) (tests .3) ∙ take-append-seam text (drop n old)
+      ∙ ap (λ (k : ℕ). take k (text ++ drop n old)) (tests .2) ∙ take-append-seam text (drop n old)
 
   read-so : ((b : ℕ) → getD bitboards b 0 < 2 ^ 64) → lineOf (take n new) ≡ given (saying board state half)
   read-so words =
-      let h : half < 3 = omega (arith, leb-true half 2 (tests .2)) in
-      ap lineOf front ∙ again bitboards board state half .line (record { shape = tests .0; agrees = tests .1; words = words }) h
+      let h : half < 3 = omega (arith, leb-true half 2 (tests .1)) in
+      ap lineOf front ∙ again bitboards board state half .line (record { fits = tests .0; words = words }) h
 
 -- lent memory of the right lengths: the call gives what the line says
 lent-right : (line bbs bytes : List ℕ) (r : Read) (bbs′ bytes′ : List ℕ) → length bbs ≡ 14 → length bytes ≡ 64 → ReadsLine line bbs bytes r bbs′ bytes′
@@ -74,7 +73,7 @@ call-again bitboards board state half old new n =
           let t = tests bitboards board state half old new n w in (
             read-one r (Position state half) (q .answer ∙ ap byValue e),
             q .boards ∙ ap (λ (a : Answer Line). bitboardsAfter a bbs) e
-                ∙ again bitboards board state half .boards (record { shape = t .0; agrees = t .1; words = words }),
+                ∙ again bitboards board state half .boards (record { fits = t .0; words = words }),
             q .bytes ∙ ap (λ (a : Answer Line). boardAfter a bytes) e,
           );
     }

@@ -1,6 +1,11 @@
+pub mod Cuts
 pub mod Marks
 pub mod Back
 pub mod Fields
+pub mod Decimals
+pub mod Rights
+pub mod Squares
+pub mod Rest
 pub mod Words
 pub mod Again
 pub mod Calls

@@ -1,4 +1,4 @@
--- The side and the result of a line: the words that they are written as. Assumes nothing.
+-- The words of a line: its result there and back, and what the fields of a line that is taken are. Assumes nothing.
 use mathlib.Core.Path.{_≡_, refl, sym, ap, _∙_}
 use mathlib.Core.Bool.{Bool, true, false, cond}
 use mathlib.Core.List.{List, [], _∷_}
@@ -13,9 +13,11 @@ use Rattle.laws.proofs.Truth.{true-T}
 use Rattle.refusal.specs.Answer.{Answer, given, orRefuse}
 use Rattle.refusal.specs.declared.Refusal.the-variants as R
 use Rattle.refusal.proofs.Answers.{passed}
-use Rattle.text_in.specs.Text.{semicolon, isText, every, holds, before, without, trim, placeIn}
+use Rattle.text_in.specs.Text.{space, semicolon, isText, every, holds, before, after, trim, placeIn}
 use Rattle.line_ranks.specs.Ranks.{areEightRanks, boardOf}
-use Rattle.line_parse.specs.Line.{Line, sides, results, isOneOf, ranksOf, wordOf, sideWord, positionField, resultField, fieldsSay, lineOf}
+use Rattle.line_tail.specs.Tail.{orTail, tailState}
+use Rattle.line_tail.proofs.Tails.{Fitted, tail-through}
+use Rattle.line_parse.specs.Line.{Line, sides, results, isOneOf, ranksOf, sideWord, positionField, resultField, withResult, fieldsSay, lineOf}
 use Rattle.line_text.specs.Lines.{textAt}
 
 -- ---- the text at the place of a text that is among them is that text
@@ -29,18 +31,12 @@ found (x ∷ xs) t h = go (λ k. found xs t k) (same t x) refl h
     go f true e k = sym (is-same t x (true-T e))
     go f false e k = f (omega arith)
 
--- ---- a side is one letter, a result a word with no blank and no `;` in it
-pub record Letter (side : ℕ) : Type 0 where
-  pub byte : ℕ
-  pub is : textAt sides side ≡ byte ∷ []
-  pub lower : (byte ≡ 98 → ⊥) → byte ≡ 119
-  pub place : placeIn sides (wordOf (byte ∷ [])) ≡ side
-
-pub letter : (side : ℕ) → side < 2 → Letter side
-unfolding placeIn before without
-letter zero h = record { byte = 119; is = refl; lower = λ n. refl; place = refl }
-letter (suc zero) h = record { byte = 98; is = refl; lower = λ n. absurd (n refl); place = refl }
-letter (suc (suc k)) h = absurd (omega arith)
+-- ---- a side's place, and a result: a word with no blank and no `;` in it
+pub side-place : (side : ℕ) → side < 2 → placeIn sides (textAt sides side) ≡ side
+unfolding placeIn
+side-place zero h = refl
+side-place (suc zero) h = refl
+side-place (suc (suc k)) h = absurd (omega arith)
 
 pub record Word (half : ℕ) : Type 0 where
   pub texts : every isText (textAt results half) ≡ true
@@ -56,21 +52,28 @@ word (suc (suc (suc k))) h = absurd (omega arith)
 
 -- ---- what a line that is not refused worded is what its words are
 pub record Worded (field result : List ℕ) (l : Line) : Type 0 where
-  pub side : textAt sides (l .state .side) ≡ sideWord field
+  pub side : textAt sides (placeIn sides (sideWord field)) ≡ sideWord field
+  pub rest : Fitted (boardOf (ranksOf field)) (placeIn sides (sideWord field)) (after space field)
+  pub state : tailState (placeIn sides (sideWord field)) (after space field) ≡ l .state
   pub half : textAt results (l .half) ≡ result
 
 worded : (field result : List ℕ) (l : Line) → fieldsSay field result ≡ given l → Worded field result l
 unfolding fieldsSay
 worded field result l e =
-    let x : Line = record { state = record { side = placeIn sides (sideWord field) }; half = placeIn results result; board = boardOf (ranksOf field) } in
-    let c : Answer Line = orRefuse (isOneOf results result) R.Result (given x) in
-    let b : Answer Line = orRefuse (isOneOf sides (sideWord field)) R.Side c in
-    let p = passed (areEightRanks (ranksOf field)) R.Place l b e in
-    let q = passed (isOneOf sides (sideWord field)) R.Side l c (p .1) in
-    let r = passed (isOneOf results result) R.Result l (given x) (q .1) in
+    let board : List ℕ = boardOf (ranksOf field) in
+    let mover : ℕ = placeIn sides (sideWord field) in
+    let x : Line = record { state = tailState mover (after space field); half = placeIn results result; board = board } in
+    let c : Answer Line = withResult board result (tailState mover (after space field)) in
+    let b : Answer Line = orTail board mover (after space field) c in
+    let p = passed (areEightRanks (ranksOf field)) R.Place l (orRefuse (isOneOf sides (sideWord field)) R.Side b) e in
+    let q = passed (isOneOf sides (sideWord field)) R.Side l b (p .1) in
+    let t = tail-through board mover (after space field) c l (q .1) in
+    let r = passed (isOneOf results result) R.Result l (given x) (t .1) in
     let same : x ≡ l = cc (r .1) in
     record {
-      side = ap (λ (k : Line). textAt sides (k .state .side)) (sym same) ∙ found sides (sideWord field) (ltb-true (placeIn sides (sideWord field)) 2 (q .0));
+      side = found sides (sideWord field) (ltb-true mover 2 (q .0));
+      rest = t .0;
+      state = ap (λ (k : Line). k .state) same;
       half = ap (λ (k : Line). textAt results (k .half)) (sym same) ∙ found results result (ltb-true (placeIn results result) 3 (r .0));
     }
 

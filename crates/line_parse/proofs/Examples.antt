@@ -7,10 +7,13 @@ use lib.ListN.{length, replicate}
 use Rattle.refusal.specs.Answer.{Answer, given, refused}
 use Rattle.text_in.specs.Text.{text, every, holds, before, after, without, trim, placeIn}
 use Rattle.line_ranks.specs.Ranks.{areRanks, stacked}
+use Rattle.position.specs.Checked.{ofSide}
+use Rattle.line_tail.specs.Words.{nthWord}
+use Rattle.line_tail.specs.Tail.{rightsFit, passantFits, countersFitFields, stateSaid}
 use Rattle.line_parse.specs.Line.{Line, fieldsSay, lineOf}
 
 said : List ℕ → Answer Line
-unfolding lineOf fieldsSay every holds before after without trim placeIn areRanks stacked
+unfolding lineOf fieldsSay every holds before after without trim placeIn areRanks stacked nthWord rightsFit passantFits countersFitFields stateSaid
 said s = lineOf s
 
 -- the refusal's number, or 20 + 10·side + half points
@@ -24,7 +27,7 @@ answers lines = map (λ s. short (said (text s))) lines
 
 -- ---- document 01's three lines
 first : said (text "4k3/8/8/8/8/8/4P3/4K3 w - - 0 1;1-0") ≡ given (record {
-  state = record { side = 0 };
+  state = ofSide 0;
   half = 2;
   board =
       0 ∷ 0 ∷ 0 ∷ 0 ∷ 6 ∷ 0 ∷ 0 ∷ 0
@@ -39,7 +42,7 @@ first : said (text "4k3/8/8/8/8/8/4P3/4K3 w - - 0 1;1-0") ≡ given (record {
 unfolding said
 first = refl
 
-second : said (text "8/8/8/8/8/8/8/8 w;1/2-1/2") ≡ given (record { state = record { side = 0 }; half = 1; board = replicate 64 0 })
+second : said (text "8/8/8/8/8/8/8/8 w;1/2-1/2") ≡ given (record { state = ofSide 0; half = 1; board = replicate 64 0 })
 unfolding said
 second = refl
 
@@ -77,7 +80,7 @@ no-bytes = refl
 -- taken: each result; `b`; blanks at the ends of the fields, a CR at the end of the line; several spaces; a third field
 takes :
     answers
-    ("8/8/8/8/8/8/8/8 w;0-1" ∷ "8/8/8/8/8/8/8/8 b;1/2-1/2" ∷ "8/8/8/8/8/8/8/8 b;1-0" ∷ "\t 8/8/8/8/8/8/8/8 w\t;\t1-0 \r" ∷ "8/8/8/8/8/8/8/8   w x;1-0;2-0;" ∷ [])
+    ("8/8/8/8/8/8/8/8 w;0-1" ∷ "8/8/8/8/8/8/8/8 b;1/2-1/2" ∷ "8/8/8/8/8/8/8/8 b;1-0" ∷ "\t 8/8/8/8/8/8/8/8 w\t;\t1-0 \r" ∷ "8/8/8/8/8/8/8/8   w;1-0;2-0;" ∷ [])
     ≡ 20 ∷ 31 ∷ 32 ∷ 22 ∷ 22 ∷ []
 unfolding answers
 takes = refl
@@ -87,8 +90,30 @@ cut-runs : answers ("44/8/8/8/8/8/8/8 w;0-1" ∷ "8/8/8/8/53/8/8/8 W;x" ∷ []) 
 unfolding answers
 cut-runs = refl
 
--- the first in order: BYTE before FIELD, FIELD before PLACE, PLACE before SIDE and RESULT, SIDE before RESULT
-in-order : answers ("\n" ∷ "x" ∷ "x W;x" ∷ "8/8/8/8/8/8/8/8 W;x" ∷ []) ≡ 9 ∷ 10 ∷ 11 ∷ 12 ∷ []
+-- W-213: two, four and six fields, any number of spaces between them
+fields :
+    answers
+    ("8/8/8/8/8/8/8/8 w - -;1-0" ∷ "4k3/8/8/3pP3/8/8/8/4K2R w K d6;1-0" ∷ "4k3/8/8/3pP3/8/8/8/4K2R  w  K  d6  0  1;1-0"
+    ∷ "rnbqkbnr/pppppppp/8/8/8/8/PPPPPPPP/RNBQKBNR w KQkq - 9999 9999;0-1" ∷ [])
+    ≡ 22 ∷ 22 ∷ 22 ∷ 20 ∷ []
+unfolding answers
+fields = refl
+
+-- RIGHTS: rights that are none, and three fields of them; an EPD's operation is COUNTER; PASSANT: three fields; COUNTER: five and seven, move 0
+no-fields :
+    answers
+    ("8/8/8/8/8/8/8/8 w K -;1-0" ∷ "8/8/8/8/8/8/8/8 w x;1-0" ∷ "8/8/8/8/8/8/8/8 w - - bm Nf3;1-0" ∷ "8/8/8/8/8/8/8/8 w -;1-0" ∷ "8/8/8/8/8/8/8/8 w - - 0;1-0"
+    ∷ "8/8/8/8/8/8/8/8 w - - 0 1 x;1-0" ∷ "8/8/8/8/8/8/8/8 w - - 0 0;1-0" ∷ [])
+    ≡ 29 ∷ 29 ∷ 31 ∷ 30 ∷ 31 ∷ 31 ∷ 31 ∷ []
+unfolding answers
+no-fields = refl
+
+-- the first in order: BYTE before FIELD, FIELD before PLACE, PLACE before SIDE and RESULT, SIDE before RIGHTS, RIGHTS before PASSANT, PASSANT before
+-- COUNTER, COUNTER before RESULT
+in-order :
+    answers
+    ("\n" ∷ "x" ∷ "x W;x" ∷ "8/8/8/8/8/8/8/8 W x;x" ∷ "8/8/8/8/8/8/8/8 w x x x;x" ∷ "8/8/8/8/8/8/8/8 w - x x;x" ∷ "8/8/8/8/8/8/8/8 w - - x;x" ∷ [])
+    ≡ 9 ∷ 10 ∷ 11 ∷ 12 ∷ 29 ∷ 30 ∷ 31 ∷ []
 unfolding answers
 in-order = refl
 

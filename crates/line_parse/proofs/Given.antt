@@ -9,30 +9,48 @@ use borrow.Author.Tests.{ltb-true}
 use Rattle.refusal.specs.Answer.{Answer, given, orRefuse}
 use Rattle.refusal.specs.declared.Refusal.the-variants as R
 use Rattle.refusal.proofs.Answers.{passed}
-use Rattle.text_in.specs.Text.{semicolon, isText, every, holds, placeIn}
+use Rattle.position_further.specs.Rule.{atHome, justPassed, countersFit}
+use Rattle.position.specs.declared.State.{State}
+use Rattle.text_in.specs.Text.{space, semicolon, isText, every, holds, after, placeIn}
 use Rattle.line_ranks.specs.Ranks.{areEightRanks, boardOf}
-use Rattle.line_parse.specs.Line.{Line, sides, results, isOneOf, ranksOf, sideWord, positionField, resultField, fieldsSay, lineOf}
+use Rattle.line_tail.specs.Tail.{orTail, tailState}
+use Rattle.line_tail.proofs.Tails.{tail-through, rights-borne, passant-borne, counters-borne, state-side}
+use Rattle.line_parse.specs.Line.{Line, sides, results, isOneOf, ranksOf, sideWord, positionField, resultField, withResult, fieldsSay, lineOf}
 
--- what its fields are
+-- what its fields are, and the board bears them out
 pub record Spells (field result : List ℕ) (l : Line) : Type 0 where
   pub ranks : areEightRanks (ranksOf field) ≡ true
   pub side : l .state .side < 2
+  pub rights : atHome (l .board) (l .state .rights) ≡ true
+  pub passant : justPassed (l .board) (l .state .side) (l .state .passant) ≡ true
+  pub counters : countersFit (l .state .halfmoves) (l .state .moves) ≡ true
   pub half : l .half < 3
   pub board : l .board ≡ boardOf (ranksOf field)
 
 spells : (field result : List ℕ) (l : Line) → fieldsSay field result ≡ given l → Spells field result l
 unfolding fieldsSay
 spells field result l e =
-    let x : Line = record { state = record { side = placeIn sides (sideWord field) }; half = placeIn results result; board = boardOf (ranksOf field) } in
-    let c : Answer Line = orRefuse (isOneOf results result) R.Result (given x) in
+    let bytes : List ℕ = boardOf (ranksOf field) in
+    let side : ℕ = placeIn sides (sideWord field) in
+    let tail : List ℕ = after space field in
+    let state : State = tailState side tail in
+    let x : Line = record { state = state; half = placeIn results result; board = bytes } in
+    let c : Answer Line = orTail bytes side tail (withResult bytes result state) in
     let b : Answer Line = orRefuse (isOneOf sides (sideWord field)) R.Side c in
     let p = passed (areEightRanks (ranksOf field)) R.Place l b e in
     let q = passed (isOneOf sides (sideWord field)) R.Side l c (p .1) in
-    let r = passed (isOneOf results result) R.Result l (given x) (q .1) in
+    let t = tail-through bytes side tail (withResult bytes result state) l (q .1) in
+    let r = passed (isOneOf results result) R.Result l (given x) (t .1) in
     let same : x ≡ l = cc (r .1) in
+    let mover : side ≡ state .side = sym (state-side side tail) in
     record {
       ranks = p .0;
-      side = subst (λ (k : Line). k .state .side < 2) same (ltb-true (placeIn sides (sideWord field)) 2 (q .0));
+      side = subst (λ (k : Line). k .state .side < 2) same (subst (λ (n : ℕ). n < 2) mover (ltb-true side 2 (q .0)));
+      rights = subst (λ (k : Line). atHome (k .board) (k .state .rights) ≡ true) same (rights-borne bytes side tail (t .0));
+      passant =
+          subst (λ (k : Line). justPassed (k .board) (k .state .side) (k .state .passant) ≡ true) same
+          (subst (λ (n : ℕ). justPassed bytes n (state .passant) ≡ true) mover (passant-borne bytes side tail (t .0)));
+      counters = subst (λ (k : Line). countersFit (k .state .halfmoves) (k .state .moves) ≡ true) same (counters-borne bytes side tail (t .0));
       half = subst (λ (k : Line). k .half < 3) same (ltb-true (placeIn results result) 3 (r .0));
       board = sym (ap (λ (k : Line). k .board) same);
     }

@@ -11,7 +11,8 @@ use Rattle.text_in.proofs.Parts.{rest, before-take, after-drop, from-mark}
 use Rattle.line_ranks.specs.Ranks.{areEightRanks, boardOf}
 use Rattle.line_ranks.specs.Promises.{Places}
 use Rattle.line_ranks.specs.declared.inner.Placed.{Placed}
-use Rattle.line_parse.specs.Line.{positionField, resultField, ranksOf, wordOf, sideWord, sides, results}
+use Rattle.line_tail.specs.Words.{wordOf}
+use Rattle.line_parse.specs.Line.{positionField, resultField, ranksOf, sideWord, sides, results}
 
 module _ (t x : List ℕ) (xs : List (List ℕ)) where
   pub place-first : same t x ≡ true → 0 ≡ placeIn (x ∷ xs) t
@@ -30,10 +31,13 @@ place-none t = refl
 pub word-is : (s skipped : List ℕ) (end : ℕ) → skipped ≡ without isSpace s → end ≡ length (before space skipped) → take end skipped ≡ wordOf s
 word-is s skipped end e q = ap (λ (k : ℕ). take k skipped) q ∙ before-take space skipped ∙ ap (before space) e
 
--- the side stands after the ranks' end
+-- what stands after the ranks' end, but for spaces
+pub rest-is : (field : List ℕ) (end : ℕ) → end ≡ length (before space field)
+    → without isSpace (take (length field - end) (drop end field)) ≡ without isSpace (after space field)
+rest-is field end q = ap (without isSpace) (rest end field ∙ ap (λ (k : ℕ). drop k field) q) ∙ from-mark space isSpace refl field
+
 pub side-is : (field : List ℕ) (end : ℕ) → end ≡ length (before space field) → wordOf (take (length field - end) (drop end field)) ≡ sideWord field
-side-is field end q =
-    ap wordOf (rest end field ∙ ap (λ (k : ℕ). drop k field) q) ∙ ap (before space) (from-mark space isSpace refl field)
+side-is field end q = ap (before space) (rest-is field end q)
 
 -- ---- the side
 module _ (s w : List ℕ) (e : w ≡ wordOf s) (t : Bool) (q : t ≡ same w (text "w")) where

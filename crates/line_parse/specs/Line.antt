@@ -1,4 +1,4 @@
--- What one line of a collection says (document 01, "A collection's line"; the ranks and the side as the PGN standard's FEN has them).
+-- What one line of a collection says (document 01, "A collection's line", and document 02, W-213; the fields as the PGN standard's FEN has them).
 -- Definitions only.
 use mathlib.Core.Bool.{Bool}
 use mathlib.Core.List.{List, [], _∷_}
@@ -8,9 +8,11 @@ use lib.ListN.{length}
 use Rattle.refusal.specs.Answer.{Answer, given, orRefuse}
 use Rattle.refusal.specs.declared.Refusal.the-variants as R
 use Rattle.position.specs.declared.State.{State}
-use Rattle.text_in.specs.Text.{text, space, semicolon, isText, isSpace, every, holds, before, after, without, trim, placeIn}
+use Rattle.text_in.specs.Text.{text, space, semicolon, isText, every, holds, before, after, trim, placeIn}
 use Rattle.line_cut.specs.Cut.{longest}
 use Rattle.line_ranks.specs.Ranks.{areEightRanks, boardOf}
+use Rattle.line_tail.specs.Words.{wordOf}
+use Rattle.line_tail.specs.Tail.{orTail, tailState}
 
 -- ---- the parts of a line
 -- a field: what stands before the next `;` or the end, "trimmed of spaces, tabs and CR"
@@ -30,9 +32,6 @@ abbrev pub ranksOf : List ℕ → List ℕ
 ranksOf field = before space field
 
 -- "then one space or more; then `w` or `b`; then the end or a space": the word after the spaces
-abbrev pub wordOf : List ℕ → List ℕ
-wordOf s = before space (without isSpace s)
-
 abbrev pub sideWord : List ℕ → List ℕ
 sideWord field = wordOf (after space field)
 
@@ -57,13 +56,18 @@ pub record Line : Type 0 where
   -- the 64 board bytes
   pub board : List ℕ
 
--- what a position field and a result say: PLACE "bad ranks", SIDE "bad side", RESULT "unknown result"
+-- the line of a board and a state: RESULT "unknown result"
+abbrev pub withResult : List ℕ → List ℕ → State → Answer Line
+withResult board result state = orRefuse (isOneOf results result) R.Result (given (record { state = state; half = placeIn results result; board = board }))
+
+-- what a position field and a result say: PLACE "bad ranks", SIDE "bad side", then RIGHTS, PASSANT, COUNTER, "after SIDE in a line", then RESULT
 unfoldable pub fieldsSay : List ℕ → List ℕ → Answer Line
 fieldsSay field result =
+    let board : List ℕ = boardOf (ranksOf field) in
+    let side : ℕ = placeIn sides (sideWord field) in
     orRefuse (areEightRanks (ranksOf field)) R.Place
     (orRefuse (isOneOf sides (sideWord field)) R.Side
-    (orRefuse (isOneOf results result) R.Result
-    (given (record { state = record { side = placeIn sides (sideWord field) }; half = placeIn results result; board = boardOf (ranksOf field) }))))
+    (orTail board side (after space field) (withResult board result (tailState side (after space field)))))
 
 -- LONG "line over 256 bytes", BYTE "a byte other than 32..126, tab and CR", FIELD "no `;`", then its fields: "First in order wins."
 unfoldable pub lineOf : List ℕ → Answer Line

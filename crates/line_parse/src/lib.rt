@@ -1,13 +1,16 @@
 // What one line of a collection says, read by value: the state, the half points and the board, or a refusal.
 ghost use mathlib.Core.Path.{_≡_};
 ghost use Rattle.text_in.specs.Text.{placeIn};
-ghost use Rattle.line_parse.specs.Line.{sides, results, wordOf, fieldsSay};
+ghost use Rattle.line_parse.specs.Line.{sides, results, withResult, fieldsSay};
+ghost use Rattle.line_tail.specs.Words.{wordOf};
 ghost use Rattle.line_parse.specs.Promises.{Says, Parses, Turned};
 use chess::color::Color;
 use chess::piece::Piece;
 use chess::square::Square;
 use line_cut::LINE;
 use line_ranks::inner::place;
+use line_tail::inner::Tail;
+use line_tail::inner::read;
 use position::State;
 use refusal::Refusal;
 use text_in::inner::find;
@@ -74,7 +77,21 @@ fn half_points(result: &[u8]) -> u8
     NO_RESULT
 }
 
-// PLACE, SIDE, RESULT.
+// RESULT.
+fn with_result(board: [u8; Square::COUNT], result: &[u8], state: State) -> Parsed
+    ensures { λ r. ⌜ Says (withResult board (now (result .entry)) state) r ⌝ }
+{
+    let half = half_points(result);
+    if half >= NO_RESULT {
+        return refused(Refusal::Result);
+    }
+    Parsed {
+        answer: Read::Position(state, half),
+        board,
+    }
+}
+
+// PLACE, SIDE, RIGHTS, PASSANT, COUNTER, RESULT.
 fn read_fields(field: &[u8], result: &[u8]) -> Parsed
     ensures { λ r. ⌜ Says (fieldsSay (now (field .entry)) (now (result .entry))) r ⌝ }
 {
@@ -83,18 +100,16 @@ fn read_fields(field: &[u8], result: &[u8]) -> Parsed
     if !placed.ok {
         return refused(Refusal::Place);
     }
-    let side = side(&field[end..]);
+    let rest = &field[end..];
+    let side = side(rest);
     if side >= NO_SIDE {
         return refused(Refusal::Side);
     }
-    let half = half_points(result);
-    if half >= NO_RESULT {
-        return refused(Refusal::Result);
-    }
     let board = placed.board;
-    Parsed {
-        answer: Read::Position(State { side }, half),
-        board,
+    let told = read(&board, side, rest);
+    match told {
+        Tail::Refused(refusal) => refused(refusal),
+        Tail::Is(state) => with_result(board, result, state),
     }
 }
 

@@ -19,13 +19,15 @@ use Rattle.attack_to.specs.Attackers.{attackers, isAttacked, isCheck}
 use Rattle.score_material.specs.Pieces.{count}
 use Rattle.position_profile.specs.Profile.{oneKing, fewPawns, fewPieces, orProfile}
 use Rattle.line_ranks.specs.Ranks.{areRanks, stacked}
+use Rattle.line_tail.specs.Words.{nthWord}
+use Rattle.line_tail.specs.Tail.{rightsFit, passantFits, countersFitFields, stateSaid}
 use Rattle.line_parse.specs.Line.{fieldsSay, lineOf}
 use Rattle.line_parse.specs.Promises.{byValue}
 use Rattle.line_profile.specs.Under.{lineUnder}
 use Rattle.line_profile.specs.declared.Profile.the-variants as P
 
 said : String → Answer (State × ℕ)
-unfolding lineOf fieldsSay every holds before after without withoutLast trim placeIn areRanks stacked tabulate bitboardsOf orProfile oneKing fewPawns fewPieces count lowestWrong firstFrom allBelow howMany has isCheck isAttacked attackers lowestOf occupied some those reached board seen isIn
+unfolding lineOf fieldsSay every holds before after without withoutLast trim placeIn areRanks stacked nthWord rightsFit passantFits countersFitFields stateSaid tabulate bitboardsOf orProfile oneKing fewPawns fewPieces count lowestWrong firstFrom allBelow howMany has isCheck isAttacked attackers lowestOf occupied some those reached board seen isIn
 said line = byValue (lineUnder P.RealPlay (text line))
 
 -- in check and to move; the same, but just moved; no king, and no result either; no king

@@ -1,3 +1,4 @@
 pub mod Turns
 pub mod Joined
+pub mod Behind
 pub mod Determined

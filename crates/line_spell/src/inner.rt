@@ -6,13 +6,13 @@ use position::State;
 use text_out::Placed;
 
 // No text is longer: of a position, of its line, of its line with LF.
-const POSITION: usize = 73;
+const POSITION: usize = 91;
 
-const LINE: usize = 81;
+const LINE: usize = 99;
 
-pub const ENDED: usize = 82;
+pub const ENDED: usize = 100;
 
-// The placement, one space and the side.
+// The placement and the five fields of the state, one space between two.
 pub fn position(board: &[u8], state: State, out: &mut [u8], at: usize) -> Placed
     ensures { λ r. ⌜ PutsPosition (now (board .entry)) state (now (out .entry)) (now (out .exit)) at r ⌝ }
 {

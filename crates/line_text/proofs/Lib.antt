@@ -1,4 +1,5 @@
 pub mod Marks
+pub mod Counters
 pub mod Lengths
 pub mod Normal
 pub mod OneText

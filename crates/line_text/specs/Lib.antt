@@ -1,3 +1,4 @@
 pub mod Spelt
+pub mod Words
 pub mod Lines
 pub mod OneText

@@ -30,7 +30,7 @@ orRoom text old = orRefuse (leb (length text) (length old)) R.Room (given (lengt
 abbrev pub textWrittenOf : List ℕ → State → Wanted → List ℕ → Answer ℕ
 textWrittenOf board state wanted old = orRefuse (isResult wanted) R.Result (orRoom (wantedText board state wanted) old)
 
--- "Refusals: SHAPE, the W-201 numbers, RESULT .., then 17 ROOM"
+-- "Refusals: SHAPE, the W-201 numbers, RESULT .., then 17 ROOM"; W-213: "29 RIGHTS, 30 PASSANT, 31 COUNTER, .. after the W-201 numbers"
 abbrev pub writeOf : List ℕ → List ℕ → State → Wanted → List ℕ → Answer ℕ
 writeOf bitboards board state wanted old = checked bitboards board state (textWrittenOf board state wanted old)
 

@@ -42,7 +42,7 @@ fn write_text(board: &[u8], state: State, wanted: Wanted, out: &mut [u8]) -> Wri
     }
 }
 
-// SHAPE, OVERLAP, UNION, BYTEBOARD, RESULT, ROOM.
+// SHAPE, OVERLAP, UNION, BYTEBOARD, RIGHTS, PASSANT, COUNTER, RESULT, ROOM.
 pub fn write_line(
     bitboards: &[u64],
     board: &[u8],

@@ -17,7 +17,8 @@ use Rattle.position_odds.specs.Promises.{sized, refusedAs, Tells}
 use Rattle.position_odds.specs.Exactly.{AtOdds}
 use Rattle.position_odds.proofs.Exactly.{goes-on, at-odds}
 use Rattle.position_odds.proofs.Determined.{refused-one}
-use Rattle.position.specs.Checked.{shaped, checked}
+use Rattle.position_further.specs.Rule.{home, atHome, justPassed, countersFit}
+use Rattle.position.specs.Checked.{ofSide, shaped, orFurther, checked, Fitting}
 use Rattle.position.specs.Promises.{paper, Checks}
 use Rattle.position.specs.declared.State.{State}
 use Rattle.position.specs.declared.Checked.{Checked}
@@ -57,39 +58,74 @@ side-below-2 bbs bytes state e = ltb→lt (state .side) 2 (and-r (eqb (length bb
 module _ {A : Type 0} (bbs bytes : List ℕ) (state : State) (rest : Answer A) where
   pub misshapen : shaped bbs bytes state ≡ false → refusalOf R.Shape ≡ checked bbs bytes state rest
   unfolding checked
-  misshapen e = sym (ap (λ (t : Bool). orRefuse t R.Shape (orOdds bbs bytes rest)) e)
+  misshapen e = sym (ap (λ (t : Bool). orRefuse t R.Shape (orOdds bbs bytes (orFurther bytes state rest))) e)
 
-  in-order : shaped bbs bytes state ≡ true → (x : Answer A) → orOdds bbs bytes rest ≡ x → x ≡ checked bbs bytes state rest
-  unfolding checked
-  in-order s x e = sym e ∙ sym (ap (λ (t : Bool). orRefuse t R.Shape (orOdds bbs bytes rest)) s)
+  module _ (s : shaped bbs bytes state ≡ true) where
+    in-order : (x : Answer A) → orOdds bbs bytes (orFurther bytes state rest) ≡ x → x ≡ checked bbs bytes state rest
+    unfolding checked
+    in-order x e = sym e ∙ sym (ap (λ (t : Bool). orRefuse t R.Shape (orOdds bbs bytes (orFurther bytes state rest))) s)
 
-  pub sound : shaped bbs bytes state ≡ true → consistent bbs bytes ≡ true → rest ≡ checked bbs bytes state rest
-  sound s e = in-order s rest (goes-on bbs bytes rest e)
+    -- what is at odds, refused by one refusal, is every call's refusal
+    pub inconsistent : consistent bbs bytes ≡ false → (q : Refusal) → Tells bbs bytes q → refusalOf q ≡ checked bbs bytes state rest
+    inconsistent e q p =
+        let o = at-odds bbs bytes e in
+        in-order (refusalOf q) (o .refuses (orFurther bytes state rest) ∙ ap (λ (r : Refusal). refusalOf r) (the-one o))
+      where
+        sized-too : sized bbs bytes ≡ true
+        sized-too = ap₂ _&&_ (eq-eqb (length bbs) 14 (boards-14 bbs bytes state s)) (eq-eqb (length bytes) 64 (bytes-64 bbs bytes state s))
 
-  -- what is at odds, refusedAs by one refusal, is every call's refusal
-  pub inconsistent : shaped bbs bytes state ≡ true → consistent bbs bytes ≡ false → (q : Refusal) → Tells bbs bytes q → refusalOf q ≡ checked bbs bytes state rest
-  inconsistent s e q p =
-      let o = at-odds bbs bytes e in
-      in-order s (refusalOf q) (o .refuses rest ∙ ap (λ (r : Refusal). refusalOf r) (the-one o))
-    where
-      sized-too : shaped bbs bytes state ≡ true → sized bbs bytes ≡ true
-      sized-too t = ap₂ _&&_ (eq-eqb (length bbs) 14 (boards-14 bbs bytes state t)) (eq-eqb (length bytes) 64 (bytes-64 bbs bytes state t))
+        the-one : (o : AtOdds bbs bytes) → o .refusal ≡ q
+        the-one o =
+            refused-one (o .refusal) q
+            (sym (o .refuses (refusedAs (R.Byteboard 64))) ∙ sym (ap (λ (t : Bool). orRefuse t R.Shape (orOdds bbs bytes (refusedAs (R.Byteboard 64)))) sized-too) ∙ sym p)
 
-      the-one : (o : AtOdds bbs bytes) → o .refusal ≡ q
-      the-one o =
-          refused-one (o .refusal) q
-          (sym (o .refuses (refusedAs (R.Byteboard 64))) ∙ sym (ap (λ (t : Bool). orRefuse t R.Shape (orOdds bbs bytes (refusedAs (R.Byteboard 64)))) (sized-too s)) ∙ sym p)
+    -- the pieces are consistent: what the rule asks beyond them
+    module _ (e : consistent bbs bytes ≡ true) where
+      beyond : (x : Answer A) → x ≡ orFurther bytes state rest → x ≡ checked bbs bytes state rest
+      beyond x h = h ∙ in-order (orFurther bytes state rest) (goes-on bbs bytes (orFurther bytes state rest) e)
+
+      pub no-right : atHome bytes (state .rights) ≡ false → refusalOf R.Rights ≡ checked bbs bytes state rest
+      no-right h = beyond (refusalOf R.Rights) (rw h)
+
+      module _ (h : atHome bytes (state .rights) ≡ true) where
+        pub no-passant : justPassed bytes (state .side) (state .passant) ≡ false → refusalOf R.Passant ≡ checked bbs bytes state rest
+        no-passant p = beyond (refusalOf R.Passant) (rw (h, p))
+
+        module _ (p : justPassed bytes (state .side) (state .passant) ≡ true) where
+          pub uncounted : countersFit (state .halfmoves) (state .moves) ≡ false → refusalOf R.Counter ≡ checked bbs bytes state rest
+          uncounted n = beyond (refusalOf R.Counter) (rw (h, p, n))
+
+          pub in-count : countersFit (state .halfmoves) (state .moves) ≡ true → rest ≡ checked bbs bytes state rest
+          in-count n = beyond rest (rw (h, p, n))
+
+  pub sound : Fitting bbs bytes state → rest ≡ checked bbs bytes state rest
+  sound f = in-count (f .shape) (f .pieces) (f .rights) (f .passant) (f .counters)
+
+-- three tests one after the other, with something after them
+abbrev tested : {A : Type 0} → Bool → Bool → Bool → Answer A → Answer A
+tested u v w rest = orRefuse u R.Rights (orRefuse v R.Passant (orRefuse w R.Counter rest))
 
 module _ {A : Type 0} (bbs bytes : List ℕ) (state : State) (rest : Answer A) where
   -- an answer was given: no test refused it, and the answer is the rest's
-  pub through : (a : A) → checked bbs bytes state rest ≡ given a → (shaped bbs bytes state ≡ true) × (consistent bbs bytes ≡ true) × (rest ≡ given a)
+  pub through : (a : A) → checked bbs bytes state rest ≡ given a → Fitting bbs bytes state × (rest ≡ given a)
   unfolding checked
-  through a e = go (shaped bbs bytes state) (consistent bbs bytes) refl e
+  through a e = go (shaped bbs bytes state) (consistent bbs bytes) refl refl e
     where
-      go : (s t : Bool) → consistent bbs bytes ≡ t → orRefuse s R.Shape (orOdds bbs bytes rest) ≡ given a → (s ≡ true) × (t ≡ true) × (rest ≡ given a)
-      go true true c p = (refl, refl, sym (goes-on bbs bytes rest c) ∙ p)
-      go true false c p = given-not (sym p ∙ at-odds bbs bytes c .refuses rest)
-      go false t c p = given-not (sym p)
+      further : shaped bbs bytes state ≡ true → consistent bbs bytes ≡ true → (u v w : Bool) → atHome bytes (state .rights) ≡ u
+          → justPassed bytes (state .side) (state .passant) ≡ v → countersFit (state .halfmoves) (state .moves) ≡ w → tested u v w rest ≡ given a
+          → Fitting bbs bytes state × (rest ≡ given a)
+      further s c true true true h p n e = (record { shape = s; pieces = c; rights = h; passant = p; counters = n }, e)
+      further s c true true false h p n e = given-not (sym e)
+      further s c true false w h p n e = given-not (sym e)
+      further s c false v w h p n e = given-not (sym e)
+
+      go : (s t : Bool) → shaped bbs bytes state ≡ s → consistent bbs bytes ≡ t → orRefuse s R.Shape (orOdds bbs bytes (orFurther bytes state rest)) ≡ given a
+          → Fitting bbs bytes state × (rest ≡ given a)
+      go true true s c p =
+          further s c (atHome bytes (state .rights)) (justPassed bytes (state .side) (state .passant)) (countersFit (state .halfmoves) (state .moves)) refl refl refl
+          (sym (goes-on bbs bytes (orFurther bytes state rest) c) ∙ p)
+      go true false s c p = given-not (sym p ∙ at-odds bbs bytes c .refuses (orFurther bytes state rest))
+      go false t s c p = given-not (sym p)
 
   -- what refuses one question refuses every other whose rest it would refuse
   pub refused-too : {B : Type 0} (q : Refusal) (other : Answer B) → refusalOf q ≡ checked bbs bytes state rest → (refusalOf q ≡ rest → refusalOf q ≡ other)
@@ -97,13 +133,23 @@ module _ {A : Type 0} (bbs bytes : List ℕ) (state : State) (rest : Answer A) w
   unfolding checked
   refused-too {B} q other e f = go (shaped bbs bytes state) (consistent bbs bytes) refl e
     where
-      go : (s t : Bool) → consistent bbs bytes ≡ t → refusalOf q ≡ orRefuse s R.Shape (orOdds bbs bytes rest) → refusalOf q ≡ orRefuse s R.Shape (orOdds bbs bytes other)
-      go true true c p = f (p ∙ goes-on bbs bytes rest c) ∙ sym (goes-on bbs bytes other c)
+      further : (u v w : Bool) → refusalOf q ≡ tested u v w rest → refusalOf q ≡ tested u v w other
+      further true true true p = f p
+      further true true false p = cc
+      further true false w p = cc
+      further false v w p = cc
+
+      go : (s t : Bool) → consistent bbs bytes ≡ t → refusalOf q ≡ orRefuse s R.Shape (orOdds bbs bytes (orFurther bytes state rest))
+          → refusalOf q ≡ orRefuse s R.Shape (orOdds bbs bytes (orFurther bytes state other))
+      go true true c p =
+          further (atHome bytes (state .rights)) (justPassed bytes (state .side) (state .passant)) (countersFit (state .halfmoves) (state .moves))
+          (p ∙ goes-on bbs bytes (orFurther bytes state rest) c)
+          ∙ sym (goes-on bbs bytes (orFurther bytes state other) c)
       go true false c p =
           let o = at-odds bbs bytes c in
-          let both : refusalOf {A = A} q ≡ refusalOf (o .refusal) = p ∙ o .refuses rest in
+          let both : refusalOf {A = A} q ≡ refusalOf (o .refusal) = p ∙ o .refuses (orFurther bytes state rest) in
           let same : refusalOf {A = B} q ≡ refusalOf (o .refusal) = cc in
-          same ∙ sym (o .refuses other)
+          same ∙ sym (o .refuses (orFurther bytes state other))
       go false t c p = cc
 
 -- ---- after a call of `check`
@@ -111,16 +157,18 @@ abbrev done : Answer (Unit {0})
 done = given tt
 
 module _ (bbs bytes : List ℕ) (state : State) (r : Checked) (promise : Checks bbs bytes state r) where
-  -- it fits: the position has its shape and is consistent, and the rest of the definition is the answer
-  pub fit-shaped : r ≡ Fit → shaped bbs bytes state ≡ true
-  fit-shaped e = through bbs bytes state done tt (sym (sym (ap paper e) ∙ promise)) .0
-
-  pub fit-consistent : r ≡ Fit → consistent bbs bytes ≡ true
-  fit-consistent e = through bbs bytes state done tt (sym (sym (ap paper e) ∙ promise)) .1
+  -- it fits: every test held, and the rest of the definition is the answer
+  pub fit-all : r ≡ Fit → Fitting bbs bytes state
+  fit-all e = through bbs bytes state done tt (sym (sym (ap paper e) ∙ promise)) .0
 
   pub fit-rest : {A : Type 0} (rest : Answer A) → r ≡ Fit → rest ≡ checked bbs bytes state rest
-  fit-rest rest e = sound bbs bytes state rest (fit-shaped e) (fit-consistent e)
+  fit-rest rest e = sound bbs bytes state rest (fit-all e)
 
   -- it is refused: so is every call on the position
   pub pass-on : {A : Type 0} (rest : Answer A) (q : Refusal) → r ≡ Refused q → refusalOf q ≡ checked bbs bytes state rest
   pass-on rest q e = refused-too bbs bytes state done q rest (sym (ap paper e) ∙ promise) (λ p. given-not (sym p))
+
+-- ---- a state of which only the side is given
+pub of-side-fits : (bbs bytes : List ℕ) (side : ℕ) → shaped bbs bytes (ofSide side) ≡ true → consistent bbs bytes ≡ true → Fitting bbs bytes (ofSide side)
+unfolding atHome home justPassed
+of-side-fits bbs bytes side s c = record { shape = s; pieces = c; rights = refl; passant = refl; counters = refl }

@@ -45,6 +45,6 @@ fn answer(question: &[u8]) -> Reply {
 fn state(read: Read) -> State {
     match read {
         Read::Position(state, _) => state,
-        Read::Refused(_) => State { side: 0 },
+        Read::Refused(_) => position::of_side(0),
     }
 }

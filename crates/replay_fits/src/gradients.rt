@@ -27,7 +27,7 @@ pub(crate) fn answer(word: &[u8], n: [u64; NUMBERS], text: &[u8], sums: &mut [f6
 fn state(read: Read) -> State {
     match read {
         Read::Position(state, _) => state,
-        Read::Refused(_) => State { side: 0 },
+        Read::Refused(_) => position::of_side(0),
     }
 }
 

@@ -8,13 +8,15 @@ use line_parse::Read;
 use line_write::Wanted;
 use line_write::Written;
 use position::State;
+use position_further::Passant;
+use position_further::Rights;
 use refusal::Refusal;
 use text_in::inner::is;
 use text_in::inner::past;
 use text_in::inner::text_before;
 
 // More than the recorded lines take. One that did not fit would have no row, and the run would fail.
-const ROOM: usize = 0x30000;
+const ROOM: usize = 0x40000;
 
 fn main() {
     let mut collection = [0u8; ROOM];
@@ -66,13 +68,14 @@ fn read(text: &[u8]) {
             next(blanks(text) as u64);
             next(field as u64);
             codes(board);
+            rest(state);
         }
     }
     write(b"\n");
 }
 
 // No line that is written is longer.
-const LONGEST: usize = 81;
+const LONGEST: usize = 99;
 
 // Whether the line of the position, read again, is the same position with the same half points.
 fn comes_back(bitboards: &[u64], board: &[u8], state: State, half: u8) -> bool {
@@ -93,7 +96,7 @@ fn reads_as(text: &[u8], n: usize, board: &[u8], state: State, half: u8) -> bool
     match line::read_line(&text[..n], &mut bitboards_read, &mut board_read) {
         Read::Refused(_) => false,
         Read::Position(state_read, half_read) => {
-            if state_read.side != state.side {
+            if !same(state_read, state) {
                 return false;
             }
             if half_read != half {
@@ -101,6 +104,55 @@ fn reads_as(text: &[u8], n: usize, board: &[u8], state: State, half: u8) -> bool
             }
             is(board, &board_read)
         }
+    }
+}
+
+// Whether two states say the same.
+fn same(a: State, b: State) -> bool {
+    if a.side != b.side {
+        return false;
+    }
+    let rights = a.rights;
+    let others = b.rights;
+    if !same_rights(rights, others) {
+        return false;
+    }
+    let passant = a.passant;
+    let other = b.passant;
+    if number(passant) != number(other) {
+        return false;
+    }
+    if a.halfmoves != b.halfmoves {
+        return false;
+    }
+    a.moves == b.moves
+}
+
+fn same_rights(a: Rights, b: Rights) -> bool {
+    if one(a.white_short) != one(b.white_short) {
+        return false;
+    }
+    if one(a.white_long) != one(b.white_long) {
+        return false;
+    }
+    if one(a.black_short) != one(b.black_short) {
+        return false;
+    }
+    one(a.black_long) == one(b.black_long)
+}
+
+fn one(held: bool) -> u64 {
+    if held {
+        return 1;
+    }
+    0
+}
+
+// No square is past the board.
+fn number(passant: Passant) -> u64 {
+    match passant {
+        Passant::Nowhere => 64,
+        Passant::On(square) => square as u64,
     }
 }
 
@@ -160,4 +212,24 @@ fn hex(code: u8) -> u8 {
         return b'a' + (code - 10);
     }
     b'?'
+}
+
+// The four rights, a digit each; the square's number or `none`; both counters.
+fn rest(state: State) {
+    let rights = state.rights;
+    next(one(rights.white_short));
+    natural(one(rights.white_long));
+    natural(one(rights.black_short));
+    natural(one(rights.black_long));
+    let passant = state.passant;
+    passed(passant);
+    next(state.halfmoves as u64);
+    next(state.moves as u64);
+}
+
+fn passed(passant: Passant) {
+    match passant {
+        Passant::Nowhere => write(b" none"),
+        Passant::On(square) => next(square as u64),
+    }
 }

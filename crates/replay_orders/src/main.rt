@@ -3,6 +3,7 @@ use crate::reply::Reply;
 use chess::kind::Kind;
 use exchange::Exchanged;
 use exchange_least::Least;
+use exchange_start::Mode;
 use exchange_told::Told;
 use line_parse::Read;
 use position::Checked;
@@ -14,7 +15,7 @@ use text_in::inner::text_before;
 mod reply;
 
 // More than the recorded questions take. One that did not fit would have no answer, and the run would fail.
-const ROOM: usize = 0x28000;
+const ROOM: usize = 0x40000;
 
 fn main() {
     let mut questions = [0u8; ROOM];
@@ -40,19 +41,6 @@ fn answer(question: &[u8]) -> Reply {
     let read = loaded.answer;
     let state = state(read);
     let order = order(n[0]);
-    if is(word, b"see_by") {
-        return worth(exchange::see(&bitboards, &board, state, &order, byte(n[1]), byte(n[2])));
-    }
-    if is(word, b"captures") {
-        return told(exchange_told::captures(
-            &bitboards,
-            &board,
-            state,
-            &order,
-            byte(n[1]),
-            byte(n[2]),
-        ));
-    }
     if is(word, b"lvp_by") {
         return least(exchange_least::lvp(
             &bitboards,
@@ -64,13 +52,54 @@ fn answer(question: &[u8]) -> Reply {
             n[3],
         ));
     }
+    exchanged(
+        word,
+        &bitboards,
+        &board,
+        state,
+        &order,
+        byte(n[1]),
+        byte(n[2]),
+    )
+}
+
+// What there is to say of the exchange from a square to another, in the mode that the word names.
+fn exchanged(
+    word: &[u8],
+    bitboards: &[u64],
+    board: &[u8],
+    state: State,
+    order: &[u8; Kind::COUNT],
+    from: u8,
+    to: u8,
+) -> Reply {
+    if is(word, b"see_by") {
+        return worth(exchange::see(Mode::First, bitboards, board, state, order, from, to));
+    }
+    if is(word, b"see_second") {
+        return worth(exchange::see(Mode::Second, bitboards, board, state, order, from, to));
+    }
+    if is(word, b"captures") {
+        return told(exchange_told::captures(Mode::First, bitboards, board, state, order, from, to));
+    }
+    if is(word, b"captures_second") {
+        return told(exchange_told::captures(
+            Mode::Second,
+            bitboards,
+            board,
+            state,
+            order,
+            from,
+            to,
+        ));
+    }
     Reply::Nothing
 }
 
 fn state(read: Read) -> State {
     match read {
         Read::Position(state, _) => state,
-        Read::Refused(_) => State { side: 0 },
+        Read::Refused(_) => position::of_side(0),
     }
 }
 

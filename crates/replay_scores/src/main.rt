@@ -4,6 +4,7 @@ use chess::piece::Piece;
 use chess::square::Square;
 use exchange::Exchanged;
 use exchange_order::ORDER;
+use exchange_start::Mode;
 use line_parse::Read;
 use position::State;
 use replay_question::NUMBERS;
@@ -13,6 +14,7 @@ use text_in::inner::text_before;
 
 mod reply;
 mod scores;
+mod states;
 
 // More than the recorded questions take. One that did not fit would have no answer, and the run would fail.
 const ROOM: usize = 0x38000;
@@ -44,24 +46,48 @@ fn answer(question: &[u8]) -> Reply {
     if is(word, b"bent") {
         return bent(numbers, bitboards, board, state);
     }
-    if is(word, b"see") {
-        let order = ORDER;
-        return worth(exchange::see(
-            &bitboards,
-            &board,
-            state,
-            &order,
-            byte(numbers[0]),
-            byte(numbers[1]),
-        ));
+    if is(word, b"state") {
+        return in_state(numbers, bitboards, board);
     }
-    scores::answer(word, numbers, &bitboards, &board, state)
+    if is(word, b"see") {
+        return seen(numbers, bitboards, board, state);
+    }
+    scored(word, numbers, bitboards, board, state)
+}
+
+// The exchange that a question names. Arrays go by value here and below: one that is lent in several arms has no length that is known.
+fn seen(
+    n: [u64; NUMBERS],
+    bitboards: [u64; Piece::BOARDS],
+    board: [u8; Square::COUNT],
+    state: State,
+) -> Reply {
+    let order = ORDER;
+    worth(exchange::see(
+        Mode::First,
+        &bitboards,
+        &board,
+        state,
+        &order,
+        byte(n[0]),
+        byte(n[1]),
+    ))
+}
+
+fn scored(
+    word: &[u8],
+    n: [u64; NUMBERS],
+    bitboards: [u64; Piece::BOARDS],
+    board: [u8; Square::COUNT],
+    state: State,
+) -> Reply {
+    scores::answer(word, n, &bitboards, &board, state)
 }
 
 fn state(read: Read) -> State {
     match read {
         Read::Position(state, _) => state,
-        Read::Refused(_) => State { side: 0 },
+        Read::Refused(_) => position::of_side(0),
     }
 }
 
@@ -78,6 +104,15 @@ fn worth(worth: Exchanged) -> Reply {
         Exchanged::Worth(value) => Reply::Score(value),
         Exchanged::Refused(r) => Reply::Refused(r),
     }
+}
+
+// The score in the state that the question names.
+fn in_state(
+    n: [u64; NUMBERS],
+    bitboards: [u64; Piece::BOARDS],
+    board: [u8; Square::COUNT],
+) -> Reply {
+    scores::scored(score::eval(&bitboards, &board, states::named(n)))
 }
 
 // The score after one bitboard has some bits turned over, and one byte is set.

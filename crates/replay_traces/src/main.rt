@@ -138,7 +138,7 @@ fn by_list(word: &[u8], kind: u64, seed: u64, text: &[u8]) {
 fn state(read: Read) -> State {
     match read {
         Read::Position(state, _) => state,
-        Read::Refused(_) => State { side: 0 },
+        Read::Refused(_) => position::of_side(0),
     }
 }
 

@@ -6,6 +6,8 @@ use Rattle.laws.specs.Tables.{tabulate}
 use Rattle.refusal.specs.Answer.{Answer, given}
 use Rattle.text_in.specs.Text.{text, every, holds, before, after, without, withoutLast, trim, placeIn}
 use Rattle.line_ranks.specs.Ranks.{areRanks, stacked}
+use Rattle.line_tail.specs.Words.{nthWord}
+use Rattle.line_tail.specs.Tail.{rightsFit, passantFits, countersFitFields, stateSaid}
 use Rattle.line_parse.specs.Line.{fieldsSay, lineOf}
 use Rattle.line_cut.specs.Lines.{endsInCR, linesFrom}
 use Rattle.position_boards.specs.Boards.{bitboardsOf}
@@ -18,7 +20,7 @@ use Rattle.score_collected.specs.Collected.{shownIn, collectedOf}
 
 -- scores 117 with White to move and a win, −95 with Black to move and a draw; a verdict; a line with no result
 collected : List ℕ → Answer (Totals × ℕ)
-unfolding linesFrom endsInCR shownIn scoredIn apartIn sumIn refusedIn table lineOf fieldsSay every holds before after without withoutLast trim placeIn areRanks stacked scoreOf tabulate bitboardsOf
+unfolding linesFrom endsInCR shownIn scoredIn apartIn sumIn refusedIn table lineOf fieldsSay every holds before after without withoutLast trim placeIn areRanks stacked nthWord rightsFit passantFits countersFitFields stateSaid scoreOf tabulate bitboardsOf
 collected input = collectedOf input
 
 paper :

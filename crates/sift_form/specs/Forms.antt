@@ -14,7 +14,7 @@ use Rattle.sift_form.specs.declared.Form.the-variants as F
 -- the most bytes that are made of a line
 abbrev pub roomOf : Form → ℕ
 roomOf F.Sample = 300
-roomOf F.Text = 82
+roomOf F.Text = 100
 roomOf F.Record = 34
 
 -- the bytes made of a position and half points: its sample, none where it is at odds with itself; its line, with LF; its record

@@ -12,7 +12,7 @@ use sift_form::Form;
 use stream_io::Taken;
 
 // Room for what is made of as many lines as a read may have, in the form of a text or a shorter one, and for as many rows.
-const MADE: usize = 335872;
+const MADE: usize = 409600;
 
 const ROWS: usize = 131072;
 

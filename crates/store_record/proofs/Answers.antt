@@ -13,6 +13,7 @@ use Rattle.position_boards.specs.Promises.{Makes}
 use Rattle.position_boards.specs.declared.Boards.{Boards}
 use Rattle.position_odds.specs.Named.{lowestWrong}
 use Rattle.position.specs.Checked.{ofSide}
+use Rattle.position.specs.declared.State.{State}
 use Rattle.line_parse.specs.Line.{Line}
 use Rattle.line_parse.specs.declared.Read.the-variants.{Position}
 use Rattle.line.specs.declared.inner.Loaded.{Loaded}
@@ -62,12 +63,13 @@ module _ (piece : List ℕ) where
             by-same (refusalOf R.Result) (pieceSays piece) r
             (all-tests true true true false (eq-eqb (length piece) 34 size) (code-is ∙ fine) (lt-ltb (sideIn piece) 2 k) (le-ltb (halfIn piece) 3 j)) h
 
-        pub good : halfIn piece < 3 → SaysPiece piece (record { answer = Position (ofSide (sideIn piece)) (halfIn piece); bitboards = made .bitboards; board = board })
+        pub good : halfIn piece < 3 → (state : State) → state ≡ ofSide (sideIn piece)
+            → SaysPiece piece (record { answer = Position state (halfIn piece); bitboards = made .bitboards; board = board })
         unfolding tests
-        good j =
-            by-same (given (positionIn piece)) (pieceSays piece) (record { answer = Position (ofSide (sideIn piece)) (halfIn piece); bitboards = made .bitboards; board = board })
+        good j state s =
+            by-same (given (positionIn piece)) (pieceSays piece) (record { answer = Position state (halfIn piece); bitboards = made .bitboards; board = board })
             (all-tests true true true true (eq-eqb (length piece) 34 size) (code-is ∙ fine) (lt-ltb (sideIn piece) 2 k) (lt-ltb (halfIn piece) 3 j))
-            (record { answer = refl; boards = m .0 ∙ ap bitboardsOf b; bytes = b })
+            (record { answer = ap (λ (x : State). given (x, halfIn piece)) s; boards = m .0 ∙ ap bitboardsOf b; bytes = b })
 
 -- ---- a record of a run
 module _ (run : List ℕ) (number : ℕ) where

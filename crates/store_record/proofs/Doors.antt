@@ -10,6 +10,7 @@ use borrow.Author.Tests.{eq-eqb, ne-eqb, lt-ltb, le-ltb, le-leb}
 use Rattle.refusal.specs.Answer.{Answer, given, orRefuse}
 use Rattle.refusal.specs.declared.Refusal.{Refusal}
 use Rattle.refusal.specs.declared.Refusal.the-variants as R
+use Rattle.position.specs.Checked.{ofSide}
 use Rattle.position.specs.Promises.{Checks}
 use Rattle.position.specs.declared.State.{State}
 use Rattle.position.specs.declared.Checked.{Checked}
@@ -32,6 +33,11 @@ replaced old text e =
 module _ (bbs board : List ℕ) (state : State) (half : ℕ) (place : List ℕ) (r : Checked) (promise : Checks bbs board state r) where
   abbrev l : Line
   l = record { state = state; half = half; board = board }
+
+  -- pieces, side and half points are all that a record holds of it
+  dropped : recordOf (record { state = ofSide (state .side); half = half; board = board }) ≡ recordOf l
+  unfolding recordOf
+  dropped = refl
 
   -- what comes after the tests of the position
   after : Bool → Bool → Answer (List ℕ)
@@ -61,8 +67,8 @@ module _ (bbs board : List ℕ) (state : State) (half : ℕ) (place : List ℕ) 
       unfolding after
       no-place n = gives true false (lt-ltb half 3 h) (ne-eqb (length place) 34 n) (K.Refused R.Length) place refl refl
 
-      pub done : length place ≡ 34 → (bytes place′ : List ℕ) → bytes ≡ recordOf l → place′ ≡ writtenOf place 0 bytes → WritesRecord bbs board state half place K.Done place′
+      pub done : length place ≡ 34 → (bytes place′ : List ℕ) → bytes ≡ recordOf (record { state = ofSide (state .side); half = half; board = board }) → place′ ≡ writtenOf place 0 bytes → WritesRecord bbs board state half place K.Done place′
       unfolding after
       done n bytes place′ b p =
           gives true true (lt-ltb half 3 h) (eq-eqb (length place) 34 n) K.Done place′ refl
-          (p ∙ ap (writtenOf place 0) b ∙ replaced place (recordOf l) (n ∙ sym (record-34 l)))
+          (p ∙ ap (writtenOf place 0) (b ∙ dropped) ∙ replaced place (recordOf l) (n ∙ sym (record-34 l)))

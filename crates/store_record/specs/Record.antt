@@ -22,6 +22,10 @@ twoSquares low high = low % 16 + 16 * (high % 16)
 unfoldable pub recordOf : Line → List ℕ
 recordOf l = tabulate 32 (λ i. twoSquares (getD (l .board) (2 * i) 0) (getD (l .board) (2 * i + 1) 0)) ++ (l .state .side ∷ l .half ∷ [])
 
+-- "W-205 records don't use" rights, en passant square and counters: what a record holds of a line, the rest as where it is not given
+abbrev pub inRecord : Line → Line
+inRecord l = record { state = ofSide (l .state .side); half = l .half; board = l .board }
+
 -- ---- what a record says
 -- the low half is the even square's, the high half the odd one's
 abbrev pub halfByte : ℕ → ℕ → ℕ

@@ -11,7 +11,7 @@ use chess::piece::Piece;
 use chess::square::Square;
 use line::inner::Loaded;
 use line_parse::Read;
-use position::State;
+use position::of_side;
 use refusal::Refusal;
 
 // The bytes of a record; where its side and its half points stand.
@@ -105,7 +105,7 @@ pub fn read(piece: &[u8]) -> Loaded
     }
     let bitboards = made.bitboards;
     Loaded {
-        answer: Read::Position(State { side }, half),
+        answer: Read::Position(of_side(side), half),
         bitboards,
         board,
     }

@@ -16,14 +16,14 @@ use Rattle.position_boards.specs.Boards.{bitboardsOf}
 use Rattle.position_consistent.specs.Consistent.{consistent}
 use Rattle.position_consistent.proofs.Parts.{consistent-coded}
 use Rattle.position_consistent.proofs.Only.{made-consistent, only-made}
-use Rattle.position.specs.Checked.{shaped}
+use Rattle.position.specs.Checked.{ofSide, shaped}
 use Rattle.position.proofs.Doors.{through, boards-14, bytes-64, side-below-2}
 use Rattle.line_parse.specs.Line.{Line}
 use Rattle.line_parse.specs.Promises.{byValue, boardAfter}
 use Rattle.line_parse.specs.declared.Read.the-variants.{Position}
 use Rattle.line_parse.proofs.Determined.{read-one}
 use Rattle.line.specs.Promises.{bitboardsAfter, orShape}
-use Rattle.store_record.specs.Record.{recordOf, pieceSays, storedSays}
+use Rattle.store_record.specs.Record.{recordOf, inRecord, pieceSays, storedSays}
 use Rattle.store_record.specs.Promises.{storeOf, isStored, placeAfter}
 use Rattle.store_record.proofs.Records.{record-34}
 use Rattle.store_same.specs.Same.{WroteRecord, ReadBack, Again, Back, TwoHaveTwo}
@@ -66,10 +66,10 @@ module _ (w : WroteRecord) where
       go : (bytes : List ℕ) × (storeOf (w .bitboards) (w .board) (w .state) (w .half) (w .place) ≡ given bytes) → Held
       go b =
           let t = through (w .bitboards) (w .board) (w .state) (orRefuse (ltb (w .half) 3) R.Result (orRefuse (eqb (length (w .place)) 34) R.Length (given (recordOf line)))) (b .0) (b .1) in
-          let u = tests (ltb (w .half) 3) (eqb (length (w .place)) 34) (b .0) refl (t .2) in
+          let u = tests (ltb (w .half) 3) (eqb (length (w .place)) 34) (b .0) refl (t .1) in
           record {
-            shape = t .0;
-            fits = t .1;
+            shape = t .0 .shape;
+            fits = t .0 .pieces;
             result = u .0;
             bytes = w .writes .bytes ∙ ap (λ (a : Answer (List ℕ)). placeAfter a (w .place)) (b .1) ∙ u .1;
           }
@@ -77,7 +77,7 @@ module _ (w : WroteRecord) where
   boards-are : w .bitboards ≡ bitboardsOf (w .board)
   boards-are = only-made (w .bitboards) (w .board) (held .fits) (boards-14 (w .bitboards) (w .board) (w .state) (held .shape)) (w .small)
 
-  says : pieceSays (w .place′) ≡ given line
+  says : pieceSays (w .place′) ≡ given (inRecord line)
   says =
       ap pieceSays (held .bytes)
       ∙ says-it line (bytes-64 (w .bitboards) (w .board) (w .state) (held .shape)) (consistent-coded (w .bitboards) (w .board) (held .fits))
@@ -86,11 +86,11 @@ module _ (w : WroteRecord) where
   -- WRITTEN, THEN READ
   pub again : (r : ReadBack w) → Again w r
   again r =
-      let e : orShape (r .bitboards) (r .board) (storedSays (w .place′) 0) ≡ given line =
+      let e : orShape (r .bitboards) (r .board) (storedSays (w .place′) 0) ≡ given (inRecord line) =
       ap₂ (λ (s t : Bool). orRefuse (s && t) R.Shape (storedSays (w .place′) 0)) (eq-eqb (length (r .bitboards)) 14 (r .boards-14)) (eq-eqb (length (r .board)) 64 (r .bytes-64))
       ∙ alone (w .place′) (ap length (held .bytes) ∙ record-34 line) ∙ says in
       record {
-        said = read-one (r .answer) (Position (w .state) (w .half)) (r .reads .answer ∙ ap byValue e);
+        said = read-one (r .answer) (Position (ofSide (w .state .side)) (w .half)) (r .reads .answer ∙ ap byValue e);
         boards = r .reads .boards ∙ ap (λ (a : Answer Line). bitboardsAfter a (r .bitboards)) e ∙ sym boards-are;
         bytes = r .reads .bytes ∙ ap (λ (a : Answer Line). boardAfter a (r .board)) e;
       }
@@ -103,7 +103,7 @@ back bytes l small e =
 -- ---- two have two
 pub two-have-two : (w v : WroteRecord) → TwoHaveTwo w v
 two-have-two w v e =
-    let both : given (line w) ≡ given (line v) = sym (says w) ∙ ap pieceSays e ∙ says v in
-    let same : line w ≡ line v = cc in
+    let both : given (inRecord (line w)) ≡ given (inRecord (line v)) = sym (says w) ∙ ap pieceSays e ∙ says v in
+    let same : inRecord (line w) ≡ inRecord (line v) = cc in
     let board = ap (λ (l : Line). l .board) same in
-    (ap (λ (l : Line). l .state) same, ap (λ (l : Line). l .half) same, boards-are w ∙ ap bitboardsOf board ∙ sym (boards-are v), board)
+    (ap (λ (l : Line). l .state .side) same, ap (λ (l : Line). l .half) same, boards-are w ∙ ap bitboardsOf board ∙ sym (boards-are v), board)

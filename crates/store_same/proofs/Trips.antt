@@ -21,7 +21,7 @@ use Rattle.chess.specs.Codes.{isPiece}
 use Rattle.position_boards.specs.Boards.{isByte, coded}
 use Rattle.position_odds.specs.Named.{lowestWrong}
 use Rattle.line_parse.specs.Line.{Line}
-use Rattle.store_record.specs.Record.{twoSquares, recordOf, halfByte, codeIn, boardIn, sideIn, halfIn, isCode, positionIn, recordSays, pieceSays}
+use Rattle.store_record.specs.Record.{twoSquares, recordOf, inRecord, halfByte, codeIn, boardIn, sideIn, halfIn, isCode, positionIn, recordSays, pieceSays}
 use Rattle.store_record.proofs.Records.{its-table, record-34, record-pair, record-side, record-half, even-code, odd-code}
 
 -- a byte that a board may hold is below 16
@@ -63,7 +63,7 @@ module _ (l : Line) (size : length (l .board) ≡ 64) (codes : coded (l .board) 
   unfolding boardIn
   board-there = tabulate-same 64 (codeIn (recordOf l)) (λ k. getD (l .board) k 0) square-there ∙ its-table 64 (l .board) size
 
-  pub says-it : l .state .side < 2 → l .half < 3 → pieceSays (recordOf l) ≡ given l
+  pub says-it : l .state .side < 2 → l .half < 3 → pieceSays (recordOf l) ≡ given (inRecord l)
   unfolding pieceSays recordSays coded
   says-it s h =
       let b = board-there in

@@ -6,6 +6,7 @@ use Prim.Native.Nat.{ℕ, _^_, _<_}
 use lib.ListN.{length, getD}
 use Rattle.position_boards.specs.Boards.{bitboardsOf}
 use Rattle.position_consistent.specs.Consistent.{consistent}
+use Rattle.position.specs.Checked.{ofSide}
 use Rattle.position.specs.declared.State.{State}
 use Rattle.line_parse.specs.Line.{Line}
 use Rattle.line_parse.specs.declared.Read.{Read}
@@ -37,9 +38,9 @@ pub record ReadBack (w : WroteRecord) : Type 0 where
   pub board′ : List ℕ
   pub reads : ReadsRecord (w .place′) 0 bitboards board answer bitboards′ board′
 
--- WRITTEN, THEN READ: the same state, half points, bitboards and board
+-- WRITTEN, THEN READ: the same side, half points, bitboards and board; rights, square and counters, which no record holds, read as where they are not given
 pub record Again (w : WroteRecord) (r : ReadBack w) : Type 0 where
-  pub said : r .answer ≡ Position (w .state) (w .half)
+  pub said : r .answer ≡ Position (ofSide (w .state .side)) (w .half)
   pub boards : r .bitboards′ ≡ w .bitboards
   pub bytes : r .board′ ≡ w .board
 
@@ -49,6 +50,6 @@ pub record Back (bytes : List ℕ) (l : Line) : Type 0 where
   pub fits : consistent (bitboardsOf (l .board)) (l .board) ≡ true
   pub same : recordOf l ≡ bytes
 
--- "One position and result has one record": `recordOf` is a function; and two have two
+-- "One position and result has one record": `recordOf` is a function; and two have two, but for rights, square and counters
 abbrev pub TwoHaveTwo : WroteRecord → WroteRecord → Type 0
-TwoHaveTwo w v = w .place′ ≡ v .place′ → (w .state ≡ v .state) × (w .half ≡ v .half) × (w .bitboards ≡ v .bitboards) × (w .board ≡ v .board)
+TwoHaveTwo w v = w .place′ ≡ v .place′ → (w .state .side ≡ v .state .side) × (w .half ≡ v .half) × (w .bitboards ≡ v .bitboards) × (w .board ≡ v .board)

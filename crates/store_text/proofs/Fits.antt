@@ -12,7 +12,7 @@ use Rattle.ledger_totals.proofs.Fits.{length-named}
 use Rattle.store_text.specs.Board.{countOn, drawnSquare, totalOf, mostOf, pieceWords, laid}
 use Rattle.store_text.specs.Table.{widthOf, inColumn, countWord, fileWord, lettersRow}
 use Rattle.store_text.specs.Picture.{darkness, acrossAt, downAt, numbered, squareDrawn, countDrawn, countIfAny, rankDrawn, lettersDrawn, boardAt, pictureBegin}
-use Rattle.store_text.specs.Page.{pageBegin, pageEnd, wordsEnd, boardBegin, boardEnd, rankDigit, squareWord, rankBefore, rowEnd, squareText, boardHead, squaresText, boardText, pageHead, pageOf}
+use Rattle.store_text.specs.Page.{pageBegin, pageEnd, wordsEnd, boardBegin, boardEnd, rankDigit, squareWord, rankBefore, rowEnd, squareShown, boardHead, squaresShown, boardText, pageHead, pageOf}
 use Rattle.store_text.specs.declared.Form.{Form}
 use Rattle.store_text.specs.declared.Form.the-variants as F
 use Rattle.store_text.proofs.Laid.{length-laid}
@@ -110,12 +110,12 @@ length-square-word F.Picture most n i = omega (arith, length-append (squareDrawn
 pub length-row-end : (i : ℕ) → length (rowEnd i) ≤ 1
 length-row-end i = either (eqb (i % 8) 7) (text "\n") [] 1 (omega arith) (omega arith)
 
-length-square-text : (form : Form) (most n i : ℕ) → length (squareText form most n i) ≤ 260
-unfolding squareText
+length-square-text : (form : Form) (most n i : ℕ) → length (squareShown form most n i) ≤ 260
+unfolding squareShown
 length-square-text form most n i =
     three (rankBefore form i) (squareWord form most n i) (rowEnd i) 66 193 1 (length-before form i) (length-square-word form most n i) (length-row-end i)
 
-pub length-squares : (form : Form) (summary : List ℕ) (piece most i : ℕ) → length (squaresText form summary piece most i) ≤ 260
+pub length-squares : (form : Form) (summary : List ℕ) (piece most i : ℕ) → length (squaresShown form summary piece most i) ≤ 260
 length-squares form summary piece most i = length-square-text form most (countOn summary piece (drawnSquare i)) i
 
 pub length-piece : (k : ℕ) → length (pieceWords k) ≤ 13
@@ -140,8 +140,8 @@ length-head form piece total =
 pub length-board : (form : Form) (summary : List ℕ) (piece : ℕ) → length (boardText form summary piece) ≤ 17074
 unfolding boardText
 length-board form summary piece =
-    three (boardHead form piece (totalOf summary piece)) (laid 64 (squaresText form summary piece (mostOf summary piece))) (boardEnd form (mostOf summary piece)) 134 16640 300
-    (length-head form piece (totalOf summary piece)) (length-laid 64 260 (squaresText form summary piece (mostOf summary piece)) (length-squares form summary piece (mostOf summary piece)))
+    three (boardHead form piece (totalOf summary piece)) (laid 64 (squaresShown form summary piece (mostOf summary piece))) (boardEnd form (mostOf summary piece)) 134 16640 300
+    (length-head form piece (totalOf summary piece)) (length-laid 64 260 (squaresShown form summary piece (mostOf summary piece)) (length-squares form summary piece (mostOf summary piece)))
     (length-board-end form (mostOf summary piece))
 
 pub length-page-head : (form : Form) (records points : ℕ) → length (pageHead form records points) ≤ 1000

@@ -50,19 +50,19 @@ rankBefore form i = cond (eqb (i % 8) 0) (rankDigit form i) []
 abbrev pub rowEnd : ℕ → List ℕ
 rowEnd i = cond (eqb (i % 8) 7) (text "\n") []
 
-unfoldable pub squareText : Form → ℕ → ℕ → ℕ → List ℕ
-squareText form most n i = rankBefore form i ++ (squareWord form most n i ++ rowEnd i)
+unfoldable pub squareShown : Form → ℕ → ℕ → ℕ → List ℕ
+squareShown form most n i = rankBefore form i ++ (squareWord form most n i ++ rowEnd i)
 
 -- the piece and how many there are
 unfoldable pub boardHead : Form → ℕ → ℕ → List ℕ
 boardHead form piece total = boardBegin form piece ++ (pieceWords piece ++ (decimalOf total ++ wordsEnd form))
 
-abbrev pub squaresText : Form → List ℕ → ℕ → ℕ → ℕ → List ℕ
-squaresText form summary piece most i = squareText form most (countOn summary piece (drawnSquare i)) i
+abbrev pub squaresShown : Form → List ℕ → ℕ → ℕ → ℕ → List ℕ
+squaresShown form summary piece most i = squareShown form most (countOn summary piece (drawnSquare i)) i
 
 unfoldable pub boardText : Form → List ℕ → ℕ → List ℕ
 boardText form summary piece =
-    boardHead form piece (totalOf summary piece) ++ (laid 64 (squaresText form summary piece (mostOf summary piece)) ++ boardEnd form (mostOf summary piece))
+    boardHead form piece (totalOf summary piece) ++ (laid 64 (squaresShown form summary piece (mostOf summary piece)) ++ boardEnd form (mostOf summary piece))
 
 unfoldable pub pageHead : Form → ℕ → ℕ → List ℕ
 pageHead form records points = pageBegin form ++ (numbered (text "records ") records ++ (numbered (text " half points ") points ++ wordsEnd form))

@@ -4,7 +4,7 @@ ghost use Prim.Native.Nat.{_+_, _≤_, _<_, max};
 ghost use lib.ListN.{length};
 ghost use Rattle.text_out.specs.Text.{Adds};
 ghost use Rattle.store_text.specs.Board.{countOn, drawnSquare, laid};
-ghost use Rattle.store_text.specs.Page.{pageBegin, pageEnd, wordsEnd, boardBegin, boardEnd, rankBefore, rowEnd, rankDigit, squareWord, squareText, squaresText, boardHead, boardText, pageHead, pageOf};
+ghost use Rattle.store_text.specs.Page.{pageBegin, pageEnd, wordsEnd, boardBegin, boardEnd, rankBefore, rowEnd, rankDigit, squareWord, squareShown, squaresShown, boardHead, boardText, pageHead, pageOf};
 ghost use Rattle.store_text.specs.Promises.{AddsUp, BoardRoom, OnePiece, SquareRoom};
 use crate::Form;
 use crate::picture;
@@ -148,7 +148,7 @@ fn row_end(i: usize, out: &mut [u8], at: usize) -> usize
 
 fn square(form: Form, most: u64, n: u64, i: usize, out: &mut [u8], at: usize) -> usize
     requires { ⌜ SquareRoom 260 i (now out) at ⌝ }
-    ensures { λ r. ⌜ Adds (now (out .entry)) at (squareText form most n i) (now (out .exit)) r ⌝ }
+    ensures { λ r. ⌜ Adds (now (out .entry)) at (squareShown form most n i) (now (out .exit)) r ⌝ }
 {
     let a = rank_before(form, i, out, at);
     let b = square_word(form, most, n, i, out, a);
@@ -165,7 +165,7 @@ fn drawn(i: usize) -> usize
 
 fn squares(form: Form, summary: &[u64], piece: usize, most: u64, out: &mut [u8], at: usize) -> usize
     requires { ⌜ BoardRoom 16640 (now summary) piece (now out) at ⌝ }
-    ensures { λ r. ⌜ Adds (now (out .entry)) at (laid 64 (squaresText form (now (summary .entry)) piece most)) (now (out .exit)) r ⌝ }
+    ensures { λ r. ⌜ Adds (now (out .entry)) at (laid 64 (squaresShown form (now (summary .entry)) piece most)) (now (out .exit)) r ⌝ }
 {
     let mut end = at;
     let mut i = 0;

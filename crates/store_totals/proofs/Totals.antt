@@ -45,7 +45,7 @@ module _ (bbs board : List ℕ) (state : State) (half : ℕ) where
       let l : Line = record { state = state; half = half; board = board } in
       let y : Answer (List ℕ) = orRefuse (eqb (length blank) 34) R.Length (given (recordOf l)) in
       let t = through bbs board state (orRefuse (ltb half 3) R.Result y) bytes e in
-      let p = passed (ltb half 3) R.Result bytes y (t .2) in
+      let p = passed (ltb half 3) R.Result bytes y (t .1) in
       let q = passed (eqb (length blank) 34) R.Length bytes (given (recordOf l)) (p .1) in
       let same : recordOf l ≡ bytes = cc (q .1) in
       let h = ltb-true half 3 (p .0) in

@@ -77,6 +77,20 @@ length-decimal (suc f) n =
     length-cond (ltb n 10) f ((48 + n) ∷ []) (digitsUpTo f (n / 10) ++ ((48 + n % 10) ∷ [])) (omega arith)
     (omega (arith, length-append (digitsUpTo f (n / 10)) ((48 + n % 10) ∷ []), length-decimal f (n / 10)))
 
+-- a number below a power of ten has no more digits than the power
+pub length-below : (f k n : ℕ) → n < 10 ^ suc k → length (digitsUpTo f n) ≤ suc k
+unfolding digitsUpTo
+length-below zero k n h = omega arith
+length-below (suc f) zero n h = rw (lt-ltb n 10 h) (omega arith)
+length-below (suc f) (suc k) n h = go (ltb n 10) (length-below f k (n / 10) (tenth (10 ^ suc k) (rw (pow-succ' 10 (suc k)) at h)))
+  where
+    tenth : (p : ℕ) → n < 10 * p → n / 10 < p
+    tenth p q = omega arith
+
+    go : (t : Bool) → length (digitsUpTo f (n / 10)) ≤ suc k → length (cond t ((48 + n) ∷ []) (digitsUpTo f (n / 10) ++ ((48 + n % 10) ∷ []))) ≤ suc (suc k)
+    go true q = omega arith
+    go false q = omega (arith, length-append (digitsUpTo f (n / 10)) ((48 + n % 10) ∷ []))
+
 -- a 64-bit number has at most 20 digits
 pub fewest-20 : (n k : ℕ) → n < 2 ^ 64 → Fewest 10 1 n k → k ≤ 20
 fewest-20 n k h w = go (ltb 20 k) refl

@@ -146,7 +146,7 @@ same-line t used list entries flat c g e =
 
 -- ---- a position's
 was-consistent : {A : Type 0} (bbs board : List ℕ) (state : State) (a : A) (rest : Answer A) → checked bbs board state rest ≡ given a → (consistent bbs board ≡ true) × (rest ≡ given a)
-was-consistent bbs board state a rest e = let w = through bbs board state rest a e in (w .1, w .2)
+was-consistent bbs board state a rest e = let w = through bbs board state rest a e in (w .0 .pieces, w .1)
 
 few-ones : (bbs board : List ℕ) → consistent bbs board ≡ true → length (onesIn (entriesOf bbs)) ≤ 64
 few-ones bbs board e = subst (λ (m : ℕ). m ≤ 64) (sym (ones-are-pieces bbs board e)) (pieces-few bbs)

@@ -1,49 +1,40 @@
 -- `abi_captures::chess_captures` meets its contract. Assumes nothing.
-use mathlib.Core.Path.{refl}
-use Rattle.abi_captures.proofs.Passed.{passed-refused, passed-told}
+use Rattle.exchange_told.specs.Told.{toldOf}
+use Rattle.abi_states.specs.States.{stateTaken}
+use Rattle.abi_captures.proofs.Passed.{not-said, said-in}
 use borrow.Author.Needs.{needs}
 use Rattle.abi_captures.proofs.chess_captures.Statement.{statement}
 use Rattle.abi_captures.proofs.chess_captures.Tie as tie
 
-captures-requires : tie.Need-captures-requires
-captures-requires c κs = search needs
+mode-of-requires : tie.Need-mode-of-requires
+mode-of-requires c κs = search needs
 
-enum-known-checked : tie.Need-enum-known-checked
-enum-known-checked c = search needs
+enum-known-named : tie.Need-enum-known-named
+enum-known-named c = search needs
 
 refused-requires : tie.Need-refused-requires
 refused-requires c κs = search needs
 
+enum-known-named-2 : tie.Need-enum-known-named-2
+enum-known-named-2 c = search needs
+
+captures-requires : tie.Need-captures-requires
+captures-requires c κs = search needs
+
 returns : tie.Need-returns
 returns c =
-    let k = c .before .before .before .before in
-    let a = k .before .before .before .args in
-    let g = c .before .before .checked .given in
-    passed-refused (a .order .now) (a .bitboards .now) (a .board .now) (a .side) (a .from) (a .to) _ _ _ _ _ (k .captures .result) (k .captures .ensures) (g .0 .0) (g .1) (c .refused .result)
-    (c .refused .ensures)
-
-enum-told : tie.Need-enum-told
-enum-told c = search needs
-
-stop-number-requires : tie.Need-stop-number-requires
-stop-number-requires c κs = search needs
+    let n = c .before .before .before .before in
+    let a = n .before .before .before .args in
+    not-said (a .mode) (n .mode-of .result) (n .mode-of .ensures) (λ mode. toldOf mode (a .order .now) (a .bitboards .now) (a .board .now) (stateTaken (a .state)) (a .from) (a .to)) (c .before .before .named .given .0 .0) (c .before .before .named .given .1)
+    _ _ _ _ _ (c .refused .result) (c .refused .ensures)
 
 returns-2 : tie.Need-returns-2
 returns-2 c =
-    let t = c .before .before .before .before .before in
-    let k = t .before .before in
-    let a = k .before .before .before .args in
-    passed-told (a .order .now) (a .bitboards .now) (a .board .now) (a .side) (a .from) (a .to) _ _ _ _ _ (k .captures .result) (k .captures .ensures) (t .enum-told .given .1) _
-    (k .captures .result .listed .count) (c .stop-number .result) refl refl (c .stop-number .ensures)
+    let d = c .before .before .before .before .before .before .before in
+    let n = d .before .before in
+    let a = n .before .before .before .args in
+    said-in (a .mode) (n .mode-of .result) (n .mode-of .ensures) (λ mode. toldOf mode (a .order .now) (a .bitboards .now) (a .board .now) (stateTaken (a .state)) (a .from) (a .to)) (d .named2 .given .0 .0) (d .named2 .given .1)
+    _ _ _ _ _ (c .captures .result) _ _ _ _ _ (c .captures .ensures)
 
 pub chess-captures-spec : {M : Type 1} → statement M
-chess-captures-spec =
-    tie.close
-    (tie.spec
-    captures-requires
-    enum-known-checked
-    refused-requires
-    returns
-    enum-told
-    stop-number-requires
-    returns-2)
+chess-captures-spec = tie.close (tie.spec mode-of-requires enum-known-named refused-requires enum-known-named-2 captures-requires returns returns-2)

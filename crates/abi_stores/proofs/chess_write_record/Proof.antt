@@ -5,6 +5,9 @@ use Rattle.abi_stores.proofs.Passed.{record-written}
 use Rattle.abi_stores.proofs.chess_write_record.Statement.{statement}
 use Rattle.abi_stores.proofs.chess_write_record.Tie as tie
 
+taken-requires : tie.Need-taken-requires
+taken-requires c κs = search needs
+
 write-record-requires : tie.Need-write-record-requires
 write-record-requires c κs = search needs
 
@@ -21,14 +24,14 @@ same-length : tie.Need-same-length
 same-length c = search needs
 
 returns : tie.Need-returns
-returns c = record-written (c .before .before .before .before .write-record .ensures) (c .enum-told .given .1) refl
+returns c = record-written (c .before .before .before .before .before .before .taken .ensures) (c .before .before .before .before .write-record .ensures) (c .enum-told .given .1) refl
 
 same-length-2 : tie.Need-same-length-2
 same-length-2 c = search needs
 
 returns-2 : tie.Need-returns-2
-returns-2 c = record-written (c .before .before .before .before .before .before .write-record .ensures) (c .before .before .answer .given .1) (c .refused .ensures)
+returns-2 c = record-written (c .before .before .before .before .before .before .before .before .taken .ensures) (c .before .before .before .before .before .before .write-record .ensures) (c .before .before .answer .given .1) (c .refused .ensures)
 
 pub chess-write-record-spec : {M : Type 1} → statement M
 chess-write-record-spec =
-    tie.close (tie.spec write-record-requires enum-told enum-known-answer refused-requires same-length returns same-length-2 returns-2)
+    tie.close (tie.spec taken-requires write-record-requires enum-told enum-known-answer refused-requires same-length returns same-length-2 returns-2)

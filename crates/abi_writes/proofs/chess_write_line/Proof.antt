@@ -6,6 +6,9 @@ use borrow.Author.Needs.{needs}
 use Rattle.abi_writes.proofs.chess_write_line.Statement.{statement}
 use Rattle.abi_writes.proofs.chess_write_line.Tie as tie
 
+taken-requires : tie.Need-taken-requires
+taken-requires c κs = search needs
+
 wanted-requires : tie.Need-wanted-requires
 wanted-requires c κs = search needs
 
@@ -26,11 +29,12 @@ same-length c = search needs
 
 returns : tie.Need-returns
 returns c =
-    let a = c .before .before .before .before .before .before .before .before .before .before .before .before .args in
+    let a = c .before .before .before .before .before .before .before .before .before .before .before .before .before .args in
     let w = c .before .before .before .before .before .before .write-line in
     let k = c .before .before .before .before .before .before .before .before .wanted in
+    let t = c .before .before .before .before .before .before .before .before .before .taken in
     let q = c .before .before .refusal .given in
-    passed-refusal (now (a .bitboards)) (now (a .board)) (a .side) (a .request) (a .half) (now (a .out)) (now (a .length)) (w .last .1 .1 .1 .1 .0) (k .result) (k .ensures) (w .result) (w .ensures)
+    passed-refusal (now (a .bitboards)) (now (a .board)) (a .state) (t .result) (t .ensures) (a .request) (a .half) (now (a .out)) (now (a .length)) (w .last .1 .1 .1 .1 .0) (k .result) (k .ensures) (w .result) (w .ensures)
     (q .0 .0) (q .1) (c .refused .result) (c .refused .ensures)
 
 same-length-2 : tie.Need-same-length-2
@@ -38,17 +42,19 @@ same-length-2 c = search needs
 
 returns-2 : tie.Need-returns-2
 returns-2 c =
-    let a = c .before .before .before .before .before .before .before .before .before .before .before .args in
+    let a = c .before .before .before .before .before .before .before .before .before .before .before .before .args in
     let w = c .before .before .before .before .before .write-line in
     let k = c .before .before .before .before .before .before .before .wanted in
+    let t = c .before .before .before .before .before .before .before .before .taken in
     let n = c .before .n .given in
-    passed-bytes (now (a .bitboards)) (now (a .board)) (a .side) (a .request) (a .half) (now (a .out)) (now (a .length)) (w .last .1 .1 .1 .1 .0) (k .result) (k .ensures) (w .result) (w .ensures)
+    passed-bytes (now (a .bitboards)) (now (a .board)) (a .state) (t .result) (t .ensures) (a .request) (a .half) (now (a .out)) (now (a .length)) (w .last .1 .1 .1 .1 .0) (k .result) (k .ensures) (w .result) (w .ensures)
     (n .0 .0) (n .1) _ refl
 
 pub chess-write-line-spec : {M : Type 1} → statement M
 chess-write-line-spec =
     tie.close
     (tie.spec
+    taken-requires
     wanted-requires
     write-line-requires
     enum-known-refusal

@@ -9,11 +9,11 @@ use Rattle.captures.proofs.read_to_end.Statement.{statement}
 use Rattle.captures.proofs.read_to_end.Tie as tie
 
 abbrev Inv-loop : tie.InvT-loop
-Inv-loop line₀ chunk₀ out₀ state₀ turns₀ t10 line chunk out state turns =
+Inv-loop mode line₀ chunk₀ out₀ state₀ turns₀ t10 line chunk out state turns =
     (turns ≤ 2 ^ 62) × (length chunk ≡ length chunk₀) × (length out ≡ length out₀) × (length line ≡ length line₀)
 
 abbrev μ-loop : tie.MeasureT-loop
-μ-loop line₀ chunk₀ out₀ state₀ turns₀ t10 line chunk out state turns = 2 ^ 62 - turns
+μ-loop mode line₀ chunk₀ out₀ state₀ turns₀ t10 line chunk out state turns = 2 ^ 62 - turns
 
 start-requires : tie.Need-start-requires Inv-loop μ-loop
 start-requires c κs = search needs

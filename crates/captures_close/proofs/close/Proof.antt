@@ -24,7 +24,7 @@ slice-aggregate-read c =
     let a = c .before .before .before .before .before .before .before .before .before .args in
     let r = c .before .before .before .before .before .before .read in
     let g = c .before .before .before .before .answer2 .given in
-    sym (length-take-le (a .size) (now (a .line)) (line-held (now (a .line)) (a .size) (r .result) (r .ensures) (g .0 .0) (g .0 .1 .0) (g .1)))
+    sym (length-take-le (a .size) (now (a .line)) (line-held (a .mode) (now (a .line)) (a .size) (r .result) (r .ensures) (g .0 .0) (g .0 .1 .0) (g .1)))
 
 read-requires-2 : tie.Need-read-requires-2
 read-requires-2 c κs = search needs
@@ -40,11 +40,12 @@ captures-requires c κs = search needs
 
 put-told-requires : tie.Need-put-told-requires
 put-told-requires c κs =
+    let a = c .before .before .before .before .before .before .before .before .before .before .before .before .before .before .before .before .args in
     let r = c .before .before .before .before .before .before .before .before .before .before .before .before .before .read .result in
     let q = c .before .before .before .before .before .before .read2 .result in
     let g = c .before .before .before .before .before .before .before .before .before .before .before .answer2 .given in
     let t = c .before .captures in
-    filled (q .order) (r .bitboards) (r .board) (g .0 .0) (q .from) (q .to) (t .result) (t .ensures)
+    filled (a .mode) (q .order) (r .bitboards) (r .board) (g .0 .0) (q .from) (q .to) (t .result) (t .ensures)
 
 same-length : tie.Need-same-length
 same-length c = search needs
@@ -55,7 +56,7 @@ returns c =
     let r = c .before .before .before .before .before .before .before .read in
     let g = c .before .before .before .before .before .answer .given in
     let p = c .before .before .refused in
-    line-refused (now (a .line)) (a .size) (r .result) (r .ensures) (g .0 .0) (g .1) (now (a .out)) (p .last .1 .1 .0) (a .at) (a .number) (p .result) (p .ensures)
+    line-refused (a .mode) (now (a .line)) (a .size) (r .result) (r .ensures) (g .0 .0) (g .1) (now (a .out)) (p .last .1 .1 .0) (a .at) (a .number) (p .result) (p .ensures)
 
 same-length-2 : tie.Need-same-length-2
 same-length-2 c = search needs
@@ -68,7 +69,7 @@ returns-2 c =
     let q = c .before .before .before .before .before .before .before .before .before .read2 in
     let t = c .before .before .before .before .captures in
     let p = c .before .before .put-told in
-    line-told (now (a .line)) (a .size) (r .result) (r .ensures) (g .0 .0) (g .0 .1 .0) (g .1) (q .result) (q .ensures) (t .result) (t .ensures) (now (a .out)) (p .last .1 .1 .0) (a .at) (a .number) (p .result) (p .ensures)
+    line-told (a .mode) (now (a .line)) (a .size) (r .result) (r .ensures) (g .0 .0) (g .0 .1 .0) (g .1) (q .result) (q .ensures) (t .result) (t .ensures) (now (a .out)) (p .last .1 .1 .0) (a .at) (a .number) (p .result) (p .ensures)
 
 pub close-spec : {M : Type 1} → statement M
 close-spec =

@@ -16,7 +16,7 @@ use Rattle.captures_feed.proofs.finish.Statement.{statement}
 use Rattle.captures_feed.proofs.finish.Tie as tie
 
 returns : tie.Need-returns
-returns c = let a = c .before .before .before .args in finish-shape (a .state) (now (a .line)) (now (a .out)) (c .if1 .taken)
+returns c = let a = c .before .before .before .args in finish-shape (a .mode) (a .state) (now (a .line)) (now (a .out)) (c .if1 .taken)
 
 more-requires : tie.Need-more-requires
 more-requires c κs = search needs
@@ -27,7 +27,7 @@ countable-requires c κs = search needs
 returns-2 : tie.Need-returns-2
 returns-2 c =
     let a = c .before .before .before .before .before .before .args in
-    finish-many (a .state) (now (a .line)) (now (a .out)) (c .before .before .before .if1 .left)
+    finish-many (a .mode) (a .state) (now (a .line)) (now (a .out)) (c .before .before .before .if1 .left)
     (ap (λ (k : ℕ). ltb (a .state .loaded + a .state .refused + k) (2 ^ 64)) (sym (c .before .before .more .ensures)) ∙ sym (c .before .countable .ensures) ∙ not-true _ (c .if2 .taken))
 
 slice-aggregate-last-rows : tie.Need-slice-aggregate-last-rows
@@ -42,15 +42,15 @@ array-share-prefix-rows : tie.Need-array-share-prefix-rows
 array-share-prefix-rows c =
     let a = c .before .before .before .before .before .before .before .before .before .before .args in
     let w = c .before .before .last-rows in
-    let h = finished-2132 (a .state) (now (a .line)) in
+    let h = finished-2132 (a .mode) (a .state) (now (a .line)) in
     omega (arith, adds-to (w .ensures) h, adds-length (w .ensures) h)
 
 slice-aggregate-put : tie.Need-slice-aggregate-put
 slice-aggregate-put c =
     let a = c .before .before .before .before .before .before .before .before .before .before .before .args in
     let w = c .before .before .before .last-rows in
-    let h = finished-2132 (a .state) (now (a .line)) in
-    sym (length-take-le (w .result) (w .last .1 .1 .0) (omega (arith, adds-to (w .ensures) h, adds-length (w .ensures) h)))
+    let h = finished-2132 (a .mode) (a .state) (now (a .line)) in
+    sym (length-take-le (w .result) (w .last .1 .1 .1 .0) (omega (arith, adds-to (w .ensures) h, adds-length (w .ensures) h)))
 
 put-requires : tie.Need-put-requires
 put-requires c κs = search needs
@@ -69,9 +69,9 @@ returns-3 c =
     let a = c .before .before .before .before .before .before .before .before .before .before .before .before .before .before .before .before .before .args in
     let w = c .before .before .before .before .before .before .before .before .before .last-rows in
     let p = c .before .before .before .before .before .put in
-    finish-rows (a .state) (now (a .line)) (now (a .out)) (c .before .before .before .before .before .before .before .before .before .before .before .before .before .before .if1 .left)
+    finish-rows (a .mode) (a .state) (now (a .line)) (now (a .out)) (c .before .before .before .before .before .before .before .before .before .before .before .before .before .before .if1 .left)
     (ap (λ (k : ℕ). ltb (a .state .loaded + a .state .refused + k) (2 ^ 64)) (sym (c .before .before .before .before .before .before .before .before .before .before .before .before .before .more .ensures)) ∙ sym (c .before .before .before .before .before .before .before .before .before .before .before .before .countable .ensures) ∙ not-false _ (c .before .before .before .before .before .before .before .before .before .before .before .if2 .left))
-    (take (w .result) (w .last .1 .1 .0)) (adds-front (w .ensures) (finished-2132 (a .state) (now (a .line)))) (p .last .0) (p .result) (p .ensures)
+    (take (w .result) (w .last .1 .1 .1 .0)) (adds-front (w .ensures) (finished-2132 (a .mode) (a .state) (now (a .line)))) (p .last .0) (p .result) (p .ensures)
     (c .before .placed .given .0 .0) (c .before .placed .given .1)
 
 same-length-2 : tie.Need-same-length-2
@@ -82,9 +82,9 @@ returns-4 c =
     let a = c .before .before .before .before .before .before .before .before .before .before .before .before .before .before .before .before .args in
     let w = c .before .before .before .before .before .before .before .before .last-rows in
     let p = c .before .before .before .before .put in
-    finish-full (a .state) (now (a .line)) (now (a .out)) (c .before .before .before .before .before .before .before .before .before .before .before .before .before .if1 .left)
+    finish-full (a .mode) (a .state) (now (a .line)) (now (a .out)) (c .before .before .before .before .before .before .before .before .before .before .before .before .before .if1 .left)
     (ap (λ (k : ℕ). ltb (a .state .loaded + a .state .refused + k) (2 ^ 64)) (sym (c .before .before .before .before .before .before .before .before .before .before .before .before .more .ensures)) ∙ sym (c .before .before .before .before .before .before .before .before .before .before .before .countable .ensures) ∙ not-false _ (c .before .before .before .before .before .before .before .before .before .before .if2 .left))
-    (take (w .result) (w .last .1 .1 .0)) (adds-front (w .ensures) (finished-2132 (a .state) (now (a .line)))) (p .last .0) (p .result) (p .ensures)
+    (take (w .result) (w .last .1 .1 .1 .0)) (adds-front (w .ensures) (finished-2132 (a .mode) (a .state) (now (a .line)))) (p .last .0) (p .result) (p .ensures)
     (c .enum-told .given .1)
 
 pub finish-spec : {M : Type 1} → statement M

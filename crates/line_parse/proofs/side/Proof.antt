@@ -6,7 +6,7 @@ use lib.ListN.{take}
 use lib.Seq.{length-take-le}
 use Rattle.text_in.specs.Text.{space}
 use Rattle.text_in.proofs.Parts.{before-found}
-use Rattle.line_parse.specs.Line.{wordOf}
+use Rattle.line_tail.specs.Words.{wordOf}
 use Rattle.line_parse.proofs.Words.{word-is, is-white, is-black, no-side}
 use Rattle.line_parse.proofs.side.Statement.{statement}
 use Rattle.line_parse.proofs.side.Tie as tie

@@ -30,6 +30,9 @@ enum-told c = search needs
 enum-known-state-read : tie.Need-enum-known-state-read
 enum-known-state-read c = search needs
 
+same-requires : tie.Need-same-requires
+same-requires c κs = search needs
+
 returns-2 : tie.Need-returns-2
 returns-2 c = search needs
 
@@ -59,6 +62,7 @@ reads-as-spec =
     read-line-requires
     enum-told
     enum-known-state-read
+    same-requires
     returns-2
     returns-3
     slice-aggregate-is

@@ -4,6 +4,7 @@ use mathlib.Core.List.{List}
 use Prim.Native.Nat.{ℕ}
 use denote.Ref.{now}
 use Rattle.text_out.specs.Text.{Puts}
+use Rattle.store_record.specs.Record.{recordOf}
 use Rattle.sift_form.specs.Promises.{MakesForm}
 use Rattle.sift_form.specs.declared.Form.{Form}
 use borrow.Author.Needs.{needs}
@@ -55,7 +56,9 @@ returns-2 c =
 same-length-3 : tie.Need-same-length-3
 same-length-3 c = search needs
 
+-- a record holds the side alone of the state
 returns-3 : tie.Need-returns-3
+unfolding recordOf
 returns-3 c =
     let k = c .before .before .before .before .before in
     let a = k .before .before .before .before .before .before .args in

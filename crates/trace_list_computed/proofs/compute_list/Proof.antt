@@ -2,7 +2,7 @@
 use native.Mathlib.Omega.{arith}
 use borrow.Author.Needs.{needs}
 use Rattle.refusal.specs.Answer.{given}
-use Rattle.position.proofs.Doors.{pass-on, fit-rest, fit-consistent}
+use Rattle.position.proofs.Doors.{pass-on, fit-rest, fit-all}
 use Rattle.trace.specs.Trace.{traceOf}
 use Rattle.trace_list_computed.proofs.Sums.{are-few, used-few}
 use Rattle.trace_list_computed.proofs.Doors.{refuses, computed}
@@ -44,14 +44,14 @@ listed-requires c κs =
     let e = c .before .before .before .before .before in
     let k = e .before .before in
     let a = k .before .before .before .args in
-    (are-few (a .bitboards .now) (a .board .now) (fit-consistent (a .bitboards .now) (a .board .now) (a .state) (k .check .result) (k .check .ensures) (e .enum-told .given .1)), c .before .clear .ensures)
+    (are-few (a .bitboards .now) (a .board .now) (fit-all (a .bitboards .now) (a .board .now) (a .state) (k .check .result) (k .check .ensures) (e .enum-told .given .1) .pieces), c .before .clear .ensures)
 
 cast-used : tie.Need-cast-used
 cast-used c =
     let e = c .before .before .before .before .before .before in
     let k = e .before .before in
     let a = k .before .before .before .args in
-    let h = used-few (a .bitboards .now) (a .board .now) (c .listed .result) (fit-consistent (a .bitboards .now) (a .board .now) (a .state) (k .check .result) (k .check .ensures) (e .enum-told .given .1)) (c .listed .ensures .0) in
+    let h = used-few (a .bitboards .now) (a .board .now) (c .listed .result) (fit-all (a .bitboards .now) (a .board .now) (a .state) (k .check .result) (k .check .ensures) (e .enum-told .given .1) .pieces) (c .listed .ensures .0) in
     omega (arith, h)
 
 returns-2 : tie.Need-returns-2
@@ -62,7 +62,7 @@ returns-2 c =
     let k = e .before .before in
     let a = k .before .before .before .args in
     computed (a .bitboards .now) (a .board .now) (a .state) (a .bytes .now) (g .gathered .result) (m .mobility .result) (c .listed .result) _
-    (fit-consistent (a .bitboards .now) (a .board .now) (a .state) (k .check .result) (k .check .ensures) (e .enum-told .given .1))
+    (fit-all (a .bitboards .now) (a .board .now) (a .state) (k .check .result) (k .check .ensures) (e .enum-told .given .1) .pieces)
     (fit-rest (a .bitboards .now) (a .board .now) (a .state) (k .check .result) (k .check .ensures) (given (traceOf (a .bitboards .now) (a .state .side))) (e .enum-told .given .1))
     (m .mobility .ensures) (g .gathered .ensures) (c .listed .ensures .0) (c .listed .ensures .1)
 

@@ -6,6 +6,9 @@ use borrow.Author.Needs.{needs}
 use Rattle.abi.proofs.attacks.chess_is_attacked.Statement.{statement}
 use Rattle.abi.proofs.attacks.chess_is_attacked.Tie as tie
 
+taken-requires : tie.Need-taken-requires
+taken-requires c κs = search needs
+
 is-attacked-requires : tie.Need-is-attacked-requires
 is-attacked-requires c κs = search needs
 
@@ -21,17 +24,18 @@ enum-known-answer-2 c = search needs
 returns : tie.Need-returns
 returns c =
     let k = c .before .before .before .before in
-    door-passed (met told (k .is-attacked .ensures) (c .before .before .answer .given .1)) (c .refused .ensures) refl
+    rw (← (k .before .taken .ensures)) (door-passed (met told (k .is-attacked .ensures) (c .before .before .answer .given .1)) (c .refused .ensures) refl)
 
 returns-2 : tie.Need-returns-2
 returns-2 c =
     let k = c .before .before .before in
-    door-passed (met told (k .is-attacked .ensures) (c .before .answer2 .given .1)) refl refl
+    rw (← (k .before .taken .ensures)) (door-passed (met told (k .is-attacked .ensures) (c .before .answer2 .given .1)) refl refl)
 
 pub chess-is-attacked-spec : {M : Type 1} → statement M
 chess-is-attacked-spec =
     tie.close
     (tie.spec
+    taken-requires
     is-attacked-requires
     enum-known-answer
     refused-requires

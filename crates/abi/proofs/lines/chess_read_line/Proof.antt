@@ -1,21 +1,14 @@
 -- `abi::lines::chess_read_line` meets its contract. Assumes nothing.
-use mathlib.Core.Path.{refl}
-use Rattle.abi.proofs.LineRead.{line-read}
 use borrow.Author.Needs.{needs}
+use Rattle.abi.proofs.LineRead.{line-read}
 use Rattle.abi.proofs.lines.chess_read_line.Statement.{statement}
 use Rattle.abi.proofs.lines.chess_read_line.Tie as tie
 
 read-line-requires : tie.Need-read-line-requires
 read-line-requires c κs = search needs
 
-enum-known-answer : tie.Need-enum-known-answer
-enum-known-answer c = search needs
-
-refused-requires : tie.Need-refused-requires
-refused-requires c κs = search needs
-
-enum-known-answer-2 : tie.Need-enum-known-answer-2
-enum-known-answer-2 c = search needs
+line-of-requires : tie.Need-line-of-requires
+line-of-requires c κs = search needs
 
 same-length : tie.Need-same-length
 same-length c = search needs
@@ -24,32 +17,7 @@ same-length-2 : tie.Need-same-length-2
 same-length-2 c = search needs
 
 returns : tie.Need-returns
-returns c =
-    let k = c .before .before .before .before .before .before .before .before in
-    line-read (k .read-line .ensures) (c .before .before .answer .given .1) (c .refused .ensures) refl refl
-
-same-length-3 : tie.Need-same-length-3
-same-length-3 c = search needs
-
-same-length-4 : tie.Need-same-length-4
-same-length-4 c = search needs
-
-returns-2 : tie.Need-returns-2
-returns-2 c =
-    let k = c .before .before .before .before .before .before .before in
-    line-read (k .read-line .ensures) (c .before .answer2 .given .1) refl refl refl
+returns c = line-read (c .before .before .before .before .before .read-line .ensures) (c .line-of .ensures)
 
 pub chess-read-line-spec : {M : Type 1} → statement M
-chess-read-line-spec =
-    tie.close
-    (tie.spec
-    read-line-requires
-    enum-known-answer
-    refused-requires
-    enum-known-answer-2
-    same-length
-    same-length-2
-    returns
-    same-length-3
-    same-length-4
-    returns-2)
+chess-read-line-spec = tie.close (tie.spec read-line-requires line-of-requires same-length same-length-2 returns)

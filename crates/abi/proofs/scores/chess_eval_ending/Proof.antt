@@ -7,6 +7,9 @@ use borrow.Author.Needs.{needs}
 use Rattle.abi.proofs.scores.chess_eval_ending.Statement.{statement}
 use Rattle.abi.proofs.scores.chess_eval_ending.Tie as tie
 
+taken-requires : tie.Need-taken-requires
+taken-requires c κs = search needs
+
 eval-ending-requires : tie.Need-eval-ending-requires
 eval-ending-requires c κs = search needs
 
@@ -34,32 +37,33 @@ enum-told-4 c = search needs
 returns : tie.Need-returns
 returns c =
     let k = c .before .before .before .before in
-    door-passed (met ending (k .eval-ending .ensures) (c .before .before .answer .given .1)) (c .refused .ensures) refl
+    rw (← (k .before .taken .ensures)) (door-passed (met ending (k .eval-ending .ensures) (c .before .before .answer .given .1)) (c .refused .ensures) refl)
 
 returns-2 : tie.Need-returns-2
 returns-2 c =
     let a = c .before .before .before in
-    door-passed (met ending (a .before .before .eval-ending .ensures) (a .answer2 .given .1 ∙ ap E.Is (c .enum-told .given .1))) refl refl
+    rw (← (a .before .before .before .taken .ensures)) (door-passed (met ending (a .before .before .eval-ending .ensures) (a .answer2 .given .1 ∙ ap E.Is (c .enum-told .given .1))) refl refl)
 
 returns-3 : tie.Need-returns-3
 returns-3 c =
     let a = c .before .before .before in
-    door-passed (met ending (a .before .before .eval-ending .ensures) (a .answer2 .given .1 ∙ ap E.Is (c .enum-told2 .given .1))) refl refl
+    rw (← (a .before .before .before .taken .ensures)) (door-passed (met ending (a .before .before .eval-ending .ensures) (a .answer2 .given .1 ∙ ap E.Is (c .enum-told2 .given .1))) refl refl)
 
 returns-4 : tie.Need-returns-4
 returns-4 c =
     let a = c .before .before .before in
-    door-passed (met ending (a .before .before .eval-ending .ensures) (a .answer2 .given .1 ∙ ap E.Is (c .enum-told3 .given .1))) refl refl
+    rw (← (a .before .before .before .taken .ensures)) (door-passed (met ending (a .before .before .eval-ending .ensures) (a .answer2 .given .1 ∙ ap E.Is (c .enum-told3 .given .1))) refl refl)
 
 returns-5 : tie.Need-returns-5
 returns-5 c =
     let a = c .before .before .before in
-    door-passed (met ending (a .before .before .eval-ending .ensures) (a .answer2 .given .1 ∙ ap E.Is (c .enum-told4 .given .1))) refl refl
+    rw (← (a .before .before .before .taken .ensures)) (door-passed (met ending (a .before .before .eval-ending .ensures) (a .answer2 .given .1 ∙ ap E.Is (c .enum-told4 .given .1))) refl refl)
 
 pub chess-eval-ending-spec : {M : Type 1} → statement M
 chess-eval-ending-spec =
     tie.close
     (tie.spec
+    taken-requires
     eval-ending-requires
     enum-known-answer
     refused-requires

@@ -9,6 +9,9 @@ use borrow.Author.Needs.{needs}
 use Rattle.abi_fits.proofs.traces.chess_compute_trace.Statement.{statement}
 use Rattle.abi_fits.proofs.traces.chess_compute_trace.Tie as tie
 
+taken-requires : tie.Need-taken-requires
+taken-requires c κs = search needs
+
 compute-trace-requires : tie.Need-compute-trace-requires
 compute-trace-requires c κs = search needs
 
@@ -25,8 +28,8 @@ returns : tie.Need-returns
 returns c =
     let k = c .before .before .before .before .before in
     let r = k .compute-trace .result in
-    let s = k .before .before .before .before in
-    traced (now (s .args .bitboards)) (now (s .args .board)) (s .args .side)
+    let s = k .before .before .before .before .before in
+    traced (now (s .args .bitboards)) (now (s .args .board)) (s .args .state) (k .before .before .taken .ensures)
     (sym (ap (λ (x : Checked). paperOf x (r .trace)) (c .before .before .checked .given .1)) ∙ k .compute-trace .ensures .0) (c .refused .ensures) refl refl refl refl
     (k .compute-trace .ensures .2)
 
@@ -45,8 +48,8 @@ returns-2 c =
     let t = n .before .before in
     let k = t .before .before .before in
     let r = k .compute-trace .result in
-    let s = k .before .before .before .before in
-    traced (now (s .args .bitboards)) (now (s .args .board)) (s .args .side)
+    let s = k .before .before .before .before .before in
+    traced (now (s .args .bitboards)) (now (s .args .board)) (s .args .state) (k .before .before .taken .ensures)
     (sym (ap (λ (x : Checked). paperOf x (r .trace)) (t .enum-told .given .1)) ∙ k .compute-trace .ensures .0) refl (n .counts-of .ensures) refl
     (read _ (c .before .struct-told .given .1 .1 .1 .1 .1 .1 .1 .0 .1)) (read _ (c .struct-told2 .given .1 .1 .1 .1 .1 .1 .1 .1 .0 .1))
     (k .compute-trace .ensures .2)
@@ -55,6 +58,7 @@ pub chess-compute-trace-spec : {M : Type 1} → statement M
 chess-compute-trace-spec =
     tie.close
     (tie.spec
+    taken-requires
     compute-trace-requires
     enum-known-checked
     refused-requires

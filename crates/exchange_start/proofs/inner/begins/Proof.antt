@@ -19,7 +19,7 @@ returns c =
     let k = c .before .before .before in
     let a = k .before .before .before .args in
     pass-on (a .bitboards .now) (a .board .now) (a .state) (k .check .result) (k .check .ensures)
-    (begun-or (a .order .now) (a .bitboards .now) (a .board .now) (a .state .side) (a .from) (a .to)) (c .before .refusal .given .0 .0) (c .before .refusal .given .1)
+    (begun-or (a .mode) (a .order .now) (a .bitboards .now) (a .board .now) (a .state) (a .from) (a .to)) (c .before .refusal .given .0 .0) (c .before .refusal .given .1)
 
 enum-told : tie.Need-enum-told
 enum-told c = search needs
@@ -29,18 +29,18 @@ returns-2 c =
     let e = c .before in
     let k = e .before .before in
     let a = k .before .before .before .args in
-    from-off (a .order .now) (a .bitboards .now) (a .board .now) (a .state .side) (a .from) (a .to) (omega arith)
+    from-off (a .mode) (a .order .now) (a .bitboards .now) (a .board .now) (a .state) (a .from) (a .to) (omega arith)
     ∙ fit-rest (a .bitboards .now) (a .board .now) (a .state) (k .check .result) (k .check .ensures)
-    (begun-or (a .order .now) (a .bitboards .now) (a .board .now) (a .state .side) (a .from) (a .to)) (e .enum-told .given .1)
+    (begun-or (a .mode) (a .order .now) (a .bitboards .now) (a .board .now) (a .state) (a .from) (a .to)) (e .enum-told .given .1)
 
 returns-3 : tie.Need-returns-3
 returns-3 c =
     let e = c .before .before in
     let k = e .before .before in
     let a = k .before .before .before .args in
-    to-off (a .order .now) (a .bitboards .now) (a .board .now) (a .state .side) (a .from) (a .to) (omega arith)
+    to-off (a .mode) (a .order .now) (a .bitboards .now) (a .board .now) (a .state) (a .from) (a .to) (omega arith)
     ∙ fit-rest (a .bitboards .now) (a .board .now) (a .state) (k .check .result) (k .check .ensures)
-    (begun-or (a .order .now) (a .bitboards .now) (a .board .now) (a .state .side) (a .from) (a .to)) (e .enum-told .given .1)
+    (begun-or (a .mode) (a .order .now) (a .bitboards .now) (a .board .now) (a .state) (a .from) (a .to)) (e .enum-told .given .1)
 
 each-once-requires : tie.Need-each-once-requires
 each-once-requires c κs = search needs
@@ -51,10 +51,10 @@ returns-4 c =
     let e = o .before .before .before in
     let k = e .before .before in
     let a = k .before .before .before .args in
-    no-order (a .order .now) (a .bitboards .now) (a .board .now) (a .state .side) (a .from) (a .to) (omega arith) (omega arith)
+    no-order (a .mode) (a .order .now) (a .bitboards .now) (a .board .now) (a .state) (a .from) (a .to) (omega arith) (omega arith)
     (sym (o .each-once .ensures) ∙ not-true (o .each-once .result) (c .if3 .taken))
     ∙ fit-rest (a .bitboards .now) (a .board .now) (a .state) (k .check .result) (k .check .ensures)
-    (begun-or (a .order .now) (a .bitboards .now) (a .board .now) (a .state .side) (a .from) (a .to)) (e .enum-told .given .1)
+    (begun-or (a .mode) (a .order .now) (a .bitboards .now) (a .board .now) (a .state) (a .from) (a .to)) (e .enum-told .given .1)
 
 may-capture-requires : tie.Need-may-capture-requires
 may-capture-requires c κs = search needs
@@ -66,11 +66,11 @@ returns-5 c =
     let e = o .before .before .before in
     let k = e .before .before in
     let a = k .before .before .before .args in
-    no-move (a .order .now) (a .bitboards .now) (a .board .now) (a .state .side) (a .from) (a .to) (omega arith) (omega arith)
+    no-move (a .mode) (a .order .now) (a .bitboards .now) (a .board .now) (a .state) (a .from) (a .to) (omega arith) (omega arith)
     (sym (o .each-once .ensures) ∙ not-false (o .each-once .result) (m .before .if3 .left))
     (sym (m .may-capture .ensures) ∙ not-true (m .may-capture .result) (c .if4 .taken))
     ∙ fit-rest (a .bitboards .now) (a .board .now) (a .state) (k .check .result) (k .check .ensures)
-    (begun-or (a .order .now) (a .bitboards .now) (a .board .now) (a .state .side) (a .from) (a .to)) (e .enum-told .given .1)
+    (begun-or (a .mode) (a .order .now) (a .bitboards .now) (a .board .now) (a .state) (a .from) (a .to)) (e .enum-told .given .1)
 
 uncrowded-requires : tie.Need-uncrowded-requires
 uncrowded-requires c κs = search needs
@@ -83,12 +83,12 @@ returns-6 c =
     let e = o .before .before .before in
     let k = e .before .before in
     let a = k .before .before .before .args in
-    crowd (a .order .now) (a .bitboards .now) (a .board .now) (a .state .side) (a .from) (a .to) (omega arith) (omega arith)
+    crowd (a .mode) (a .order .now) (a .bitboards .now) (a .board .now) (a .state) (a .from) (a .to) (omega arith) (omega arith)
     (sym (o .each-once .ensures) ∙ not-false (o .each-once .result) (m .before .if3 .left))
     (sym (m .may-capture .ensures) ∙ not-false (m .may-capture .result) (u .before .if4 .left))
     (sym (u .uncrowded .ensures) ∙ not-true (u .uncrowded .result) (c .if5 .taken))
     ∙ fit-rest (a .bitboards .now) (a .board .now) (a .state) (k .check .result) (k .check .ensures)
-    (begun-or (a .order .now) (a .bitboards .now) (a .board .now) (a .state .side) (a .from) (a .to)) (e .enum-told .given .1)
+    (begun-or (a .mode) (a .order .now) (a .bitboards .now) (a .board .now) (a .state) (a .from) (a .to)) (e .enum-told .given .1)
 
 returns-7 : tie.Need-returns-7
 returns-7 c =
@@ -98,12 +98,12 @@ returns-7 c =
     let e = o .before .before .before in
     let k = e .before .before in
     let a = k .before .before .before .args in
-    begun (a .order .now) (a .bitboards .now) (a .board .now) (a .state .side) (a .from) (a .to) (omega arith) (omega arith)
+    begun (a .mode) (a .order .now) (a .bitboards .now) (a .board .now) (a .state) (a .from) (a .to) (omega arith) (omega arith)
     (sym (o .each-once .ensures) ∙ not-false (o .each-once .result) (m .before .if3 .left))
     (sym (m .may-capture .ensures) ∙ not-false (m .may-capture .result) (u .before .if4 .left))
     (sym (u .uncrowded .ensures) ∙ not-false (u .uncrowded .result) (c .if5 .left))
     ∙ fit-rest (a .bitboards .now) (a .board .now) (a .state) (k .check .result) (k .check .ensures)
-    (begun-or (a .order .now) (a .bitboards .now) (a .board .now) (a .state .side) (a .from) (a .to)) (e .enum-told .given .1)
+    (begun-or (a .mode) (a .order .now) (a .bitboards .now) (a .board .now) (a .state) (a .from) (a .to)) (e .enum-told .given .1)
 
 pub begins-spec : {M : Type 1} → statement M
 begins-spec =

@@ -64,16 +64,19 @@ returns-4 c =
     bad-result (now (e .before .before .args .piece)) (e .if1 .left) (u .unpack .result) (u .unpack .ensures) (m .bitboards-of .result) (m .bitboards-of .ensures) (not-false _ (t .if2 .left))
     (s .if3 .left) (c .refused4 .result) (c .refused4 .ensures) (c .before .if4 .taken)
 
+of-side-requires : tie.Need-of-side-requires
+of-side-requires c κs = search needs
+
 returns-5 : tie.Need-returns-5
 returns-5 c =
-    let h = c .before in
+    let h = c .before .before in
     let s = h .before .before in
     let t = s .before .before in
     let m = t .before .before in
     let u = m .before .before in
     let e = u .before in
     good (now (e .before .before .args .piece)) (e .if1 .left) (u .unpack .result) (u .unpack .ensures) (m .bitboards-of .result) (m .bitboards-of .ensures) (not-false _ (t .if2 .left))
-    (s .if3 .left) (h .if4 .left)
+    (s .if3 .left) (h .if4 .left) (c .of-side .result) (c .of-side .ensures)
 
 pub read-spec : {M : Type 1} → statement M
 read-spec =
@@ -92,4 +95,5 @@ read-spec =
     shared-slice-read-half
     refused-requires-4
     returns-4
+    of-side-requires
     returns-5)

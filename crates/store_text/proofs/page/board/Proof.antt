@@ -5,7 +5,7 @@ use native.Mathlib.Omega.{arith}
 use denote.Ref.{now}
 use Rattle.ledger_totals.proofs.Point.{after-room}
 use Rattle.store_text.specs.Board.{totalOf, mostOf, laid}
-use Rattle.store_text.specs.Page.{boardHead, squaresText, boardEnd, boardText}
+use Rattle.store_text.specs.Page.{boardHead, squaresShown, boardEnd, boardText}
 use Rattle.store_text.specs.declared.page.Sums.{Sums}
 use Rattle.store_text.proofs.Laid.{adds-3, by-text, length-laid}
 use Rattle.store_text.proofs.Fits.{length-head, length-squares, length-board-end}
@@ -31,7 +31,7 @@ board-end-requires : tie.Need-board-end-requires
 board-end-requires c κs =
     let a = (c .before .before .before .before .before .before .before .before .before .before .before .before .args) in
     let p = after-room 134 16940 ((c .before .before .before .before .before .before .before .board-head) .ensures) (length-head (a .form) (a .piece) ((c .before .before .before .before .before .before .before .before .before .add-up) .result .total)) ((c .before .before .before .before .before .before .before .before .before .before .before .before .pre) .room) in
-    let f = squaresText (a .form) (now (a .summary)) (a .piece) ((c .before .before .before .before .before .before .before .before .before .add-up) .result .most) in
+    let f = squaresShown (a .form) (now (a .summary)) (a .piece) ((c .before .before .before .before .before .before .before .before .before .add-up) .result .most) in
     after-room 16640 300 ((c .before .before .before .squares) .ensures) (length-laid 64 260 f (length-squares (a .form) (now (a .summary)) (a .piece) ((c .before .before .before .before .before .before .before .before .before .add-up) .result .most))) p
 
 same-length : tie.Need-same-length
@@ -45,8 +45,8 @@ returns c =
     let e = (c .before .before .before .before .before .before .before .before .before .before .before .before .add-up) .ensures in
     let t = ap (λ (x : Sums). x .total) e in
     let m = ap (λ (x : Sums). x .most) e in
-    let f = squaresText (a .form) s (a .piece) (mostOf s (a .piece)) in
-    adds-3 (by-text (ap (boardHead (a .form) (a .piece)) t) ((c .before .before .before .before .before .before .before .before .before .before .board-head) .ensures)) (by-text (ap (λ (k : ℕ). laid 64 (squaresText (a .form) s (a .piece) k)) m) ((c .before .before .before .before .before .before .squares) .ensures)) (by-text (ap (boardEnd (a .form)) m) ((c .before .before .board-end) .ensures))
+    let f = squaresShown (a .form) s (a .piece) (mostOf s (a .piece)) in
+    adds-3 (by-text (ap (boardHead (a .form) (a .piece)) t) ((c .before .before .before .before .before .before .before .before .before .before .board-head) .ensures)) (by-text (ap (λ (k : ℕ). laid 64 (squaresShown (a .form) s (a .piece) k)) m) ((c .before .before .before .before .before .before .squares) .ensures)) (by-text (ap (boardEnd (a .form)) m) ((c .before .before .board-end) .ensures))
     (omega (arith, length-head (a .form) (a .piece) (totalOf s (a .piece)), length-laid 64 260 f (length-squares (a .form) s (a .piece) (mostOf s (a .piece))), length-board-end (a .form) (mostOf s (a .piece)), (c .before .before .before .before .before .before .before .before .before .before .before .before .before .before .before .pre) .room))
 
 pub board-spec : {M : Type 1} → statement M

@@ -1,7 +1,7 @@
 -- `store_text::page::square` meets its contract. Assumes nothing.
 use native.Mathlib.Omega.{arith}
 use Rattle.ledger_totals.proofs.Point.{after-room}
-use Rattle.store_text.specs.Page.{squareText}
+use Rattle.store_text.specs.Page.{squareShown}
 use Rattle.store_text.proofs.Laid.{adds-3}
 use Rattle.store_text.proofs.Fits.{length-before, length-square-word, length-row-end}
 use borrow.Author.Needs.{needs}
@@ -22,7 +22,7 @@ same-length : tie.Need-same-length
 same-length c = search needs
 
 returns : tie.Need-returns
-unfolding squareText
+unfolding squareShown
 returns c =
     let a = (c .before .before .before .before .before .before .before .before .before .before .before .before .before .args) in
     adds-3 ((c .before .before .before .before .before .before .before .before .before .before .rank-before) .ensures) ((c .before .before .before .before .before .before .square-word) .ensures) ((c .before .before .row-end) .ensures)

@@ -5,7 +5,7 @@ use native.Mathlib.Omega.{arith}
 use lib.ListN.{length}
 use denote.Ref.{now}
 use Rattle.store_text.specs.Board.{countOn}
-use Rattle.store_text.specs.Page.{squareText, squaresText}
+use Rattle.store_text.specs.Page.{squareShown, squaresShown}
 use Rattle.store_text.proofs.Laid.{by-text, Laying, laying-none, laying-room, laying-more, laying-all}
 use Rattle.store_text.proofs.Fits.{length-squares}
 use borrow.Author.Needs.{needs}
@@ -13,14 +13,14 @@ use Rattle.store_text.proofs.page.squares.Statement.{statement}
 use Rattle.store_text.proofs.page.squares.Tie as tie
 
 abbrev Inv-loop : tie.InvT-loop
-Inv-loop form summary piece most out₀ at end₀ i₀ out end i = Laying 64 (squaresText form summary piece most) out₀ at out end i × (length out ≡ length out₀)
+Inv-loop form summary piece most out₀ at end₀ i₀ out end i = Laying 64 (squaresShown form summary piece most) out₀ at out end i × (length out ≡ length out₀)
 
 abbrev μ-loop : tie.MeasureT-loop
 μ-loop form summary piece most out₀ at end₀ i₀ out end i = 64 - i
 
 loop-holds : tie.Need-loop-holds Inv-loop μ-loop
 loop-holds c =
-    let a = (c .before .before .args) in (laying-none 64 (squaresText (a .form) (now (a .summary)) (a .piece) (a .most)) (now (a .out)) (a .at) (omega (arith, (c .before .before .pre) .room)), search needs)
+    let a = (c .before .before .args) in (laying-none 64 (squaresShown (a .form) (now (a .summary)) (a .piece) (a .most)) (now (a .out)) (a .at) (omega (arith, (c .before .before .pre) .room)), search needs)
 
 drawn-requires : tie.Need-drawn-requires Inv-loop μ-loop
 drawn-requires c κs =
@@ -34,7 +34,7 @@ square-requires : tie.Need-square-requires Inv-loop μ-loop
 square-requires c κs =
     let a = (c .before .before .before .before .before .before .before .args) in
     let l = (c .before .before .before .before .loop) in
-    record { within = (c .before .before .before .loop-test) .taken; room = laying-room 64 260 (squaresText (a .form) (now (a .summary)) (a .piece) (a .most)) (length-squares (a .form) (now (a .summary)) (a .piece) (a .most)) (now (a .out)) (a .at) (l .out) (l .end) (l .i) (l .inv .0) (omega (arith, (c .before .before .before .before .before .before .before .pre) .room, (c .before .before .before .loop-test) .taken)) }
+    record { within = (c .before .before .before .loop-test) .taken; room = laying-room 64 260 (squaresShown (a .form) (now (a .summary)) (a .piece) (a .most)) (length-squares (a .form) (now (a .summary)) (a .piece) (a .most)) (now (a .out)) (a .at) (l .out) (l .end) (l .i) (l .inv .0) (omega (arith, (c .before .before .before .before .before .before .before .pre) .room, (c .before .before .before .loop-test) .taken)) }
 
 add-i : tie.Need-add-i Inv-loop μ-loop
 add-i c = search needs
@@ -47,8 +47,8 @@ loop-again c =
     let a = (c .before .before .before .before .before .before .before .before .before .before .args) in
     let l = (c .before .before .before .before .before .before .before .loop) in
     let e = (c .before .before .before .before .count-on) .ensures ∙ ap (countOn (now (a .summary)) (a .piece)) ((c .before .before .before .before .before .drawn) .ensures) in (
-      laying-more 64 260 (squaresText (a .form) (now (a .summary)) (a .piece) (a .most)) (length-squares (a .form) (now (a .summary)) (a .piece) (a .most)) (now (a .out)) (a .at) (l .out) (l .end) (l .i) (l .inv .0) (omega (arith, (c .before .before .before .before .before .before .before .before .before .before .pre) .room, (c .before .before .before .before .before .before .loop-test) .taken)) ((c .before .before .before .before .before .before .loop-test) .taken) ((c .before .before .square) .last .1 .1 .1 .1 .0) ((c .before .before .square) .result)
-          (by-text (ap (λ (n : ℕ). squareText (a .form) (a .most) n (l .i)) e) ((c .before .before .square) .ensures)),
+      laying-more 64 260 (squaresShown (a .form) (now (a .summary)) (a .piece) (a .most)) (length-squares (a .form) (now (a .summary)) (a .piece) (a .most)) (now (a .out)) (a .at) (l .out) (l .end) (l .i) (l .inv .0) (omega (arith, (c .before .before .before .before .before .before .before .before .before .before .pre) .room, (c .before .before .before .before .before .before .loop-test) .taken)) ((c .before .before .before .before .before .before .loop-test) .taken) ((c .before .before .square) .last .1 .1 .1 .1 .0) ((c .before .before .square) .result)
+          (by-text (ap (λ (n : ℕ). squareShown (a .form) (a .most) n (l .i)) e) ((c .before .before .square) .ensures)),
       search needs,
     )
 
@@ -59,7 +59,7 @@ returns : tie.Need-returns Inv-loop μ-loop
 returns c =
     let a = (c .before .before .before .before .args) in
     let l = (c .before .loop) in
-    laying-all 64 (squaresText (a .form) (now (a .summary)) (a .piece) (a .most)) (now (a .out)) (a .at) (l .out) (l .end) (l .i) (l .inv .0) ((c .loop-test) .left)
+    laying-all 64 (squaresShown (a .form) (now (a .summary)) (a .piece) (a .most)) (now (a .out)) (a .at) (l .out) (l .end) (l .i) (l .inv .0) ((c .loop-test) .left)
 
 pub squares-spec : {M : Type 1} → statement M
 squares-spec =

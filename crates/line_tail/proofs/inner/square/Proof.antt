@@ -1,9 +1,9 @@
--- `captures_question::inner::square` meets its contract. Assumes nothing.
+-- `inner::square` meets its contract. Assumes nothing.
 use native.Mathlib.Omega.{arith}
-use Rattle.captures_question.proofs.Fields.{low-file, high-file, low-rank, high-rank, on-board}
+use Rattle.line_tail.proofs.Laws.{low-file, high-file, low-rank, high-rank, on-board}
 use borrow.Author.Needs.{needs}
-use Rattle.captures_question.proofs.inner.square.Statement.{statement}
-use Rattle.captures_question.proofs.inner.square.Tie as tie
+use Rattle.line_tail.proofs.inner.square.Statement.{statement}
+use Rattle.line_tail.proofs.inner.square.Tie as tie
 
 returns : tie.Need-returns
 returns c = low-file (c .before .args .file) (c .before .args .rank) (omega arith)

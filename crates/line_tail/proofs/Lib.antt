@@ -1,0 +1,4 @@
+pub mod Laws
+pub mod Tails
+pub mod Determined
+pub mod Examples

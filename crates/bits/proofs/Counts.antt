@@ -1,7 +1,7 @@
 -- How many squares a bitboard has: the machine's count of ones. Assumes nothing.
 use mathlib.Core.Path.{_≡_, refl, sym, ap, ap₂, _∙_, subst}
 use mathlib.Core.Logic.{⊎-elim}
-use mathlib.Core.Bool.{Bool, true, false, not, _&&_, and-true, and-false}
+use mathlib.Core.Bool.{Bool, true, false, not, _&&_, _||_, and-true, and-false}
 use Prim.Native.Nat.{ℕ, zero, suc, _+_, _/_, _%_, _^_, _≤_, _<_}
 use native.Mathlib.Nat.{mod-lt, mod-eq-of-lt, not-suc-le-zero, le-suc-iff, suc-inj}
 use native.Mathlib.Omega.{arith}
@@ -125,3 +125,13 @@ many-less (suc n) s f h e =
 
     top : s ≡ n → digit (f n) ≡ suc (digit (f n && not (eqb n s)))
     top q = ap digit (ap f (sym q) ∙ e) ∙ sym (ap (λ (t : Bool). suc (digit (f n && not t))) (eq-eqb n s (sym q)) ∙ ap (λ (t : Bool). suc (digit t)) (and-false (f n)))
+
+-- of either test no more pass than of both together
+pub many-or : (n : ℕ) (f g : ℕ → Bool) → howMany n (λ k. f k || g k) ≤ howMany n f + howMany n g
+unfolding howMany
+many-or zero f g = omega arith
+many-or (suc n) f g = omega (arith, many-or n f g, bit (f n) (g n))
+  where
+    bit : (a b : Bool) → digit (a || b) ≤ digit a + digit b
+    bit true b = omega arith
+    bit false b = omega arith

@@ -8,17 +8,17 @@ use lib.Dec.{ltb}
 use lib.ListN.{length, take, length-append}
 use Rattle.refusal.specs.Answer.{Answer, given, refused, refusalOf}
 use Rattle.refusal.specs.declared.Refusal.the-variants as R
-use Rattle.refusal.proofs.Answers.{given-not}
+use Rattle.refusal.proofs.Answers.{given-not, same-given}
 use Rattle.position_boards.specs.Boards.{bitboardsOf}
 use Rattle.position.specs.declared.State.{State}
 use Rattle.line_parse.specs.Line.{Line, lineOf}
 use Rattle.exchange_start.specs.declared.Mode.{Mode}
 use Rattle.exchange_start.proofs.Begun.{answered-knows, all-answered, a-side, from-on}
 use Rattle.exchange_value.specs.Settled.{settled}
-use Rattle.exchange.specs.Exchange.{Capture, capturesOf}
+use Rattle.exchange.specs.Exchange.{Capture, valuesTaken, capturesOf}
 use Rattle.exchange.proofs.Settling.{at-most-32}
 use Rattle.exchange.proofs.Room.{all-listed}
-use Rattle.exchange_told.specs.Told.{toldOf, valuesTaken, theStop}
+use Rattle.exchange_told.specs.Told.{toldOf, theStop}
 use Rattle.exchange_told.proofs.Behind.{told-is}
 use Rattle.ledger_row.proofs.Fits.{fits-refused}
 use Rattle.captures_question.specs.Question.{moveField, orderField, nthSquare, kindsIn, answerTo, questionOf}
@@ -27,9 +27,6 @@ use Rattle.captures_row.proofs.Fits.{fits-capture, fits-stop}
 use Rattle.captures_close.specs.Answered.{captureRows, answerRows, heldAnswer}
 
 -- ---- an exchange that is told has 32 captures at most
-same-given : {A : Type 0} {x y : A} → given x ≡ given y → x ≡ y
-same-given e = cc
-
 few-given : (mode : Mode) (kinds bbs bytes : List ℕ) (state : State) (from to : ℕ) (cs : List Capture) → given cs ≡ toldOf mode kinds bbs bytes state from to → length cs ≤ 32
 few-given mode kinds bbs bytes state from to cs e =
     let all : List Capture = capturesOf mode kinds bbs bytes state from to in

@@ -8,8 +8,8 @@ use Rattle.refusal.specs.Answer.{Answer, given, refused, refusalOf}
 use Rattle.refusal.specs.declared.Refusal.the-variants as R
 use Rattle.exchange_start.specs.declared.Mode.{Mode}
 use Rattle.exchange_value.specs.Settled.{settled}
-use Rattle.exchange.specs.Exchange.{Capture}
-use Rattle.exchange_told.specs.Told.{valuesTaken, theStop}
+use Rattle.exchange.specs.Exchange.{Capture, valuesTaken}
+use Rattle.exchange_told.specs.Told.{theStop}
 use Rattle.ledger_row.specs.Row.{refusedRow}
 use Rattle.ledger_row.specs.Promises.{PutsRow}
 use Rattle.ledger_row.specs.declared.Row.{Row}

@@ -7,7 +7,7 @@ ghost use lib.ListN.{length};
 ghost use Rattle.text_out.specs.Text.{Adds};
 ghost use Rattle.ledger_feed.specs.Machine.{at, tally as tallyOf};
 ghost use Rattle.ledger_feed.specs.Promises.{MakesState};
-ghost use Rattle.ledger_finish.specs.Promises.{unfinished, lastLines};
+ghost use Rattle.ledger_finish.specs.Promises.{lastLines};
 ghost use Rattle.captures_feed.specs.Machine.{finishedTold};
 ghost use Rattle.captures_feed.specs.Promises.{TellsQuestions, TellsLast, ReadyLine, CountsQuestion, ReadyChunk, TakesChunk};
 use captures_close::ROOM;
@@ -16,6 +16,7 @@ use ledger_feed::Fed;
 use ledger_feed::SoFar;
 use ledger_feed::countable;
 use ledger_finish::Finished;
+use ledger_finish::unfinished;
 use line_cut::Begun;
 use line_cut::LINE;
 use refusal::Refusal;
@@ -127,13 +128,6 @@ pub fn feed(mode: Mode, state: SoFar, line: &mut [u8], chunk: &[u8], out: &mut [
     take(mode, state, line, chunk, out)
 }
 
-// One more line where some of it was held.
-fn more(held: usize) -> usize
-    ensures { λ r. ⌜ r ≡ unfinished held ⌝ }
-{
-    if 0 < held { 1 } else { 0 }
-}
-
 // The rows of the last question, if it has no LF, and the counts.
 fn last_rows(mode: Mode, state: SoFar, line: &[u8], out: &mut [u8]) -> usize
     requires { ⌜ (2132 ≤ length (now out)) × (lastLines state < 2 ^ 64) ⌝ }
@@ -162,7 +156,7 @@ pub fn finish(mode: Mode, state: SoFar, line: &[u8], out: &mut [u8]) -> Finished
     if line.len() != LINE {
         return Finished::Refused(Refusal::Shape);
     }
-    if !countable(state.loaded, state.refused, more(state.held)) {
+    if !countable(state.loaded, state.refused, unfinished(state.held)) {
         return Finished::Many;
     }
     let mut rows = [0u8; LAST];

@@ -10,9 +10,8 @@ use lib.ListN.{length}
 use borrow.Author.Tests.{lt-ltb, le-leb}
 use Rattle.refusal.specs.Answer.{Answer}
 use Rattle.exchange_start.specs.declared.Mode.{Mode}
-use Rattle.exchange.specs.Exchange.{Capture}
+use Rattle.exchange.specs.Exchange.{Capture, valuesTaken}
 use Rattle.exchange_value.proofs.Stopping.{adds-up}
-use Rattle.exchange_told.specs.Told.{valuesTaken}
 use Rattle.ledger_row.specs.Row.{isLoaded}
 use Rattle.text_out.specs.Text.{writtenOf, roomFor}
 use Rattle.line_cut.specs.Lines.{lf, ends}

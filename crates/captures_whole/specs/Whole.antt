@@ -7,8 +7,8 @@ use Rattle.line_cut.specs.Lines.{ends, linesOf}
 use Rattle.exchange_start.specs.declared.Mode.{Mode}
 use Rattle.exchange_value.specs.Settled.{settled}
 use Rattle.exchange_value.specs.Stop.{carriedOut, alternating}
-use Rattle.exchange.specs.Exchange.{Capture}
-use Rattle.exchange_told.specs.Told.{valuesTaken, theStop}
+use Rattle.exchange.specs.Exchange.{Capture, valuesTaken}
+use Rattle.exchange_told.specs.Told.{theStop}
 use Rattle.ledger_feed.specs.declared.SoFar.{SoFar}
 use Rattle.ledger_whole.specs.Calls.{Call, Last, next, allWritten, input, fresh}
 use Rattle.captures_feed.specs.Promises.{TellsQuestions, TellsLast}

@@ -15,9 +15,8 @@ use Rattle.exchange_start.specs.Capture.{kindOn, takesPassing, passedPawn, mayC
 use Rattle.exchange_start.specs.declared.Mode.{Mode}
 use Rattle.exchange_start.proofs.Tested.{own-there, few-pieces}
 use Rattle.exchange_value.specs.Settled.{settled}
-use Rattle.exchange.specs.Exchange.{Capture, emptied, promotes, captures, firstTaken, firstThere, capturesOf, exchangeOf}
+use Rattle.exchange.specs.Exchange.{Capture, valuesTaken, emptied, promotes, captures, firstTaken, firstThere, capturesOf, exchangeOf}
 use Rattle.exchange.specs.Listed.{capturesWith, exchangeWith}
-use Rattle.exchange.proofs.Forward.{values}
 use Rattle.exchange.proofs.Ending.{pieces, one-less, fewer-of-both, never-out}
 
 -- ---- a colour's piece is one of the pieces
@@ -51,7 +50,7 @@ module _ (mode : Mode) (kinds bbs bytes : List ℕ) (state : State) (from to : �
   abbrev all : List Capture
   all = captures kinds bbs (attackers bbs to) (promotes mode to) 64 there (state .side) from first target
 
-  pub exchange-is : exchangeOf mode kinds bbs bytes state from to ≡ settled (values all)
+  pub exchange-is : exchangeOf mode kinds bbs bytes state from to ≡ settled (valuesTaken all)
   unfolding exchangeOf
   exchange-is = refl
 
@@ -69,4 +68,4 @@ module _ (mode : Mode) (kinds bbs bytes : List ℕ) (state : State) (from to : �
 
   pub room : from < 64 → state .side < 2 → mayCapture mode bbs bytes state from to ≡ true → uncrowded bbs ≡ true
       → exchangeWith mode kinds bbs bytes state from to ≡ exchangeOf mode kinds bbs bytes state from to
-  room h l m u = ap (λ (cs : List Capture). settled (values cs)) (all-listed h l m u ∙ captures-are) ∙ sym exchange-is
+  room h l m u = ap (λ (cs : List Capture). settled (valuesTaken cs)) (all-listed h l m u ∙ captures-are) ∙ sym exchange-is

@@ -20,9 +20,9 @@ use Rattle.exchange_start.specs.Capture.{kindOn}
 use Rattle.exchange_start.specs.declared.Mode.{Mode}
 use Rattle.exchange_value.specs.Settled.{settled}
 use Rattle.exchange_value.proofs.Backward.{settled-up}
-use Rattle.exchange.specs.Exchange.{Capture, emptied, promotes, takenBy, becomes, recaptures, firstTaken, firstThere}
+use Rattle.exchange.specs.Exchange.{Capture, valuesTaken, emptied, promotes, takenBy, becomes, recaptures, firstTaken, firstThere}
 use Rattle.exchange.specs.Listed.{capturesWith, exchangeWith, column}
-use Rattle.exchange.proofs.Forward.{values, taken-le, forced, at-most, gains-at-most}
+use Rattle.exchange.proofs.Forward.{taken-le, forced, at-most, gains-at-most}
 use Rattle.exchange.proofs.Columns.{column-length, column-taken}
 
 module _ (mode : Mode) (kinds bbs bytes : List ℕ) (state : State) (from to : ℕ) where
@@ -57,18 +57,18 @@ module _ (mode : Mode) (kinds bbs bytes : List ℕ) (state : State) (from to : �
   at-most-32 = rw are (omega (arith, at-most kinds bbs (attackers bbs to) (promotes mode to) 31 (emptied there from) (other (state .side)) (valueOf stands)))
 
   -- a capture takes at most a king and 913
-  near : natAbs (settled (value ∷ values later)) ≤ 21826
+  near : natAbs (settled (value ∷ valuesTaken later)) ≤ 21826
   near =
-      rw (settled-up value (values later))
-      (abs-minus (pos value) (pos (aboveZero (settled (values later)))) 10913 10913
+      rw (settled-up value (valuesTaken later))
+      (abs-minus (pos value) (pos (aboveZero (settled (valuesTaken later)))) 10913 10913
       (le-trans (taken-le promoted target) (add-le target 913 (value-le (firstTaken mode bytes state from to))))
       (le-trans (gains-at-most kinds bbs (attackers bbs to) (promotes mode to) 31 (emptied there from) (other (state .side)) (valueOf stands)) (add-le (valueOf stands) 913 (value-le stands))))
     where
       add-le : (v n : ℕ) → v ≤ 10000 → v + n ≤ 10000 + n
       add-le v n h = omega arith
 
-  worth-is : exchangeWith mode kinds bbs bytes state from to ≡ settled (value ∷ values later)
-  worth-is = ap (λ (l : List Capture). settled (values l)) are
+  worth-is : exchangeWith mode kinds bbs bytes state from to ≡ settled (value ∷ valuesTaken later)
+  worth-is = ap (λ (l : List Capture). settled (valuesTaken l)) are
 
   pub in-16 : (z : ℤ) → z ≡ exchangeWith mode kinds bbs bytes state from to → SFits w16 z
   in-16 z e = fits-abs {w = w16} 21826 tt (subst (λ (x : ℤ). natAbs x ≤ 21826) (sym (e ∙ worth-is)) near)

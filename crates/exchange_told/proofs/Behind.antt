@@ -13,12 +13,12 @@ use Rattle.exchange_start.specs.Promises.{BeginsExchange}
 use Rattle.exchange_start.specs.declared.Mode.{Mode}
 use Rattle.exchange_start.proofs.Begun.{knows, tells, passes-on, a-side, from-on}
 use Rattle.exchange_value.specs.Stop.{playedOut, stopOf}
-use Rattle.exchange.specs.Exchange.{capturesOf}
+use Rattle.exchange.specs.Exchange.{valuesTaken, capturesOf}
 use Rattle.exchange.specs.Listed.{capturesWith, column}
 use Rattle.exchange.proofs.Columns.{column-taken}
 use Rattle.exchange.proofs.Settling.{at-most-32}
 use Rattle.exchange.proofs.Room.{all-listed}
-use Rattle.exchange_told.specs.Told.{toldOf, theCaptures, valuesTaken}
+use Rattle.exchange_told.specs.Told.{toldOf, theCaptures}
 
 pub told-is : (mode : Mode) (kinds bbs bytes : List ℕ) (state : State) (from to : ℕ)
     → toldOf mode kinds bbs bytes state from to ≡ behind mode kinds bbs bytes state from to (capturesOf mode kinds bbs bytes state from to)

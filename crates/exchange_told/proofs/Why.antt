@@ -5,7 +5,7 @@ use mathlib.Core.List.{List}
 use Prim.Native.Nat.{ℕ, _≤_}
 use lib.IntN.{ℤ}
 use lib.ListN.{length, take}
-use Rattle.refusal.specs.Answer.{given}
+use Rattle.refusal.proofs.Answers.{same-given}
 use Rattle.position.specs.declared.State.{State}
 use Rattle.exchange_start.specs.declared.Mode.{Mode}
 use Rattle.exchange_start.proofs.Begun.{answered-knows, all-answered, a-side, from-on}
@@ -13,21 +13,18 @@ use Rattle.exchange_value.specs.Settled.{settled}
 use Rattle.exchange_value.specs.Stop.{Stop, carriedOut, alternating}
 use Rattle.exchange_value.specs.Answers.{stopped}
 use Rattle.exchange_value.proofs.Stopping.{adds-up, stop-means, out-means}
-use Rattle.exchange.specs.Exchange.{Capture, capturesOf, exchangeOf}
+use Rattle.exchange.specs.Exchange.{Capture, valuesTaken, capturesOf, exchangeOf}
 use Rattle.exchange.specs.Promises.{See, HoldsCaptures}
 use Rattle.exchange.specs.declared.Exchanged.the-variants.{Worth}
 use Rattle.exchange.specs.declared.inner.Listed.{Listed}
 use Rattle.exchange.proofs.Columns.{column-taken}
 use Rattle.exchange.proofs.Settling.{at-most-32}
 use Rattle.exchange.proofs.Room.{captures-are, exchange-is, all-listed}
-use Rattle.exchange_told.specs.Told.{toldOf, theCaptures, valuesTaken, theStop}
+use Rattle.exchange_told.specs.Told.{toldOf, theCaptures, theStop}
 use Rattle.exchange_told.specs.Promises.{Captures}
 use Rattle.exchange_told.specs.Why.{Why}
 use Rattle.exchange_told.specs.declared.Told.{Told}
 use Rattle.exchange_told.proofs.Behind.{told-is}
-
-same-given : {A : Type 0} {x y : A} → given x ≡ given y → x ≡ y
-same-given e = cc
 
 module _ (mode : Mode) (kinds bbs bytes : List ℕ) (state : State) (from to : ℕ) where
   abbrev cs : List Capture

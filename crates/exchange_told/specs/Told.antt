@@ -1,12 +1,12 @@
 -- What is told of an exchange (document 02, W-207). Definitions only.
-use mathlib.Core.List.{List, [], map}
+use mathlib.Core.List.{List, []}
 use Prim.Native.Nat.{ℕ}
 use Rattle.refusal.specs.Answer.{Answer, given, refused}
 use Rattle.position.specs.declared.State.{State}
 use Rattle.exchange_start.specs.Answers.{behind}
 use Rattle.exchange_start.specs.declared.Mode.{Mode}
 use Rattle.exchange_value.specs.Stop.{Stop, stopOf}
-use Rattle.exchange.specs.Exchange.{Capture, capturesOf}
+use Rattle.exchange.specs.Exchange.{Capture, valuesTaken, capturesOf}
 
 -- "It takes any order of W-206, with that request's refusals"; and either mode of W-213
 unfoldable pub toldOf : Mode → List ℕ → List ℕ → List ℕ → State → ℕ → ℕ → Answer (List Capture)
@@ -16,10 +16,6 @@ toldOf mode kinds bbs bytes state from to = behind mode kinds bbs bytes state fr
 abbrev pub theCaptures : Answer (List Capture) → List Capture
 theCaptures (given cs) = cs
 theCaptures (refused number beside) = []
-
--- what they take
-abbrev pub valuesTaken : List Capture → List ℕ
-valuesTaken cs = map (λ c. c .taken) cs
 
 -- "then the stopping point"
 abbrev pub theStop : List Capture → Stop

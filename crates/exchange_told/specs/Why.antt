@@ -8,10 +8,10 @@ use Rattle.position.specs.declared.State.{State}
 use Rattle.exchange_start.specs.declared.Mode.{Mode}
 use Rattle.exchange_value.specs.Stop.{playedOut, before, carriedOut, alternating, StopsBefore, NoneStops}
 use Rattle.exchange_value.specs.Answers.{stopped}
-use Rattle.exchange.specs.Exchange.{Capture, capturesOf, exchangeOf}
+use Rattle.exchange.specs.Exchange.{Capture, valuesTaken, capturesOf, exchangeOf}
 use Rattle.exchange.specs.Promises.{See}
 use Rattle.exchange.specs.declared.Exchanged.the-variants.{Worth}
-use Rattle.exchange_told.specs.Told.{valuesTaken, theStop}
+use Rattle.exchange_told.specs.Told.{theStop}
 use Rattle.exchange_told.specs.Promises.{Captures}
 use Rattle.exchange_told.specs.declared.Told.{Told}
 

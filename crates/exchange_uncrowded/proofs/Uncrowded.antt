@@ -2,7 +2,7 @@
 use mathlib.Core.Path.{_≡_, refl, sym, ap, ap₂, subst, _∙_}
 use mathlib.Core.Bool.{Bool, true, false, _&&_, _||_, true≢false}
 use mathlib.Core.List.{List}
-use Prim.Native.Nat.{ℕ, zero, suc, _+_, _≤_}
+use Prim.Native.Nat.{ℕ, _+_, _≤_}
 use native.Mathlib.Omega.{arith}
 use lib.Dec.{eqb, leb}
 use lib.ListN.{getD}
@@ -12,8 +12,8 @@ use Rattle.laws.proofs.Truth.{true-T, T-true, and-l, and-r}
 use Rattle.refusal.specs.Answer.{Answer, given, refused, orRefuse}
 use Rattle.refusal.specs.declared.Refusal.the-variants as R
 use Rattle.refusal.proofs.Answers.{given-not}
-use Rattle.bits.specs.Bitboard.{has, digit, howMany}
-use Rattle.bits.proofs.Counts.{many-same}
+use Rattle.bits.specs.Bitboard.{has, howMany}
+use Rattle.bits.proofs.Counts.{many-same, many-or}
 use Rattle.bits.proofs.Those.{has-those}
 use Rattle.position_boards.specs.Boards.{bitboardsOf}
 use Rattle.position_boards.specs.Sound.{apart, united}
@@ -37,17 +37,6 @@ use Rattle.line_profile.specs.Under.{playedLine}
 use Rattle.exchange_uncrowded.specs.Uncrowded.{NotCrowd, NeverCrowd, LineNeverCrowd}
 
 -- ---- at most 32 pieces
-digit-or : (a b : Bool) → digit (a || b) ≤ digit a + digit b
-digit-or true true = omega arith
-digit-or true false = omega arith
-digit-or false true = omega arith
-digit-or false false = omega arith
-
-many-or : (n : ℕ) (f g : ℕ → Bool) → howMany n (λ k. f k || g k) ≤ howMany n f + howMany n g
-unfolding howMany
-many-or zero f g = omega arith
-many-or (suc n) f g = omega (arith, many-or n f g, digit-or (f n) (g n))
-
 add-up : (x y w b : ℕ) → x ≡ y → y ≤ w + b → w ≤ 16 → b ≤ 16 → x ≤ 32
 add-up x y w b e l m n = omega arith
 

@@ -1,14 +1,14 @@
 -- The cases of `sqrt`, and what a double's fields say of its size. Assumes nothing.
 use mathlib.Core.Path.{_≡_, refl, sym, ap, _∙_, subst}
 use mathlib.Core.Logic.{inl, inr}
-use mathlib.Core.Bool.{Bool, true, false, not, _&&_, cond, true≢false}
+use mathlib.Core.Bool.{Bool, true, false, _&&_, cond, true≢false}
 use Prim.Native.Nat.{ℕ, zero, suc, _+_, _*_, _/_, _%_, _^_, _≤_, _<_}
 use native.Mathlib.Nat.{lt-irrefl, zero-lt-suc, zero-mul, mul-pos, add-comm, eq-zero-or-pos, mul-div-cancel}
 use native.Mathlib.Omega.{arith}
 use lib.IntN.{ℤ}
 use lib.Dec.{T, leb, eqb}
 use lib.Pow.{pow-pos}
-use lib.Ieee.{Float, nan, inf, fin, Format, binary64, prec, low, hid, ones, up, down, ofFields, ofBits, toBits, fits, isNan, eq, lt, ne, div}
+use lib.Ieee.{Float, nan, inf, fin, Format, binary64, prec, low, hid, ones, up, down, ofFields, ofBits, toBits, fits, eq, lt, ne, div}
 use lib.Ieee.Fits.{up-pos, down-pos}
 use lib.Ieee.Exact.{HasValue, odd-sign}
 use lib.Ieee.Bits.{ofBits-toBits}
@@ -40,12 +40,6 @@ low-clash a b h k = omega arith
 pub at-nan : (x : Float) → ne x x ≡ true → x ≡ rootOf x
 unfolding rootOf
 at-nan x h = subst (λ (y : Float). y ≡ rootOf y) (sym (differs-from-itself x (subst T (sym h) tt))) refl
-
-pub no-nan-here : (x : Float) → ne x x ≡ false → T (not (isNan x))
-unfolding isNan
-no-nan-here nan e = subst T (sym nan-differs ∙ e) tt
-no-nan-here (inf s) e = tt
-no-nan-here (fin s m e) h = tt
 
 pub at-zero : (x : Float) → eq x d0 ≡ true → x ≡ rootOf x
 unfolding rootOf eq ofBits

@@ -1,21 +1,19 @@
 -- The parts of a sample, put one after another: numbers of four bytes each, then bytes. Assumes nothing.
 use mathlib.Core.Path.{_≡_, refl, sym, ap, subst, _∙_}
-use mathlib.Core.Bool.{Bool, true, false, cond}
-use mathlib.Core.List.{List, [], _∷_, _++_, append-assoc}
+use mathlib.Core.List.{List, [], _∷_, _++_}
 use Prim.Native.Nat.{ℕ, _+_, _*_, _^_, _≤_, _<_}
-use native.Mathlib.Nat.{add-zero}
 use native.Mathlib.Numerals.{add-one}
 use native.Mathlib.Omega.{arith}
 use lib.IntN.{ℤ, pos}
-use lib.ListN.{length, take, drop, getD, length-append, length-take, take-append-drop}
+use lib.ListN.{length, take, getD, length-append, length-take}
 use lib.Seq.{take-suc, take-all, length-take-le}
 use lib.Signed.{mag}
 use mir.Syntax.{w32}
 use mir.ValLaws.{toZ-ofZ}
 use Rattle.laws.proofs.Words.{held}
-use Rattle.text_out.specs.Text.{Puts, Adds, place, afterOf, roomFor}
+use Rattle.text_out.specs.Text.{Puts, Adds, place, afterOf}
 use Rattle.text_out.specs.declared.Placed.{Placed}
-use Rattle.text_out.proofs.Added.{adds-or, adds-to, adds-length, adds-then}
+use Rattle.text_out.proofs.Added.{adds-or, adds-to, adds-length, adds-then, adds-none, adds-3}
 use Rattle.trace_counts.specs.declared.Trace.{Trace}
 use Rattle.abi_records.specs.Records.{countsOf}
 use Rattle.fit_sample.specs.Sample.{twosComplement, lowestFirst, wordsOf, numberBytes, entryBytes}
@@ -34,18 +32,6 @@ words-append (x ∷ xs) ys =
 words-one : (z : ℤ) → wordsOf (z ∷ []) ≡ lowestFirst (twosComplement z)
 unfolding wordsOf
 words-one z = refl
-
--- nothing added is nothing changed, with room or without
-pub adds-none : (old : List ℕ) (at : ℕ) → Adds old at [] old at
-adds-none old at = record { place = after (roomFor old at []); buffer = same (roomFor old at []) }
-  where
-    after : (t : Bool) → at ≡ afterOf (cond t ((at + 0) ∷ []) []) at
-    after true = omega arith
-    after false = refl
-
-    same : (t : Bool) → old ≡ cond t (take at old ++ drop (at + 0) old) old
-    same true = sym (ap (λ (n : ℕ). take at old ++ drop n old) (add-zero at) ∙ take-append-drop at old)
-    same false = refl
 
 -- before the first number
 pub words-none : (out : List ℕ) (at : ℕ) (numbers : List ℤ) → Adds out at (wordsOf (take 0 numbers)) out at
@@ -73,13 +59,6 @@ words-more out₀ out out′ at end end′ i numbers bytes p room h a small e pu
 -- after the last
 pub words-all : (out₀ out : List ℕ) (at end i : ℕ) (numbers : List ℤ) → length numbers ≤ i → Adds out₀ at (wordsOf (take i numbers)) out end → Adds out₀ at (wordsOf numbers) out end
 words-all out₀ out at end i numbers h a = subst (λ (l : List ℤ). Adds out₀ at (wordsOf l) out end) (take-all i numbers h) a
-
--- three texts
-pub adds-3 : {x y z p : List ℕ} {at a b c : ℕ} {t u v : List ℕ} → Adds x at t y a → Adds y a u z b → Adds z b v p c
-    → at + (length t + length u + length v) ≤ length x → Adds x at (t ++ (u ++ v)) p c
-adds-3 {x} {p = p} {at = at} {c = c} {t = t} {u = u} {v = v} first second third room =
-    let e = length-append t u in
-    subst (λ (l : List ℕ). Adds x at l p c) (append-assoc t u v) (adds-then (adds-then first second (omega arith)) third (omega arith))
 
 -- ---- 26 numbers, and 196 bytes
 pub numbers-104 : (t : Trace) → length (t .mobility) ≡ 12 → length (numberBytes t) ≡ 104

@@ -6,3 +6,4 @@ pub mod Words
 pub mod Sums
 pub mod Terms
 pub mod Whole
+pub mod Nans

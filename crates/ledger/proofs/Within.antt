@@ -8,13 +8,7 @@ use Rattle.ledger_feed.specs.Promises.{fed, wrote, Feeds}
 use Rattle.ledger_feed.specs.declared.SoFar.{SoFar}
 use Rattle.ledger_feed.specs.declared.Fed.{Fed}
 use Rattle.ledger_feed.specs.declared.Fed.the-variants as F
-use Rattle.ledger_finish.specs.Promises.{finishPaper, lastWrote, Finishes}
-use Rattle.ledger_finish.specs.declared.Finished.{Finished}
-use Rattle.ledger_finish.specs.declared.Finished.the-variants as E
 
 pub fed-within : {profile : Profile} {state : SoFar} {line chunk out : List ℕ} {r : Fed} {line′ out′ : List ℕ} → Feeds profile state line chunk out r line′ out′
     → (next : SoFar) (n : ℕ) → r ≡ F.Rows next n → n ≤ length out
 fed-within {out = out} f next n told = subst (λ (q : Fed). wrote (fed q) ≤ length out) told (f .within)
-
-pub last-within : {profile : Profile} {state : SoFar} {line out : List ℕ} {r : Finished} {out′ : List ℕ} → Finishes profile state line out r out′ → (n : ℕ) → r ≡ E.Rows n → n ≤ length out
-last-within {out = out} f n told = subst (λ (q : Finished). lastWrote (finishPaper q) ≤ length out) told (f .within)

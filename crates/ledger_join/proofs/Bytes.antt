@@ -7,8 +7,8 @@ use native.Mathlib.Omega.{arith}
 use lib.Dec.{eqb, leb}
 use lib.ListN.{length, take, set, length-set}
 use borrow.Author.Tests.{eq-eqb, ne-eqb, le-leb, lt-leb}
-use Rattle.text_out.specs.Text.{Adds, afterOf}
-use Rattle.text_out.proofs.Wrote.{with-room, wrote-none}
+use Rattle.text_out.specs.Text.{Adds}
+use Rattle.text_out.proofs.Added.{adds-none}
 use Rattle.line_cut.specs.Lines.{lf, ends}
 use Rattle.line_cut.proofs.Counted.{ends-one}
 use Rattle.ledger_joined_row.specs.Promises.{rowIs}
@@ -19,12 +19,6 @@ use Rattle.ledger_join.specs.Machine.{Joint, joint, holdsMore, halted, a
 use Rattle.ledger_join.specs.Promises.{RowReady, ClosesRow, HoldsByte, TakesByte}
 use Rattle.ledger_join.specs.declared.Joining.{Joining}
 use Rattle.ledger_join.specs.declared.ByteTaken.{ByteTaken}
-
--- nothing put
-adds-none : (old : List ℕ) (at : ℕ) → at ≤ length old → Adds old at [] old at
-adds-none old at h =
-    let w = with-room old old at at [] (wrote-none old at h) in
-    record { place = ap (λ (l : List ℕ). afterOf l at) (w .0); buffer = w .1 }
 
 -- ---- a byte that is held: the state after it, and what the row's end needs
 pub stayed : {s u : Joining} {r : ByteTaken} (at : ℕ) → r ≡ record { state = u; end = at } → u ≡ s → r ≡ record { state = s; end = at }
@@ -45,7 +39,7 @@ module _ (s : Joining) (row out : List ℕ) (b at : ℕ) where
       record {
         state = ap (λ (x : ByteTaken). x .state) e ∙ sym (ap (λ (m : Joint). m .state) q);
         kept = sym (ap (λ (m : Joint). m .row) q);
-        text = subst (λ (m : Joint). Adds out at (m .text) out (r .end)) (sym q) (subst (λ (k : ℕ). Adds out at [] out k) (sym (ap (λ (x : ByteTaken). x .end) e)) (adds-none out at h));
+        text = subst (λ (m : Joint). Adds out at (m .text) out (r .end)) (sym q) (subst (λ (k : ℕ). Adds out at [] out k) (sym (ap (λ (x : ByteTaken). x .end) e)) (adds-none out at));
       }
 
   pub held-row : b ≡ 10 → (next : Joining) → next ≡ holdsMore s → (r : ByteTaken) (out′ : List ℕ) → ClosesRow next (set row (s .held) b) out at r out′
@@ -71,7 +65,7 @@ module _ (s : Joining) (row out : List ℕ) (b at : ℕ) where
 
   unchanged : (u : Joining) → byteOn (joint row s []) b ≡ joint row u [] → at ≤ length out → (r : ByteTaken) → r ≡ record { state = u; end = at } → TakesByte s row out b at r row out
   unchanged u e h r q =
-      taken-as (joint row u []) e r row out (ap (λ (x : ByteTaken). x .state) q) refl (subst (λ (k : ℕ). Adds out at [] out k) (sym (ap (λ (x : ByteTaken). x .end) q)) (adds-none out at h))
+      taken-as (joint row u []) e r row out (ap (λ (x : ByteTaken). x .state) q) refl (subst (λ (k : ℕ). Adds out at [] out k) (sym (ap (λ (x : ByteTaken). x .end) q)) (adds-none out at))
 
   pub byte-stopped : s .stopped ≡ true → at ≤ length out → (r : ByteTaken) → r ≡ record { state = s; end = at } → TakesByte s row out b at r row out
   unfolding byteOn

@@ -14,7 +14,7 @@ use Rattle.position.specs.declared.State.{State}
 use Rattle.text_in.specs.Text.{space, semicolon, isText, every, holds, after, placeIn}
 use Rattle.line_ranks.specs.Ranks.{areEightRanks, boardOf}
 use Rattle.line_tail.specs.Tail.{orTail, tailState}
-use Rattle.line_tail.proofs.Tails.{tail-through, rights-borne, passant-borne, counters-borne, state-side}
+use Rattle.line_tail.proofs.Tails.{Fitted, tail-through, rights-borne, passant-borne, counters-borne, state-side}
 use Rattle.line_parse.specs.Line.{Line, sides, results, isOneOf, ranksOf, sideWord, positionField, resultField, withResult, fieldsSay, lineOf}
 
 -- what its fields are, and the board bears them out
@@ -26,6 +26,10 @@ pub record Spells (field result : List ℕ) (l : Line) : Type 0 where
   pub counters : countersFit (l .state .halfmoves) (l .state .moves) ≡ true
   pub half : l .half < 3
   pub board : l .board ≡ boardOf (ranksOf field)
+  pub mover : placeIn sides (sideWord field) < 2
+  pub rest : Fitted (boardOf (ranksOf field)) (placeIn sides (sideWord field)) (after space field)
+  pub state : tailState (placeIn sides (sideWord field)) (after space field) ≡ l .state
+  pub half-place : placeIn results result ≡ l .half
 
 spells : (field result : List ℕ) (l : Line) → fieldsSay field result ≡ given l → Spells field result l
 unfolding fieldsSay
@@ -53,6 +57,10 @@ spells field result l e =
       counters = subst (λ (k : Line). countersFit (k .state .halfmoves) (k .state .moves) ≡ true) same (counters-borne bytes side tail (t .0));
       half = subst (λ (k : Line). k .half < 3) same (ltb-true (placeIn results result) 3 (r .0));
       board = sym (ap (λ (k : Line). k .board) same);
+      mover = ltb-true side 2 (q .0);
+      rest = t .0;
+      state = ap (λ (k : Line). k .state) same;
+      half-place = ap (λ (k : Line). k .half) same;
     }
 
 pub given-spells : (line : List ℕ) (l : Line) → lineOf line ≡ given l → Spells (positionField line) (resultField line) l

@@ -10,7 +10,7 @@ use Rattle.text_out.proofs.Added.{adds-to, adds-length, adds-then}
 use Rattle.line_text.specs.Words.{orElse, counterText}
 use Rattle.line_text.proofs.Counters.{counter-digits, counter-none}
 use Rattle.line_text.proofs.Lengths.{counter-length}
-use Rattle.line_spell.proofs.Joined.{adds-3}
+use Rattle.text_out.proofs.Added.{adds-3}
 
 -- the room behind a text that had room
 pub room-behind : {x y : List ℕ} {at r : ℕ} {t : List ℕ} → Adds x at t y r → (n : ℕ) → at + (length t + n) ≤ length x → r + n ≤ length y

@@ -7,7 +7,7 @@ use lib.ListN.{length, take, drop, set, length-append, length-set, length-drop, 
 use lib.Seq.{drop-drop, take-all, length-take-le}
 use Rattle.text_out.specs.Text.{Wrote, Adds, afterOf}
 use Rattle.text_out.proofs.Wrote.{wrote-none, wrote-more, with-room}
-use Rattle.text_out.proofs.Added.{adds-to, adds-length, adds-front, adds-then}
+use Rattle.text_out.proofs.Added.{adds-to, adds-length, adds-front}
 use Rattle.text_in.specs.Text.{slash}
 use Rattle.line_parse.specs.Line.{sides, results}
 use Rattle.line_text.specs.Spelt.{rankText, ranksText, placement}
@@ -30,13 +30,6 @@ wrote-then {old} {mid} {new} {at} {a} {b} {t} {u} l p q =
 wrote-adds : {old new : List ℕ} {at r : ℕ} {text : List ℕ} → Wrote old new at r text → Adds old at text new r
 wrote-adds {old} {new} {at} {r} {text} w =
     let a = with-room old new at r text w in record { place = ap (λ (l : List ℕ). afterOf l at) (a .0); buffer = a .1 }
-
--- three texts
-pub adds-3 : {x y z p : List ℕ} {at a b c : ℕ} {t u v : List ℕ} → Adds x at t y a → Adds y a u z b → Adds z b v p c
-    → at + (length t + length u + length v) ≤ length x → Adds x at (t ++ (u ++ v)) p c
-adds-3 {x} {p = p} {at = at} {c = c} {t = t} {u = u} {v = v} first second third room =
-    let e = length-append t u in
-    subst (λ (l : List ℕ). Adds x at l p c) (append-assoc t u v) (adds-then (adds-then first second (omega arith)) third (omega arith))
 
 -- what was made at the front of a buffer with room for it
 module _ {old new : List ℕ} {r : ℕ} {text : List ℕ} (a : Adds old 0 text new r) (room : length text ≤ length old) where

@@ -10,6 +10,9 @@ use Rattle.refusal.specs.declared.Refusal.{Refusal}
 pub given-not {ℓ} : {X : Type ℓ} {A : Type 0} {a : A} {n : ℕ} {l : List ℕ} → given a ≡ refused n l → X
 given-not e = absurd (let z : _≡_ {A = ℕ} 0 1 = cc in omega arith)
 
+pub same-given : {A : Type 0} {x y : A} → given x ≡ given y → x ≡ y
+same-given e = cc
+
 -- it was given, so the test held; it was refused, so it did not
 pub was-given : {A : Type 0} (holds : Bool) (r : Refusal) (a b : A) → given a ≡ orRefuse holds r (given b) → (holds ≡ true) × (a ≡ b)
 was-given true r a b e = (refl, cc)

@@ -23,7 +23,7 @@ use Rattle.line.specs.Promises.{bitboardsAfter, Reads}
 use Rattle.line.specs.declared.inner.Loaded.{Loaded}
 use Rattle.ledger_row.specs.Row.{refusedRow, rowOf, isLoaded}
 use Rattle.ledger_row.specs.Promises.{PutsRefused}
-use Rattle.fit_sample.proofs.Parts.{adds-none}
+use Rattle.text_out.proofs.Added.{adds-none}
 use Rattle.sift_form.specs.Forms.{roomOf, madeFrom, madeOf}
 use Rattle.sift_form.specs.Promises.{MakesForm}
 use Rattle.sift_form.specs.declared.Form.{Form}

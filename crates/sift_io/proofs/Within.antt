@@ -3,11 +3,7 @@ use mathlib.Core.Path.{_≡_, subst}
 use mathlib.Core.List.{List}
 use Prim.Native.Nat.{ℕ, _≤_}
 use lib.ListN.{length}
-use Rattle.line_profile.specs.declared.Profile.{Profile}
 use Rattle.ledger_feed.specs.declared.SoFar.{SoFar}
-use Rattle.ledger_finish.specs.Promises.{finishPaper, lastWrote, Finishes}
-use Rattle.ledger_finish.specs.declared.Finished.{Finished}
-use Rattle.ledger_finish.specs.declared.Finished.the-variants as E
 use Rattle.sift_form.specs.declared.Form.{Form}
 use Rattle.sift_feed.specs.Promises.{sifted, siftedBytes, Sifts}
 use Rattle.sift_feed.specs.declared.Sifted.{Sifted}
@@ -20,6 +16,3 @@ module _ {state : SoFar} {form : Form} {line chunk made rows : List ℕ} {r : Si
 
   pub rows-within : m ≤ length rows
   rows-within = subst (λ (q : Sifted). siftedBytes (sifted q) .1 ≤ length rows) told (f .rowsWithin)
-
-pub told-within : {profile : Profile} {state : SoFar} {line out : List ℕ} {r : Finished} {out′ : List ℕ} → Finishes profile state line out r out′ → (n : ℕ) → r ≡ E.Rows n → n ≤ length out
-told-within {out = out} f n told = subst (λ (q : Finished). lastWrote (finishPaper q) ≤ length out) told (f .within)

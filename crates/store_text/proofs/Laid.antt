@@ -1,32 +1,15 @@
 -- Texts laid one after another: how long they are, and the loop that lays them. Assumes nothing.
-use mathlib.Core.Path.{_≡_, sym, ap, subst, _∙_}
-use mathlib.Core.List.{List, [], _++_, append-assoc}
+use mathlib.Core.Path.{_≡_, sym, subst}
+use mathlib.Core.List.{List, _++_}
 use Prim.Native.Nat.{ℕ, zero, suc, _+_, _*_, _≤_, _<_}
-use native.Mathlib.Nat.{add-zero, suc-mul}
+use native.Mathlib.Nat.{suc-mul}
 use native.Mathlib.Numerals.{add-one}
 use native.Mathlib.Omega.{arith}
-use lib.ListN.{length, take, drop, length-append, take-append-drop}
-use Rattle.text_out.specs.Text.{afterOf, Adds}
-use Rattle.text_out.proofs.Wrote.{place-is, written-is}
+use lib.ListN.{length, length-append}
+use Rattle.text_out.specs.Text.{Adds}
 use Rattle.text_out.proofs.Added.{adds-then}
 use Rattle.ledger_totals.proofs.Point.{after-room}
 use Rattle.store_text.specs.Board.{laid}
-
--- three texts
-pub adds-3 : {x y z p : List ℕ} {at a b c : ℕ} {t u v : List ℕ} → Adds x at t y a → Adds y a u z b → Adds z b v p c
-    → at + (length t + length u + length v) ≤ length x → Adds x at (t ++ (u ++ v)) p c
-adds-3 {x} {p = p} {at = at} {c = c} {t = t} {u = u} {v = v} first second third room =
-    let e = length-append t u in
-    subst (λ (l : List ℕ). Adds x at l p c) (append-assoc t u v) (adds-then (adds-then first second (omega arith)) third (omega arith))
-
--- no text
-adds-none : (old : List ℕ) (at : ℕ) → at ≤ length old → Adds old at [] old at
-adds-none old at h =
-    let room : at + 0 ≤ length old = omega arith in
-    record {
-      place = sym (ap (λ (l : List ℕ). afterOf l at) (place-is old at [] room) ∙ add-zero at);
-      buffer = sym (written-is old at [] room ∙ ap (λ (n : ℕ). take at old ++ drop n old) (add-zero at) ∙ take-append-drop at old);
-    }
 
 both : (a b m k : ℕ) → a ≤ m → b ≤ k → a + b ≤ m + k
 both a b m k p q = omega arith

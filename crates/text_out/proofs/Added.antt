@@ -1,10 +1,12 @@
 -- Texts put one after another are put as one. Assumes nothing.
-use mathlib.Core.Path.{_≡_, sym, ap, subst, _∙_}
-use mathlib.Core.List.{List, _++_, append-assoc}
+use mathlib.Core.Path.{_≡_, refl, sym, ap, subst, _∙_}
+use mathlib.Core.Bool.{Bool, true, false, cond}
+use mathlib.Core.List.{List, [], _∷_, _++_, append-assoc}
 use Prim.Native.Nat.{ℕ, _+_, _≤_}
+use native.Mathlib.Nat.{add-zero}
 use native.Mathlib.Omega.{arith}
-use lib.ListN.{length, take, drop, length-append}
-use Rattle.text_out.specs.Text.{Puts, place, writtenOf, afterOf, decimalOf, Adds}
+use lib.ListN.{length, take, drop, length-append, take-append-drop}
+use Rattle.text_out.specs.Text.{Puts, place, writtenOf, afterOf, roomFor, decimalOf, Adds}
 use Rattle.text_out.specs.declared.Placed.{Placed}
 use Rattle.text_out.proofs.Wrote.{place-is, written-front, written-back, written-length, written-then}
 use Rattle.text_out.proofs.Spelled.{length-decimal}
@@ -39,6 +41,25 @@ adds-then {x} {y} {z} {at} {b} {c} {t} {u} p q room =
       place = hc ∙ sym (ap (λ (l : List ℕ). afterOf l at) (place-is x at (t ++ u) hx));
       buffer = q .buffer ∙ ap (λ (l : List ℕ). writtenOf l b u) (p .buffer) ∙ ap (λ (n : ℕ). writtenOf (writtenOf x at t) n u) hb ∙ written-then x at t u hx;
     }
+
+-- nothing added is nothing changed, with room or without
+pub adds-none : (old : List ℕ) (at : ℕ) → Adds old at [] old at
+adds-none old at = record { place = after (roomFor old at []); buffer = same (roomFor old at []) }
+  where
+    after : (t : Bool) → at ≡ afterOf (cond t ((at + 0) ∷ []) []) at
+    after true = omega arith
+    after false = refl
+
+    same : (t : Bool) → old ≡ cond t (take at old ++ drop (at + 0) old) old
+    same true = sym (ap (λ (n : ℕ). take at old ++ drop n old) (add-zero at) ∙ take-append-drop at old)
+    same false = refl
+
+-- three texts
+pub adds-3 : {x y z p : List ℕ} {at a b c : ℕ} {t u v : List ℕ} → Adds x at t y a → Adds y a u z b → Adds z b v p c
+    → at + (length t + length u + length v) ≤ length x → Adds x at (t ++ (u ++ v)) p c
+adds-3 {x} {p = p} {at = at} {c = c} {t = t} {u = u} {v = v} first second third room =
+    let e = length-append t u in
+    subst (λ (l : List ℕ). Adds x at l p c) (append-assoc t u v) (adds-then (adds-then first second (omega arith)) third (omega arith))
 
 -- four texts
 pub adds-4 : {x y z p q : List ℕ} {at a b c d : ℕ} {t u v w : List ℕ} → Adds x at t y a → Adds y a u z b → Adds z b v p c → Adds p c w q d

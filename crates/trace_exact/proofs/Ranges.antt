@@ -1,7 +1,7 @@
 -- The trace of a position is never refused by TRACE: counts are of 64 squares, and no piece attacks more than 27, a queen's on an empty
 -- board: 64 · 27 = 1728. Of consistency nothing is used. Assumes nothing.
 use mathlib.Core.Path.{_≡_, refl, sym, ap, ap₂, _∙_}
-use mathlib.Core.Bool.{Bool, true, false, cond, _||_, _&&_}
+use mathlib.Core.Bool.{Bool, true, false, cond, _&&_}
 use mathlib.Core.List.{List, [], _∷_, _++_}
 use Prim.Native.Nat.{ℕ, zero, suc, _+_, _*_, _<_, _≤_}
 use native.Mathlib.Nat.{le-trans}
@@ -15,7 +15,7 @@ use Rattle.laws.specs.Sums.{counted}
 use Rattle.laws.proofs.Truth.{true-T, T-true, and-l, and-r}
 use Rattle.laws.proofs.Tests.{all-at, all-of}
 use Rattle.bits.specs.Bitboard.{has, digit, howMany, isIn, squares, board}
-use Rattle.bits.proofs.Counts.{many-le, many-same, many-none, alone-one}
+use Rattle.bits.proofs.Counts.{many-le, many-same, many-none, many-or, alone-one}
 use Rattle.bits.proofs.Lists.{has-board}
 use Rattle.bits.proofs.Members.{inside, inside-squares}
 use Rattle.bits.proofs.Squares.{squares-le}
@@ -30,15 +30,6 @@ use Rattle.trace.specs.Trace.{signOf, traceOf, entryAt, entriesOf}
 use Rattle.trace.proofs.Planes.{entries-at, entries-length}
 
 -- ---- a list has no more squares than it is long
-many-or : (n : ℕ) (f g : ℕ → Bool) → howMany n (λ k. f k || g k) ≤ howMany n f + howMany n g
-unfolding howMany
-many-or zero f g = omega arith
-many-or (suc n) f g = omega (arith, many-or n f g, bit (f n) (g n))
-  where
-    bit : (a b : Bool) → digit (a || b) ≤ digit a + digit b
-    bit true b = omega arith
-    bit false b = omega arith
-
 many-is : (n q : ℕ) → howMany n (λ k. eqb k q) ≤ 1
 many-is n q = alone-one n (λ k. eqb k q) (λ i j hi hj p r. eqb-true i q p ∙ sym (eqb-true j q r))
 

@@ -3,12 +3,8 @@ use mathlib.Core.Path.{_≡_, subst}
 use mathlib.Core.List.{List}
 use Prim.Native.Nat.{ℕ, _≤_}
 use lib.ListN.{length}
-use Rattle.ledger_finish.specs.Promises.{finishPaper, lastWrote}
-use Rattle.ledger_finish.specs.declared.Finished.{Finished}
-use Rattle.ledger_finish.specs.declared.Finished.the-variants as E
 use Rattle.sift_form.specs.declared.Form.{Form}
 use Rattle.store_rows.specs.declared.StoreSoFar.{StoreSoFar}
-use Rattle.store_finish.specs.Promises.{FinishesStore}
 use Rattle.store_sift.specs.Promises.{storeSifted, storeSiftedBytes, SiftsStore}
 use Rattle.store_sift.specs.declared.StoreSifted.{StoreSifted}
 use Rattle.store_sift.specs.declared.StoreSifted.the-variants as S
@@ -20,6 +16,3 @@ module _ {state : StoreSoFar} {form : Form} {piece chunk made rows : List ℕ} {
 
   pub rows-within : m ≤ length rows
   rows-within = subst (λ (q : StoreSifted). storeSiftedBytes (storeSifted q) .1 ≤ length rows) told (f .rowsWithin)
-
-pub told-within : {state : StoreSoFar} {out : List ℕ} {r : Finished} {out′ : List ℕ} → FinishesStore state out r out′ → (n : ℕ) → r ≡ E.Rows n → n ≤ length out
-told-within {out = out} f n told = subst (λ (q : Finished). lastWrote (finishPaper q) ≤ length out) told (f .within)

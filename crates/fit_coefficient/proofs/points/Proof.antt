@@ -1,7 +1,7 @@
 -- `fit_coefficient::points` meets its contract. Assumes nothing.
 use mir.Syntax.{w16}
 use mir.Facts.{toZ-ofZ}
-use Rattle.fit_root.proofs.Fields.{no-nan-here}
+use Rattle.laws.proofs.Nans.{is-no-nan}
 use Rattle.fit_coefficient.proofs.Scores.{at-nan, counted}
 use borrow.Author.Needs.{needs, sfits-of}
 use Rattle.fit_coefficient.proofs.points.Statement.{statement}
@@ -11,7 +11,7 @@ returns : tie.Need-returns
 returns c = at-nan (c .before .args .score) (c .if1 .taken)
 
 rounded-down-requires : tie.Need-rounded-down-requires
-rounded-down-requires c κs = no-nan-here (c .before .args .score) (c .if1 .left)
+rounded-down-requires c κs = is-no-nan (c .before .args .score) (c .if1 .left)
 
 expected-requires : tie.Need-expected-requires
 expected-requires c κs = search needs

@@ -1,8 +1,8 @@
 -- `fit_root::guess` is safe: no number that it makes of bits is a NaN. Assumes nothing.
 use borrow.Author.Needs.{needs}
 use native.Mathlib.Omega.{arith}
+use Rattle.laws.proofs.Nans.{is-no-nan}
 use Rattle.fit_root.proofs.Rounded.{no-nan}
-use Rattle.fit_root.proofs.Fields.{no-nan-here}
 use Rattle.fit_root.proofs.guess.Statement.{statement}
 use Rattle.fit_root.proofs.guess.Tie as tie
 
@@ -28,7 +28,7 @@ returns : tie.Need-returns
 returns c = search needs
 
 float-to-bits-wrapping-sub-u64 : tie.Need-float-to-bits-wrapping-sub-u64
-float-to-bits-wrapping-sub-u64 c = no-nan-here _ (c .if1 .left)
+float-to-bits-wrapping-sub-u64 c = is-no-nan _ (c .if1 .left)
 
 mul-wrapping-sub-u64 : tie.Need-mul-wrapping-sub-u64
 mul-wrapping-sub-u64 c = search needs

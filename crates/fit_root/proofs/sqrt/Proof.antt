@@ -4,7 +4,8 @@ use Prim.Native.Nat.{ℕ, suc, _/_, _-_, _^_}
 use native.Mathlib.Omega.{arith}
 use lib.Ieee.{binary64, fits}
 use lib.Dec.{T}
-use Rattle.fit_root.proofs.Fields.{Above, above, at-nan, at-zero, at-negative, no-nan-here, endless-root, field-below, root-small, root-large, digits-above}
+use Rattle.laws.proofs.Nans.{is-no-nan}
+use Rattle.fit_root.proofs.Fields.{Above, above, at-nan, at-zero, at-negative, endless-root, field-below, root-small, root-large, digits-above}
 use borrow.Author.Needs.{needs}
 use Rattle.fit_root.proofs.sqrt.Statement.{statement}
 use Rattle.fit_root.proofs.sqrt.Tie as tie
@@ -19,7 +20,7 @@ returns-3 : tie.Need-returns-3
 returns-3 c = at-negative _ (c .if3 .taken)
 
 float-to-bits-bits : tie.Need-float-to-bits-bits
-float-to-bits-bits c = no-nan-here _ (c .before .before .if1 .left)
+float-to-bits-bits c = is-no-nan _ (c .before .before .if1 .left)
 
 -- past the first three tests x is above zero
 positive : (c : tie.Else3) → Above (c .before .before .before .args .x)

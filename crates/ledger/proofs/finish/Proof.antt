@@ -3,7 +3,7 @@ use mathlib.Core.Path.{sym}
 use native.Mathlib.Omega.{arith}
 use lib.Seq.{length-take-le}
 use borrow.Author.Needs.{needs}
-use Rattle.ledger.proofs.Within.{last-within}
+use Rattle.ledger_finish.proofs.Within.{last-within}
 use Rattle.ledger.proofs.finish.Statement.{statement}
 use Rattle.ledger.proofs.finish.Tie as tie
 

@@ -3,7 +3,7 @@ use mathlib.Core.Path.{sym}
 use native.Mathlib.Omega.{arith}
 use lib.Seq.{length-take-le}
 use borrow.Author.Needs.{needs}
-use Rattle.store.proofs.Within.{last-within}
+use Rattle.store_finish.proofs.Within.{store-last-within}
 use Rattle.store.proofs.finish.Statement.{statement}
 use Rattle.store.proofs.finish.Tie as tie
 
@@ -14,10 +14,10 @@ enum-known-wrote : tie.Need-enum-known-wrote
 enum-known-wrote c = search needs
 
 slice-reshare-prefix-write : tie.Need-slice-reshare-prefix-write
-slice-reshare-prefix-write c = omega (arith, last-within (c .before .before .before .before .before .finish .ensures) _ (c .before .wrote .given .1), c .before .before .before .before .before .finish .kept)
+slice-reshare-prefix-write c = omega (arith, store-last-within (c .before .before .before .before .before .finish .ensures) _ (c .before .wrote .given .1), c .before .before .before .before .before .finish .kept)
 
 slice-aggregate-write : tie.Need-slice-aggregate-write
-slice-aggregate-write c = sym (length-take-le _ _ (omega (arith, last-within (c .before .before .before .before .before .before .finish .ensures) _ (c .before .before .wrote .given .1), c .before .before .before .before .before .before .finish .kept)))
+slice-aggregate-write c = sym (length-take-le _ _ (omega (arith, store-last-within (c .before .before .before .before .before .before .finish .ensures) _ (c .before .before .wrote .given .1), c .before .before .before .before .before .before .finish .kept)))
 
 write-requires : tie.Need-write-requires
 write-requires c κs = search needs

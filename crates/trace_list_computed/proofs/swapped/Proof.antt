@@ -7,7 +7,7 @@ use borrow.Author.Needs.{needs}
 use Rattle.bits.specs.Bitboard.{has}
 use Rattle.bits.proofs.Those.{is-those}
 use Rattle.attack_rays.specs.PrivateMirror.{partner}
-use Rattle.trace_list_computed.proofs.Flipped.{changed-at}
+use Rattle.attack_rays.proofs.Pairs.{changed-at}
 use Rattle.trace_list_computed.proofs.swapped.Statement.{statement}
 use Rattle.trace_list_computed.proofs.swapped.Tie as tie
 

@@ -2,7 +2,7 @@
 use mathlib.Core.Path.{sym}
 use native.Mathlib.Omega.{arith}
 use lib.Seq.{length-take-le}
-use Rattle.unpack.proofs.Within.{told-within}
+use Rattle.store_finish.proofs.Within.{store-last-within}
 use borrow.Author.Needs.{needs}
 use Rattle.unpack.proofs.finish.Statement.{statement}
 use Rattle.unpack.proofs.finish.Tie as tie
@@ -14,10 +14,10 @@ enum-known-told : tie.Need-enum-known-told
 enum-known-told c = search needs
 
 slice-reshare-prefix-tell : tie.Need-slice-reshare-prefix-tell
-slice-reshare-prefix-tell c = omega (arith, told-within (c .before .before .before .before .before .finish .ensures) _ (c .before .told .given .1), c .before .before .before .before .before .finish .kept)
+slice-reshare-prefix-tell c = omega (arith, store-last-within (c .before .before .before .before .before .finish .ensures) _ (c .before .told .given .1), c .before .before .before .before .before .finish .kept)
 
 slice-aggregate-tell : tie.Need-slice-aggregate-tell
-slice-aggregate-tell c = sym (length-take-le _ _ (omega (arith, told-within (c .before .before .before .before .before .before .finish .ensures) _ (c .before .before .told .given .1), c .before .before .before .before .before .before .finish .kept)))
+slice-aggregate-tell c = sym (length-take-le _ _ (omega (arith, store-last-within (c .before .before .before .before .before .before .finish .ensures) _ (c .before .before .told .given .1), c .before .before .before .before .before .before .finish .kept)))
 
 tell-requires : tie.Need-tell-requires
 tell-requires c κs = search needs

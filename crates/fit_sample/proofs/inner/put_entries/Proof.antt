@@ -4,7 +4,7 @@ use native.Mathlib.Omega.{arith}
 use borrow.Author.Needs.{needs}
 use denote.Ref.{now}
 use Rattle.text_out.proofs.Added.{adds-or}
-use Rattle.fit_sample.proofs.Parts.{adds-3}
+use Rattle.text_out.proofs.Added.{adds-3}
 use Rattle.fit_sample.proofs.inner.put_entries.Statement.{statement}
 use Rattle.fit_sample.proofs.inner.put_entries.Tie as tie
 

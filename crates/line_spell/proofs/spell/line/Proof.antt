@@ -2,7 +2,7 @@
 use native.Mathlib.Omega.{arith}
 use denote.Ref.{now}
 use Rattle.line_text.proofs.Lengths.{position-length, result-length}
-use Rattle.line_spell.proofs.Joined.{adds-3}
+use Rattle.text_out.proofs.Added.{adds-3}
 use borrow.Author.Needs.{needs}
 use Rattle.line_spell.proofs.spell.line.Statement.{statement}
 use Rattle.line_spell.proofs.spell.line.Tie as tie

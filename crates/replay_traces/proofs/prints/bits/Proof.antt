@@ -1,10 +1,6 @@
 -- `replay_traces::prints::bits` is safe and ends. Assumes nothing.
-use mathlib.Core.Path.{_≡_, sym, _∙_, subst}
-use mathlib.Core.Bool.{false, not}
-use lib.Dec.{T}
-use lib.Ieee.{Float, nan, inf, fin, isNan, ne}
-use lib.Ieee.Compare.{nan-differs}
 use borrow.Author.Needs.{needs}
+use Rattle.laws.proofs.Nans.{is-no-nan}
 use Rattle.replay_traces.proofs.prints.bits.Statement.{statement}
 use Rattle.replay_traces.proofs.prints.bits.Tie as tie
 
@@ -16,13 +12,6 @@ write-requires c κs = search needs
 
 returns : tie.Need-returns
 returns c = search needs
-
--- only a NaN differs from itself
-is-no-nan : (x : Float) → ne x x ≡ false → T (not (isNan x))
-unfolding isNan
-is-no-nan nan e = subst T (sym nan-differs ∙ e) tt
-is-no-nan (inf s) e = tt
-is-no-nan (fin s m e) h = tt
 
 float-to-bits-natural : tie.Need-float-to-bits-natural
 float-to-bits-natural c = is-no-nan (c .before .args .x) (c .if1 .left)

@@ -7,7 +7,8 @@ use Rattle.ledger_totals.proofs.Point.{after-room}
 use Rattle.store_text.specs.Board.{totalOf, mostOf, laid}
 use Rattle.store_text.specs.Page.{boardHead, squaresShown, boardEnd, boardText}
 use Rattle.store_text.specs.declared.page.Sums.{Sums}
-use Rattle.store_text.proofs.Laid.{adds-3, by-text, length-laid}
+use Rattle.text_out.proofs.Added.{adds-3}
+use Rattle.store_text.proofs.Laid.{by-text, length-laid}
 use Rattle.store_text.proofs.Fits.{length-head, length-squares, length-board-end}
 use borrow.Author.Needs.{needs}
 use Rattle.store_text.proofs.page.board.Statement.{statement}

@@ -4,7 +4,8 @@ use lib.ListN.{getD}
 use denote.Ref.{now}
 use Rattle.ledger_totals.proofs.Point.{after-room}
 use Rattle.store_text.specs.Page.{boardText, pageOf}
-use Rattle.store_text.proofs.Laid.{adds-3, length-laid}
+use Rattle.text_out.proofs.Added.{adds-3}
+use Rattle.store_text.proofs.Laid.{length-laid}
 use Rattle.store_text.proofs.Fits.{length-page-head, length-board, length-page-end}
 use borrow.Author.Needs.{needs}
 use Rattle.store_text.proofs.page.page.Statement.{statement}

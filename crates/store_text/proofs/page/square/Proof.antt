@@ -2,7 +2,7 @@
 use native.Mathlib.Omega.{arith}
 use Rattle.ledger_totals.proofs.Point.{after-room}
 use Rattle.store_text.specs.Page.{squareShown}
-use Rattle.store_text.proofs.Laid.{adds-3}
+use Rattle.text_out.proofs.Added.{adds-3}
 use Rattle.store_text.proofs.Fits.{length-before, length-square-word, length-row-end}
 use borrow.Author.Needs.{needs}
 use Rattle.store_text.proofs.page.square.Statement.{statement}

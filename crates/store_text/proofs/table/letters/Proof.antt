@@ -2,7 +2,8 @@
 use native.Mathlib.Omega.{arith}
 use Rattle.ledger_totals.proofs.Point.{after-room}
 use Rattle.store_text.specs.Table.{inColumn, fileWord, lettersRow}
-use Rattle.store_text.proofs.Laid.{adds-3, length-laid}
+use Rattle.text_out.proofs.Added.{adds-3}
+use Rattle.store_text.proofs.Laid.{length-laid}
 use Rattle.store_text.proofs.Fits.{length-files}
 use borrow.Author.Needs.{needs}
 use Rattle.store_text.proofs.table.letters.Statement.{statement}

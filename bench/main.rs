@@ -38,6 +38,7 @@ mod errors;
 mod fits;
 mod functions;
 mod ledger;
+mod many_lines;
 mod ours;
 mod processor;
 mod rays;
@@ -88,6 +89,7 @@ fn usage() -> ! {
     eprintln!("records LINES ROUNDS      so many lines read as text, beside their store read by number");
     eprintln!("summaries ROUNDS          a record added to stores of 1,000, 100,000 and 10,000,000");
     eprintln!("errors LINES ROUNDS       the sum of errors over so many lines, beside their ledger");
+    eprintln!("many LINES ROUNDS         so many lines scored and traced by the doors over a collection, and line by line");
     eprintln!("lines COUNT               a collection of so many lines on standard output");
     eprintln!("ours, theirs              a ledger of standard input; the peak of memory on standard error");
     std::process::exit(2)
@@ -110,6 +112,7 @@ fn main() -> io::Result<()> {
         ["records", count, rounds] => records::table(&drawn::lines(number(count)), number(rounds)),
         ["summaries", rounds] => summaries::table(number(rounds)),
         ["errors", count, rounds] => errors::table(&drawn::lines(number(count)), number(count), number(rounds)),
+        ["many", count, rounds] => many_lines::table(&drawn::lines(number(count)), number(count), number(rounds)),
         ["lines", count] => io::stdout().write_all(&drawn::lines(number(count)))?,
         ["ours"] => ledger::ours(io::stdin().lock(), output)?,
         ["theirs"] => ledger::theirs(BufReader::new(io::stdin().lock()), output)?,

@@ -52,12 +52,12 @@ onward-both loaded others ls ms =
     ∙ ap (λ (x : List ℕ). x ++ lastRow (loaded + others + length (ls ++ ms)) (loaded + loadedIn P.Any (ls ++ ms)) (others + refusedIn P.Any (ls ++ ms))) (sym (rows-both (loaded + others + 1) ls ms)))
 
 -- ---- the lines of the parts
-lines-part : (p s : List ℕ) → (isEmpty p || endsInLF p) ≡ true → linesOf (p ++ s) ≡ linesOf p ++ linesOf s
+pub lines-part : (p s : List ℕ) → (isEmpty p || endsInLF p) ≡ true → linesOf (p ++ s) ≡ linesOf p ++ linesOf s
 unfolding linesFrom endsInLF
 lines-part [] s e = refl
 lines-part (b ∷ p) s e = lines-both [] (b ∷ p) s e
 
-lines-joined : (p : List ℕ) (ps : List (List ℕ)) → atLineEnds (p ∷ ps) ≡ true → (linesOf (joined (p ∷ ps)) ≡ linesOf p ++ linesOf (joined ps)) × (atLineEnds ps ≡ true)
+pub lines-joined : (p : List ℕ) (ps : List (List ℕ)) → atLineEnds (p ∷ ps) ≡ true → (linesOf (joined (p ∷ ps)) ≡ linesOf p ++ linesOf (joined ps)) × (atLineEnds ps ≡ true)
 unfolding atLineEnds joined linesFrom
 lines-joined p [] e = (ap linesOf (append-nil p) ∙ sym (append-nil (linesOf p)), refl)
 lines-joined p (q ∷ qs) e = go (isEmpty p || endsInLF p) refl e
@@ -77,7 +77,7 @@ join-more : (part loaded others : ℕ) (t : List ℕ) (ts : List (List ℕ)) →
 unfolding joinFrom
 join-more part loaded others t ts = refl
 
-lines-none : linesOf (joined []) ≡ []
+pub lines-none : linesOf (joined []) ≡ []
 unfolding linesFrom joined
 lines-none = refl
 

@@ -57,7 +57,7 @@ pub records-are : (run : List ℕ) (n : ℕ) → recordsIn (summaryAfresh run n)
 records-are run n = summary-at run n 0 (omega arith) ∙ ones n
 
 -- what a record brings is 2 at most, where its half points are
-brings-2 : (bytes : List ℕ) (p : ℕ) → halfIn bytes ≤ 2 → recordBrings bytes p ≤ 2
+pub brings-2 : (bytes : List ℕ) (p : ℕ) → halfIn bytes ≤ 2 → recordBrings bytes p ≤ 2
 brings-2 bytes p h = go (eqb p 0) (eqb p 1) (eqb (codeIn bytes (countedSquare p)) (countedCode p))
   where
     go : (a b c : Bool) → cond a 1 (cond b (halfIn bytes) (cond c 1 0)) ≤ 2

@@ -10,5 +10,6 @@ pub chess-error-join : (totals : List ℕ) (others : ℕ) (more : List ℕ) (mor
     → ErrorsJoined totals others more moreOthers r t v → ErrorsJoined totals others more moreOthers s u w → (r ≡ s) × (t ≡ u) × (v ≡ w)
 chess-error-join totals others more moreOthers r s t u v w = doors
 
-pub chess-join-summary : (summary more : List ℕ) (r s : Code) (t u : List ℕ) → SummaryJoined summary more r t → SummaryJoined summary more s u → (r ≡ s) × (t ≡ u)
+pub chess-join-summary : (summary more : List ℕ) (r s : Code) (t u : List ℕ) → SummaryJoined summary more r t → SummaryJoined summary more s u
+    → (r ≡ s) × (t ≡ u)
 chess-join-summary summary more r s t u = door

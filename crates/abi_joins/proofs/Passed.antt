@@ -9,13 +9,14 @@ use Rattle.score_collection.specs.declared.Ended.{Ended}
 use Rattle.score_collection.specs.declared.Ended.the-variants as E
 use Rattle.score_joined.specs.Sums.{sumsJoined}
 use Rattle.score_joined.specs.Promises.{JoinsSums}
-use Rattle.store_record.specs.Promises.{storedPaper, isStored, placeAfter}
+use Rattle.store_record.specs.Promises.{storedPaper, placeAfter}
 use Rattle.store_record.specs.declared.Stored.{Stored}
 use Rattle.store_joined.specs.Summaries.{summariesJoined}
 use Rattle.store_joined.specs.Promises.{JoinsSummaries}
 use Rattle.abi_codes.specs.Codes.{answerNumber, lentAfter, asItIs}
 use Rattle.abi_codes.specs.declared.Code.{Code}
 use Rattle.abi_codes.proofs.Passed.{met, doors-passed}
+use Rattle.abi_stores.proofs.Passed.{stored-code}
 use Rattle.abi_errors.specs.Numbers.{totalsFrom, totalNumbers}
 use Rattle.abi_joins.specs.Promises.{ErrorsJoined, SummaryJoined}
 
@@ -28,10 +29,6 @@ errors-passed totals others more moreOthers e f p m h k l =
     doors-passed (met endedPaper (p ∙ ap₂ (λ (x y : Ended). sumsJoined (endedPaper x) (endedPaper y)) e f) m) h k l
 
 -- ---- two summaries
-stored-code : (a : Answer (List ℕ)) → answerNumber (isStored a) ≡ answerNumber a
-stored-code (given s) = refl
-stored-code (refused n v) = refl
-
 place-lent : (a : Answer (List ℕ)) (old : List ℕ) → placeAfter a old ≡ lentAfter asItIs old a
 place-lent (given s) old = refl
 place-lent (refused n v) old = refl

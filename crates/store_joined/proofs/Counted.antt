@@ -10,13 +10,9 @@ use Rattle.laws.proofs.Tables.{tabulate-same, tabulate-length}
 use Rattle.laws.proofs.Sums.{sum-same, sum-le}
 use Rattle.store_record.specs.Record.{halfIn, recordAt}
 use Rattle.store_counts.specs.Summary.{recordBrings, summaryAfresh, wrappedSum}
-use Rattle.store_totals.proofs.Kept.{summary-at, brings-2}
+use Rattle.store_totals.proofs.Kept.{brought, summary-at, brings-2}
 use Rattle.store_joined.specs.Summaries.{summaryOfBoth}
 use Rattle.store_joined.proofs.Pieces.{record-first, record-second}
-
--- what a record of a run brings to a place
-abbrev brought : List ℕ → ℕ → ℕ → ℕ
-brought run place i = recordBrings (recordAt run i) place
 
 -- the first n terms, and m more
 sum-both : (n m : ℕ) (f : ℕ → ℕ) → sumN (n + m) f ≡ sumN n f + sumN m (λ i. f (n + i))

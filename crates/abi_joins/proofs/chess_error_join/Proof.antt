@@ -28,14 +28,16 @@ returns : tie.Need-returns
 returns c =
     let k = c .before .before .before .before in
     let a = k .before .before .before .before .before .args in
-    errors-passed (now (a .totals)) (now (a .lines)) (now (a .more)) (a .others) (k .before .before .sum-of .ensures) (k .before .sum-of2 .ensures) (k .join .ensures)
+    errors-passed (now (a .totals)) (now (a .lines)) (now (a .more)) (a .others) (k .before .before .sum-of .ensures) (k .before .sum-of2 .ensures)
+    (k .join .ensures)
     (c .before .before .joined .given .1) refl refl refl
 
 returns-2 : tie.Need-returns-2
 returns-2 c =
     let k = c .before .before .before .before in
     let a = k .before .before .before .before .before .args in
-    errors-passed (now (a .totals)) (now (a .lines)) (now (a .more)) (a .others) (k .before .before .sum-of .ensures) (k .before .sum-of2 .ensures) (k .join .ensures)
+    errors-passed (now (a .totals)) (now (a .lines)) (now (a .more)) (a .others) (k .before .before .sum-of .ensures) (k .before .sum-of2 .ensures)
+    (k .join .ensures)
     (c .before .before .joined2 .given .1) (c .refused .ensures) refl refl
 
 pub chess-error-join-spec : {M : Type 1} → statement M

@@ -21,14 +21,22 @@ use Rattle.store_totals.specs.Totals.{emptySummary}
 use Rattle.store_totals.proofs.Kept.{records-are}
 use Rattle.store_gather.specs.Gather.{Gathered, gathered}
 use Rattle.store_gather.specs.declared.First.{First}
+use Rattle.store_gathered.specs.Calls.{gatherInput}
 use Rattle.store_gathered.specs.Gathered.{firstRefused, readBefore}
+use Rattle.store_gathered.proofs.Gathered.{whole}
 use Rattle.store_joined.specs.Summaries.{summaryOfBoth, summariesJoined}
-use Rattle.store_joined.specs.Parts.{toldUpTo, storeTold, firstAfter, toldAfter, storesTold, storesToldFrom, atRecordEnds}
+use Rattle.store_joined.specs.Parts.{toldBy, toldUpTo, storeTold, ToldByCalls, firstAfter, toldAfter, storesTold, storesToldFrom, atRecordEnds}
 use Rattle.store_joined.specs.Parts.{SummariesOfParts, SummariesOfTwo}
 use Rattle.store_joined.proofs.Pieces.{pieces-both}
 use Rattle.store_joined.proofs.Firsts.{noFirst, manyFirst, first-none, first-from, firsts-both, movedOn, at-most, first-moved}
 use Rattle.store_joined.proofs.Read.{all-read}
 use Rattle.store_joined.proofs.Counted.{afresh-770, afresh-first, afresh-both}
+
+-- ---- what is told by calls
+pub told-by-calls : ToldByCalls
+told-by-calls piece calls first last size made =
+    let w = whole piece calls first last size made in
+    ap (toldBy first) (w .afresh) ∙ ap (toldUpTo (gatherInput calls)) (w .told)
 
 -- ---- how many are read before a first one
 read-all : (store : List ℕ) (f : First) → f .number ≡ 0 → readBefore f store ≡ length store / 34
@@ -93,8 +101,8 @@ module _ (a b : List ℕ) (even : length a % 34 ≡ 0) where
 
   -- ---- none is
   module _ (none : fa .number ≡ 0) where
-    abbrev whole : Gathered
-    whole = gathered (summaryAfresh a k) 0 0
+    abbrev firstTold : Gathered
+    firstTold = gathered (summaryAfresh a k) 0 0
 
     read-k : readBefore fa a ≡ k
     read-k = read-all a fa none
@@ -105,7 +113,7 @@ module _ (a b : List ℕ) (even : length a % 34 ≡ 0) where
     halves : (i : ℕ) → i < k → halfIn (recordAt a i) ≤ 2
     halves = subst (λ (n : ℕ). (i : ℕ) → i < n → halfIn (recordAt a i) ≤ 2) read-k (all-read a .halves)
 
-    told-a : storeTold a ≡ given whole
+    told-a : storeTold a ≡ given firstTold
     told-a = ap (toldUpTo a) (first-none 1 (piecesOf a) (omega arith) none)
 
     first-moves : firstRefused 1 (piecesOf (a ++ b)) ≡ movedOn k past fb
@@ -166,7 +174,7 @@ module _ (a b : List ℕ) (even : length a % 34 ≡ 0) where
             sym (ap (λ (t : Bool). toldUpTo (a ++ b) (cond t (record { number = k + m + 1; refusal = fb .refusal }) manyFirst))
             (le-ltb (k + m + 1) 10000001 (omega arith)))
 
-    counted : toldAfter whole (given (gathered (summaryAfresh b m) (fb .number) (fb .refusal))) ≡ toldUpTo (a ++ b) (movedOn k past fb)
+    counted : toldAfter firstTold (given (gathered (summaryAfresh b m) (fb .number) (fb .refusal))) ≡ toldUpTo (a ++ b) (movedOn k past fb)
     counted = ap (firstAfter (gathered (summaryAfresh b m) (fb .number) (fb .refusal))) (sums a b k m) ∙ go (leb (k + m) 10000000) refl
       where
         go : (t : Bool) → leb (k + m) 10000000 ≡ t
@@ -178,7 +186,7 @@ module _ (a b : List ℕ) (even : length a % 34 ≡ 0) where
             ap (λ (x : List ℕ). firstAfter (gathered (summaryAfresh b m) (fb .number) (fb .refusal)) (given x)) (both-is h) ∙ within h (eqb (fb .number) 0) refl
 
     after : (t : Bool) → ltb (fb .number) 10000001 ≡ t
-        → toldAfter whole (orRefuse t R.Many (given (gathered (summaryAfresh b m) (fb .number) (fb .refusal)))) ≡ toldUpTo (a ++ b) (movedOn k past fb)
+        → toldAfter firstTold (orRefuse t R.Many (given (gathered (summaryAfresh b m) (fb .number) (fb .refusal)))) ≡ toldUpTo (a ++ b) (movedOn k past fb)
     after true e = counted
     after false e =
         let h = ltb-false (fb .number) 10000001 e in

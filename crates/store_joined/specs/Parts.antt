@@ -15,17 +15,26 @@ use Rattle.store_summary.specs.Promises.{recordsIn}
 use Rattle.store_totals.specs.Totals.{emptySummary}
 use Rattle.store_gather.specs.Gather.{Gathered, gathered}
 use Rattle.store_gather.specs.declared.First.{First}
+use Rattle.store_gathered.specs.Calls.{GatherCall, GatherCallsMade, gatherInput, freshGather}
 use Rattle.store_gathered.specs.Gathered.{firstRefused, readBefore}
 use Rattle.store_joined.specs.Summaries.{summariesJoined}
 
--- ---- what is told of a store, as store_gathered's claim has it: the first record that is refused, by its number from 1 and its refusal, and the summary
--- of those before it; no number where none is refused, and then of all. MANY where the first refused one is the 10,000,001st
+-- ---- what is told of a store: the first record that is refused, by its number from 1 and its refusal, and the summary of those before it; no number where
+-- none is refused. MANY where the first refused one is the 10,000,001st
+abbrev pub toldBy : First → List ℕ → Answer Gathered
+toldBy first summary = orRefuse (ltb (first .number) 10000001) R.Many (given (gathered summary (first .number) (first .refusal)))
+
 abbrev pub toldUpTo : List ℕ → First → Answer Gathered
-toldUpTo store first =
-    orRefuse (ltb (first .number) 10000001) R.Many (given (gathered (summaryAfresh store (readBefore first store)) (first .number) (first .refusal)))
+toldUpTo store first = toldBy first (summaryAfresh store (readBefore first store))
 
 abbrev pub storeTold : List ℕ → Answer Gathered
 storeTold store = toldUpTo store (firstRefused 1 (piecesOf store))
+
+-- it is what the calls of store_gather's `feed` and `finish` give, for every way the store is cut into chunks, whatever the piece buffer held
+abbrev pub ToldByCalls : Type 0
+ToldByCalls =
+    (piece : List ℕ) (calls : List GatherCall) (first : First) (last : List ℕ) → length piece ≡ 34
+    → GatherCallsMade freshGather piece emptySummary calls first last → toldBy first last ≡ storeTold (gatherInput calls)
 
 -- ---- two stores, of which the second follows the first
 -- its first refused record comes after all that are counted: MANY where it is the 10,000,001st

@@ -156,6 +156,9 @@ chess_code chess_replace_record(const uint64_t *bitboards, size_t bitboards_leng
                                 uint8_t half_points, uint64_t number, uint8_t *run, size_t run_length, uint64_t *summary,
                                 size_t summary_length);
 
+/* Adds the summary of another store, `more`, which does not overlap: the summary of both stores, one after another. SHAPE, MANY (more than 10,000,000 records). */
+chess_code chess_join_summary(uint64_t *summary, size_t summary_length, const uint64_t *more, size_t more_length);
+
 /* ---- scores: of a position for the side to move */
 
 /* The verdict: fewer than two kings in all is lost or won; fewer than four pieces and only kings, knights and bishops is drawn; else
@@ -356,6 +359,10 @@ chess_code chess_error_feed(uint64_t state[CHESS_ERROR_STATE], uint8_t *line, si
 /* The end of the input, which ends a last line that has no LF: the totals, and in `lines` how many were refused. SHAPE, MANY. */
 chess_code chess_error_end(const uint64_t state[CHESS_ERROR_STATE], const uint8_t *line, size_t line_length,
                            uint64_t totals[CHESS_ERROR_TOTALS], uint64_t *lines);
+
+/* Adds the sum over another part of a collection, its totals `more`, which do not overlap, and its refused lines `others`: the sum over both parts, where they
+ * were cut at a line end. MANY (the 1,000,001st line of a kind, or past 64 bits). */
+chess_code chess_error_join(uint64_t totals[CHESS_ERROR_TOTALS], uint64_t *lines, const uint64_t more[CHESS_ERROR_TOTALS], uint64_t others);
 
 #ifdef __cplusplus
 }

@@ -29,6 +29,7 @@ pub(crate) mod doors {
         pub fn chess_write_record(bitboards: *const u64, b: usize, board: *const u8, s: usize, state: State, half_points: u8, place: *mut u8, p: usize) -> Code;
         pub fn chess_add_record(bitboards: *const u64, b: usize, board: *const u8, s: usize, state: State, half_points: u8, run: *mut u8, n: usize, summary: *mut u64, m: usize) -> Code;
         pub fn chess_replace_record(bitboards: *const u64, b: usize, board: *const u8, s: usize, state: State, half_points: u8, number: u64, run: *mut u8, n: usize, summary: *mut u64, m: usize) -> Code;
+        pub fn chess_join_summary(summary: *mut u64, m: usize, more: *const u64, n: usize) -> Code;
         pub fn chess_eval_ending(bitboards: *const u64, b: usize, board: *const u8, s: usize, state: State, verdict: *mut u8) -> Code;
         pub fn chess_eval_material(bitboards: *const u64, b: usize, board: *const u8, s: usize, state: State, color: u8, material: *mut i16) -> Code;
         pub fn chess_eval(bitboards: *const u64, b: usize, board: *const u8, s: usize, state: State, verdict: *mut u8, score: *mut i16) -> Code;
@@ -58,6 +59,7 @@ pub(crate) mod doors {
         pub fn chess_error_add(totals: *mut u64, side: u8, some: bool, score: i16, half_points: u8) -> Code;
         pub fn chess_error_feed(state: *mut u64, line: *mut u8, l: usize, piece: *const u8, p: usize) -> Code;
         pub fn chess_error_end(state: *const u64, line: *const u8, l: usize, totals: *mut u64, lines: *mut u64) -> Code;
+        pub fn chess_error_join(totals: *mut u64, lines: *mut u64, more: *const u64, others: u64) -> Code;
     }
 }
 
@@ -992,6 +994,35 @@ impl CollectionError {
         let [scored, apart, sum] = numbers;
         Ok((Totals { scored, apart, sum }, refused))
     }
+}
+
+/// The sums over two parts of a collection that was cut at a line end, as [`CollectionError::end`] gives them: the sum over both. MANY.
+///
+/// ```
+/// let over = |part: &[u8]| {
+///     let mut error = chess_scores::CollectionError::new();
+///     error.feed(part);
+///     error.end()
+/// };
+/// let parts = [&b"4k3/8/8/8/8/8/4P3/4K3 w;1-0\n"[..], b"4k3/8/8/8/8/8/4P3/4K3 b;1/2-1/2\n4k3/8/8/8/8/8/4P3/4K3 b;1/2"];
+/// assert_eq!(chess_scores::join_errors(over(parts[0])?, over(parts[1])?), over(&parts.concat()));
+/// # Ok::<(), chess_scores::Refusal>(())
+/// ```
+pub fn join_errors(first: (Totals, u64), second: (Totals, u64)) -> Result<(Totals, u64), Refusal> {
+    let (mut numbers, mut refused) = ([first.0.scored, first.0.apart, first.0.sum], first.1);
+    let more = [second.0.scored, second.0.apart, second.0.sum];
+    // SAFETY: the pointers are those of arrays of three numbers, and none overlap.
+    let code = unsafe { doors::chess_error_join(numbers.as_mut_ptr(), &mut refused, more.as_ptr(), second.1) };
+    given(code, ())?;
+    let [scored, apart, sum] = numbers;
+    Ok((Totals { scored, apart, sum }, refused))
+}
+
+/// The summary of another store, added: that of both stores, one after another. A refusal changes nothing. SHAPE, MANY.
+pub fn join_summary(summary: &mut [u64], more: &[u64]) -> Result<(), Refusal> {
+    // SAFETY: the pointers are those of slices, with their lengths, and they do not overlap.
+    let code = unsafe { doors::chess_join_summary(summary.as_mut_ptr(), summary.len(), more.as_ptr(), more.len()) };
+    given(code, ())
 }
 
 /// A vector with room at its end, which goes as this does: only what was said to be written stays, after a panic too.

@@ -554,3 +554,61 @@ fn collections() {
     assert_eq!(codes.map(|code| code.number), [22, 1, 1]);
     assert_eq!((state, line, numbers, lines), ([0, 0, 0, 0, 0, 0, 1], [7; 256], [8; 3], 9));
 }
+
+#[test]
+fn parts_of_a_collection() {
+    let collection = b"4k3/8/8/8/8/8/4P3/4K3 w - - 0 1;1-0\n8/8/8/8/8/8/8/8 w;1/2-1/2\n4k3/8/8/8/8/8/4P3/4K3 b;1/2-1/2\r\n4k3/8/8/8/8/8/4P3/4K3 b;1/2";
+    let over = |part: &[u8]| {
+        let mut error = CollectionError::new();
+        error.feed(part);
+        error.end().unwrap()
+    };
+    // cut at the start, after each line, and at the end
+    let cuts = (0..=collection.len()).filter(|&cut| cut == 0 || cut == collection.len() || collection[cut - 1] == b'\n');
+    for cut in cuts {
+        let joined = join_errors(over(&collection[..cut]), over(&collection[cut..]));
+        assert_eq!(joined, Ok((Totals { scored: 2, apart: 1, sum: 131_662_932_545 }, 1)));
+    }
+    let part = |scored, apart, sum, refused| (Totals { scored, apart, sum }, refused);
+    assert_eq!(join_errors(part(600_000, 0, 1, 2), part(400_000, 1_000_000, 3, 4)), Ok(part(1_000_000, 1_000_000, 4, 6)));
+    assert_eq!(join_errors(part(600_000, 0, 0, 0), part(400_001, 0, 0, 0)), Err(Refusal::Many));
+    assert_eq!(join_errors(part(0, 1_000_000, 0, 0), part(0, 1, 0, 0)), Err(Refusal::Many));
+    assert_eq!(join_errors(part(1, 0, u64::MAX, 0), part(1, 0, 1, 0)), Err(Refusal::Many));
+    assert_eq!(join_errors(part(0, 0, 0, 1), part(0, 0, 0, u64::MAX)), Err(Refusal::Many));
+    // a refusal changes nothing
+    let (mut numbers, mut lines) = ([1, 2, 3], 4);
+    // SAFETY: the pointers are those of arrays of three numbers.
+    let code = unsafe { doors::chess_error_join(numbers.as_mut_ptr(), &mut lines, [1_000_000, 0, 0].as_ptr(), 5) };
+    assert_eq!((code.number, numbers, lines), (22, [1, 2, 3], 4));
+}
+
+#[test]
+fn parts_of_a_store() {
+    let pawn = position("8/8/8/8/8/8/8/P7 w");
+    let place = |code: usize, square: usize| 2 + 64 * (code - 2) + square;
+    let summary_of = |records: u8| {
+        let (mut run, mut summary) = (vec![0; RECORD * usize::from(records)], vec![0; SUMMARY]);
+        for _ in 0..records {
+            pawn.add_record(1, &mut run, &mut summary).unwrap();
+        }
+        summary
+    };
+    let mut summary = summary_of(2);
+    assert_eq!(join_summary(&mut summary, &summary_of(3)), Ok(()));
+    assert_eq!(summary, summary_of(5));
+    assert_eq!((summary[0], summary[1], summary[place(2, 0)]), (5, 5, 5));
+    // the 10,000,000th record and one more; other sizes; a summary that is not its store's wraps
+    let mut more = vec![0; SUMMARY];
+    more[0] = 9_999_995;
+    more[769] = u64::MAX;
+    summary[769] = 2;
+    let old = summary.clone();
+    assert_eq!(join_summary(&mut summary[1..], &more), Err(Refusal::Shape));
+    assert_eq!(join_summary(&mut summary, &more[1..]), Err(Refusal::Shape));
+    more[0] += 1;
+    assert_eq!(join_summary(&mut summary, &more), Err(Refusal::Many));
+    assert_eq!(summary, old);
+    more[0] -= 1;
+    assert_eq!(join_summary(&mut summary, &more), Ok(()));
+    assert_eq!((summary[0], summary[769]), (10_000_000, 1));
+}

@@ -13,7 +13,7 @@ use Rattle.abi_codes.specs.declared.Code.{Code}
 use Rattle.abi_codes.proofs.Passed.{met}
 use Rattle.abi_stores.specs.Promises.{RecordWritten}
 
-stored-code : (a : Answer (List ℕ)) → answerNumber (isStored a) ≡ answerNumber a
+pub stored-code : (a : Answer (List ℕ)) → answerNumber (isStored a) ≡ answerNumber a
 stored-code (given bytes) = refl
 stored-code (refused n v) = refl
 

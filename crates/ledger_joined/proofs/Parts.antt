@@ -1,9 +1,8 @@
--- The rows of a part, taken one after another, are those that the lines have in the whole. Assumes nothing.
+-- A row of a part is taken as the one that its line has in the whole, and the totals are taken as such. Assumes nothing.
 use mathlib.Core.Path.{_≡_, refl, sym, ap, ap₂, _∙_}
 use mathlib.Core.Bool.{Bool, true, false, cond, not, _&&_, _||_, false≢true}
 use mathlib.Core.List.{List, [], _∷_, _++_, append-assoc, append-nil}
 use Prim.Native.Nat.{ℕ, zero, suc, _+_, _-_, _/_, _%_, _<_, _≤_}
-use native.Mathlib.Nat.{add-zero}
 use native.Mathlib.Omega.{arith}
 use lib.Dec.{ltb, leb}
 use lib.ListN.{length, take, drop, length-append}
@@ -24,15 +23,12 @@ use Rattle.score_taper.specs.Parts.{in16}
 use Rattle.score_verdict.specs.Verdict.{Verdict, lost, won, drawn, none, verdictOf}
 use Rattle.score.specs.Score.{Outcome, verdict, score, verdictFirst, pointsBy, scoreBy, scoreOf}
 use Rattle.text_out.specs.Text.{digitsUpTo, decimalOf, signedOf}
-use Rattle.line_profile.specs.declared.Profile.the-variants as P
-use Rattle.ledger_row.proofs.Lengths.{row-32}
+use Rattle.ledger_row.proofs.Lengths.{answer-32}
 use Rattle.ledger_row.proofs.Rows.{score-short}
 use Rattle.ledger_row.specs.Row.{shownOf, spaced, loadedRow, refusedRow, rowOf, isLoaded}
 use Rattle.ledger_totals.specs.Totals.{lastRow}
 use Rattle.ledger_feed.specs.Machine.{tally}
-use Rattle.ledger_feed.proofs.Counted.{tally-both, loaded-more, refused-more}
-use Rattle.ledger_whole.specs.Ledger.{rowsFrom, loadedIn, refusedIn}
-use Rattle.ledger_whole.specs.Whole.{rowList, endsInLF}
+use Rattle.ledger_whole.specs.Whole.{endsInLF}
 use Rattle.ledger_joined_row.specs.Rows.{beginsWith, behindNumber, isNumber, isScore, isWord, isShown, saysRefused, saysLoaded, withoutLF, afterNumber, isRow}
 use Rattle.ledger_joined_row.proofs.Numbers.{same-self, number-own}
 use Rattle.ledger_join.specs.Join.{Checked, noLedger, checked, JoinedPart, withRow, partFrom}
@@ -130,15 +126,27 @@ half-kind (suc (suc (suc n))) s h e = absurd (no h)
     no : suc (suc (suc n)) < 3 → ⊥
     no q = omega arith
 
-kind : (l : List ℕ) (a : Answer Line) → lineOf l ≡ a → (saysRefused (tailOf a) ≡ not (isLoaded a)) × ((saysRefused (tailOf a) || saysLoaded (tailOf a)) ≡ true)
+-- ---- what is said of a line or a record: half points below 3, or a refusal's number
+pub record ForRow (a : Answer Line) : Type 0 where
+  pub half : (l : Line) → a ≡ given l → l .half < 3
+  pub from-1 : (n : ℕ) (v : List ℕ) → a ≡ refused n v → 1 ≤ n
+  pub two-digits : (n : ℕ) (v : List ℕ) → a ≡ refused n v → n < 100
+
+pub line-for-row : (l : List ℕ) → ForRow (lineOf l)
+line-for-row l = record {
+  half = λ x e. given-spells l x e .half;
+  from-1 = λ n v e. let h = refused-by l n v e in omega (arith, h .1);
+  two-digits = λ n v e. let h = refused-by l n v e in omega (arith, h .2);
+}
+
+kind : (a : Answer Line) → ForRow a → (saysRefused (tailOf a) ≡ not (isLoaded a)) × ((saysRefused (tailOf a) || saysLoaded (tailOf a)) ≡ true)
 unfolding tailOf
-kind l (given x) e =
-    let p = half-kind (x .half) (shownOf (scoreOf (bitboardsOf (x .board)) (x .state))) (given-spells l x e .half)
+kind (given x) s =
+    let p = half-kind (x .half) (shownOf (scoreOf (bitboardsOf (x .board)) (x .state))) (s .half x refl)
     (shown-own (scoreOf (bitboardsOf (x .board)) (x .state)) (score-16 (bitboardsOf (x .board)) (x .state)) (never-none (bitboardsOf (x .board)) (x .state))) in
     (p .0, ap₂ _||_ (p .0) (p .1))
-kind l (refused n v) e =
-    let h = refused-by l n v e in
-    let p = refused-own n (omega (arith, h .1)) (omega (arith, h .2)) in
+kind (refused n v) s =
+    let p = refused-own n (s .from-1 n v refl) (s .two-digits n v refl) in
     (p, ap (λ (b : Bool). b || saysLoaded (text "refused " ++ decimalOf n)) p)
 
 -- ---- one row more
@@ -185,16 +193,16 @@ ends-end : endsInLF (text "\n") ≡ true
 unfolding endsInLF
 ends-end = refl
 
-fits-own : (number : ℕ) (l : List ℕ) → isRow number (rowOf number (lineOf l)) ≡ true
-fits-own number l =
-    let a : Answer Line = lineOf l in
-    ap₂ _&&_ (le-leb (length (rowOf number a)) 32 (row-32 number l))
+fits-own : (number : ℕ) (a : Answer Line) → ForRow a → isRow number (rowOf number a) ≡ true
+fits-own number a s =
+    let short = answer-32 number a (λ n v e. s .two-digits n v (sym e)) (λ l e. let h = s .half l (sym e) in omega arith) in
+    ap₂ _&&_ (le-leb (length (rowOf number a)) 32 short)
     (ap₂ _&&_ (ap endsInLF (row-is number a) ∙ ends-after (spaced number) (tailOf a ++ text "\n") (ends-after (tailOf a) (text "\n") ends-end))
     (ap₂ _&&_ (ap (beginsWith (spaced number)) (row-is number a) ∙ begins-own (spaced number) (tailOf a ++ text "\n"))
-    (ap (λ (x : List ℕ). saysRefused x || saysLoaded x) (rest-own number a) ∙ kind l a refl .1)))
+    (ap (λ (x : List ℕ). saysRefused x || saysLoaded x) (rest-own number a) ∙ kind a s .1)))
 
-turned-own : (number : ℕ) (l : List ℕ) → saysRefused (afterNumber number (rowOf number (lineOf l))) ≡ not (isLoaded (lineOf l))
-turned-own number l = ap saysRefused (rest-own number (lineOf l)) ∙ kind l (lineOf l) refl .0
+turned-own : (number : ℕ) (a : Answer Line) → ForRow a → saysRefused (afterNumber number (rowOf number a)) ≡ not (isLoaded a)
+turned-own number a s = ap saysRefused (rest-own number a) ∙ kind a s .0
 
 step-own : (part before loaded others : ℕ) (rows : List (List ℕ)) (rest : List ℕ) (t : Bool)
     → step part before loaded others rows true rest (not t)
@@ -203,22 +211,20 @@ unfolding step
 step-own part before loaded others rows rest t =
     ap (λ (u : Bool). withRow (spaced (before + (loaded + others + 1)) ++ rest) (partFrom part before (tally loaded u) (tally others (not t)) rows)) (not-twice t)
 
-pub row-taken : (part before loaded others : ℕ) (l : List ℕ) (rows : List (List ℕ))
-    → partFrom part before loaded others (rowOf (loaded + others + 1) (lineOf l) ∷ rows)
-    ≡ withRow (rowOf (before + (loaded + others + 1)) (lineOf l))
-    (partFrom part before (tally loaded (isLoaded (lineOf l))) (tally others (not (isLoaded (lineOf l)))) rows)
-row-taken part before loaded others l rows =
+pub row-taken : (part before loaded others : ℕ) (a : Answer Line) (rows : List (List ℕ)) → ForRow a
+    → partFrom part before loaded others (rowOf (loaded + others + 1) a ∷ rows)
+    ≡ withRow (rowOf (before + (loaded + others + 1)) a) (partFrom part before (tally loaded (isLoaded a)) (tally others (not (isLoaded a))) rows)
+row-taken part before loaded others a rows s =
     let number : ℕ = loaded + others + 1 in
-    let a : Answer Line = lineOf l in
     let row : List ℕ = rowOf number a in
-    step-is part before loaded others row rows (fits-own number l)
-    ∙ ap (λ (b : Bool). step part before loaded others rows b (behindNumber number row) (saysRefused (afterNumber number row))) (fits-own number l)
-    ∙ ap (λ (b : Bool). step part before loaded others rows true (behindNumber number row) b) (turned-own number l)
+    step-is part before loaded others row rows (fits-own number a s)
+    ∙ ap (λ (b : Bool). step part before loaded others rows b (behindNumber number row) (saysRefused (afterNumber number row))) (fits-own number a s)
+    ∙ ap (λ (b : Bool). step part before loaded others rows true (behindNumber number row) b) (turned-own number a s)
     ∙ ap (λ (x : List ℕ). step part before loaded others rows true x (not (isLoaded a))) (behind-own number a)
     ∙ step-own part before loaded others rows (tailOf a ++ text "\n") (isLoaded a)
     ∙ ap (λ (x : List ℕ). withRow x (partFrom part before (tally loaded (isLoaded a)) (tally others (not (isLoaded a))) rows)) (sym (row-is (before + number) a))
 
--- ---- the totals, and all rows
+-- ---- the totals
 -- a number begins with a digit, and the totals with an `l`
 low : List ℕ → Bool
 low [] = false
@@ -280,55 +286,3 @@ unfolding lastRow
 last-ends lines loaded others =
     ends-after (text "lines " ++ decimalOf lines) ((text " loaded " ++ decimalOf loaded) ++ ((text " refused " ++ decimalOf others) ++ text "\n"))
     (ends-after (text " loaded " ++ decimalOf loaded) ((text " refused " ++ decimalOf others) ++ text "\n") (ends-after (text " refused " ++ decimalOf others) (text "\n") ends-end))
-
--- the part that lines make, after so many of the whole and of the part
-abbrev pub made : ℕ → ℕ → ℕ → List (List ℕ) → JoinedPart
-made before loaded others ls = record {
-  rows = rowsFrom P.Any (before + (loaded + others + 1)) ls;
-  loaded = loaded + loadedIn P.Any ls;
-  refused = others + refusedIn P.Any ls;
-}
-
--- the rows and the totals of a part, as they stand in its ledger
-unfoldable pub piecesOf : ℕ → ℕ → List (List ℕ) → List (List ℕ)
-piecesOf loaded others ls =
-    rowList P.Any (loaded + others + 1) ls ++ (lastRow (loaded + others + length ls) (loaded + loadedIn P.Any ls) (others + refusedIn P.Any ls) ∷ [])
-
-pieces-none : (loaded others : ℕ) → piecesOf loaded others [] ≡ lastRow (loaded + others) loaded others ∷ []
-unfolding piecesOf rowList loadedIn refusedIn
-pieces-none loaded others = rw (add-zero (loaded + others), add-zero loaded, add-zero others)
-
-pieces-more : (loaded others : ℕ) (l : List ℕ) (ls : List (List ℕ))
-    → piecesOf loaded others (l ∷ ls)
-    ≡ rowOf (loaded + others + 1) (lineOf l) ∷ piecesOf (tally loaded (isLoaded (lineOf l))) (tally others (not (isLoaded (lineOf l)))) ls
-unfolding piecesOf rowList loadedIn refusedIn
-pieces-more loaded others l ls =
-    let t : Bool = isLoaded (lineOf l) in
-    let both : tally loaded t + tally others (not t) ≡ loaded + others + 1 = tally-both t loaded others in
-    let many : loaded + others + 1 + length ls ≡ loaded + others + suc (length ls) = omega arith in
-    rw (both, many, loaded-more t loaded (loadedIn P.Any ls), refused-more t others (refusedIn P.Any ls))
-
-made-more : (before loaded others : ℕ) (l : List ℕ) (ls : List (List ℕ))
-    → withRow (rowOf (before + (loaded + others + 1)) (lineOf l)) (checked (made before (tally loaded (isLoaded (lineOf l))) (tally others (not (isLoaded (lineOf l)))) ls))
-    ≡ checked (made before loaded others (l ∷ ls))
-unfolding rowsFrom loadedIn refusedIn
-made-more before loaded others l ls =
-    let t : Bool = isLoaded (lineOf l) in
-    let both : tally loaded t + tally others (not t) ≡ loaded + others + 1 = tally-both t loaded others in
-    let on : before + (loaded + others + 1 + 1) ≡ before + (loaded + others + 1) + 1 = omega arith in
-    rw (both, on, loaded-more t loaded (loadedIn P.Any ls), refused-more t others (refusedIn P.Any ls))
-
-made-none : (before loaded others : ℕ) → checked (made before loaded others []) ≡ checked (record { rows = []; loaded = loaded; refused = others })
-unfolding rowsFrom loadedIn refusedIn
-made-none before loaded others = rw (add-zero loaded, add-zero others)
-
-pub rows-taken : (part before loaded others : ℕ) (ls : List (List ℕ)) → partFrom part before loaded others (piecesOf loaded others ls) ≡ checked (made before loaded others ls)
-rows-taken part before loaded others [] =
-    ap (partFrom part before loaded others) (pieces-none loaded others) ∙ last-taken part before loaded others ∙ sym (made-none before loaded others)
-rows-taken part before loaded others (l ∷ ls) =
-    let x : ℕ = tally loaded (isLoaded (lineOf l)) in
-    let y : ℕ = tally others (not (isLoaded (lineOf l))) in
-    ap (partFrom part before loaded others) (pieces-more loaded others l ls)
-    ∙ row-taken part before loaded others l (piecesOf x y ls)
-    ∙ ap (withRow (rowOf (before + (loaded + others + 1)) (lineOf l))) (rows-taken part before x y ls)
-    ∙ made-more before loaded others l ls

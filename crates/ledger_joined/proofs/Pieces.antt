@@ -1,4 +1,4 @@
--- A ledger cut after each LF is its rows and its totals. Assumes nothing.
+-- Each row of a ledger, and its totals, is one piece where the ledger is cut after each LF. Assumes nothing.
 use mathlib.Core.Path.{_≡_, refl, sym, ap, _∙_}
 use mathlib.Core.Bool.{Bool, true, false, cond, true≢false, _||_}
 use mathlib.Core.List.{List, [], _∷_, _++_, append-assoc, append-nil}
@@ -10,16 +10,14 @@ use borrow.Author.Tests.{eqb-true, ltb-true}
 use Rattle.refusal.specs.Answer.{Answer, given, refused}
 use Rattle.position_boards.specs.Boards.{bitboardsOf}
 use Rattle.text_in.specs.Text.{text, holds}
-use Rattle.line_parse.specs.Line.{Line, lineOf}
+use Rattle.line_parse.specs.Line.{Line}
 use Rattle.score_verdict.specs.Verdict.{lost, won, drawn, none}
 use Rattle.score.specs.Score.{Outcome, verdict, score, scoreOf}
 use Rattle.text_out.specs.Text.{digitsUpTo, decimalOf, signedOf}
-use Rattle.line_profile.specs.declared.Profile.the-variants as P
 use Rattle.ledger_row.specs.Row.{shownOf, spaced, loadedRow, refusedRow, rowOf}
 use Rattle.ledger_totals.specs.Totals.{lastRow}
 use Rattle.line_cut.specs.Lines.{lf}
-use Rattle.ledger_whole.specs.Ledger.{rowsFrom}
-use Rattle.ledger_whole.specs.Whole.{rowList, piecesFrom}
+use Rattle.ledger_whole.specs.Whole.{piecesFrom}
 
 -- ---- texts with no LF
 abbrev pub Plain : List ℕ → Type 0
@@ -140,15 +138,7 @@ last-piece lines loaded others =
     (after (text " loaded " ++ decimalOf loaded) ((text " refused " ++ decimalOf others) ++ text "\n") (named (text " loaded ") loaded loaded-plain)
     (after (text " refused " ++ decimalOf others) (text "\n") (named (text " refused ") others refused-plain) ended))
 
--- ---- the whole ledger
-pieces-end : (t : List ℕ) → OnePiece t → piecesFrom [] t ≡ t ∷ []
+-- ---- the last of a text
+pub pieces-end : (t : List ℕ) → OnePiece t → piecesFrom [] t ≡ t ∷ []
 unfolding piecesFrom
 pieces-end t p = ap (piecesFrom []) (sym (append-nil t)) ∙ p [] []
-
-pub pieces-rows : (number : ℕ) (ls : List (List ℕ)) (t : List ℕ) → OnePiece t → piecesFrom [] (rowsFrom P.Any number ls ++ t) ≡ rowList P.Any number ls ++ (t ∷ [])
-unfolding rowsFrom rowList
-pieces-rows number [] t p = pieces-end t p
-pieces-rows number (l ∷ ls) t p =
-    ap (piecesFrom []) (append-assoc (rowOf number (lineOf l)) (rowsFrom P.Any (number + 1) ls) t)
-    ∙ row-piece number (lineOf l) [] (rowsFrom P.Any (number + 1) ls ++ t)
-    ∙ ap (λ (x : List (List ℕ)). rowOf number (lineOf l) ∷ x) (pieces-rows (number + 1) ls t p)

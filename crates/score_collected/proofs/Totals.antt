@@ -27,7 +27,7 @@ use Rattle.score_collection.specs.declared.Sum.{Sum}
 use Rattle.score_collected.specs.Collected.{shownBefore, shownIn, collectionTotals}
 
 -- ---- what a loaded line shows is in range
-all-shaped : (ls : List (List ℕ)) → wellLoaded (shownIn ls) ≡ true
+pub all-shaped : (ls : List (List ℕ)) → wellLoaded (shownIn ls) ≡ true
 unfolding wellLoaded shownIn
 all-shaped [] = refl
 all-shaped (l ∷ ls) = go (lineOf l) refl (all-shaped ls)

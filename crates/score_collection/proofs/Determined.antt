@@ -25,11 +25,11 @@ piece-back : (r : Piece) → pieceFrom (piecePaper r) ≡ r
 piece-back (T.Lines g) = refl
 piece-back (T.Refused r) = ap T.Refused (number-back r)
 
-abbrev endedFrom : Answer (Totals × ℕ) → Ended
+abbrev pub endedFrom : Answer (Totals × ℕ) → Ended
 endedFrom (given p) = E.Sum (p .0) (p .1)
 endedFrom (refused n l) = E.Refused (ofNumber n l)
 
-ended-back : (r : Ended) → endedFrom (endedPaper r) ≡ r
+pub ended-back : (r : Ended) → endedFrom (endedPaper r) ≡ r
 ended-back (E.Sum totals lines) = refl
 ended-back (E.Refused r) = ap E.Refused (number-back r)
 

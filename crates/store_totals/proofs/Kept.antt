@@ -46,18 +46,19 @@ ones zero = refl
 ones (suc n) = ap (λ (m : ℕ). m + 1) (ones n) ∙ add-one n
 
 -- ---- the summary of a store
-abbrev pub at : List ℕ → ℕ → ℕ → ℕ
-at run p i = recordBrings (recordAt run i) p
+-- what a record of a run brings to a place
+abbrev pub brought : List ℕ → ℕ → ℕ → ℕ
+brought run p i = recordBrings (recordAt run i) p
 
-pub summary-at : (run : List ℕ) (n p : ℕ) → p < 770 → getD (summaryAfresh run n) p 0 ≡ sumN n (at run p)
+pub summary-at : (run : List ℕ) (n p : ℕ) → p < 770 → getD (summaryAfresh run n) p 0 ≡ sumN n (brought run p)
 unfolding summaryAfresh
-summary-at run n p h = entry 770 (λ place. sumN n (at run place)) 0 p h
+summary-at run n p h = entry 770 (λ place. sumN n (brought run place)) 0 p h
 
 pub records-are : (run : List ℕ) (n : ℕ) → recordsIn (summaryAfresh run n) ≡ n
 records-are run n = summary-at run n 0 (omega arith) ∙ ones n
 
 -- what a record brings is 2 at most, where its half points are
-brings-2 : (bytes : List ℕ) (p : ℕ) → halfIn bytes ≤ 2 → recordBrings bytes p ≤ 2
+pub brings-2 : (bytes : List ℕ) (p : ℕ) → halfIn bytes ≤ 2 → recordBrings bytes p ≤ 2
 brings-2 bytes p h = go (eqb p 0) (eqb p 1) (eqb (codeIn bytes (countedSquare p)) (countedCode p))
   where
     go : (a b c : Bool) → cond a 1 (cond b (halfIn bytes) (cond c 1 0)) ≤ 2
@@ -88,8 +89,8 @@ pub kept-none : (run : List ℕ) → KeptAfresh run emptySummary
 unfolding summaryAfresh tabulate sumN
 kept-none run = record { n = 0; is = refl; few = omega arith; fits = omega arith; halves = λ i h. absurd (omega arith) }
 
-small : (n : ℕ) (run : List ℕ) → n ≤ 10000000 → ((i : ℕ) → i < n → halfIn (recordAt run i) ≤ 2) → (p : ℕ) → sumN n (at run p) < 2 ^ 64
-small n run few halves p = let s : sumN n (at run p) ≤ 2 * n = sum-le n 2 (at run p) (λ i h. brings-2 (recordAt run i) p (halves i h)) in omega arith
+small : (n : ℕ) (run : List ℕ) → n ≤ 10000000 → ((i : ℕ) → i < n → halfIn (recordAt run i) ≤ 2) → (p : ℕ) → sumN n (brought run p) < 2 ^ 64
+small n run few halves p = let s : sumN n (brought run p) ≤ 2 * n = sum-le n 2 (brought run p) (λ i h. brings-2 (recordAt run i) p (halves i h)) in omega arith
 
 module _ (run summary : List ℕ) (k : KeptAfresh run summary) (bytes : List ℕ) (size : length bytes ≡ 34) (half : halfIn bytes ≤ 2) where
   -- a record more
@@ -115,18 +116,18 @@ module _ (run summary : List ℕ) (k : KeptAfresh run summary) (bytes : List ℕ
               let q : i ≡ k .n = (let l = ltb-false i (k .n) e in omega arith) in
               subst (λ (r : List ℕ). halfIn r ≤ 2) (sym (ap (recordAt (withRecord run (k .n) bytes)) q ∙ record-new run (k .n) bytes room size)) half
 
-      place : (p : ℕ) → p < 770 → (getD summary p 0 + movedBy 1 (halfIn bytes) bytes p) % 2 ^ 64 ≡ sumN (k .n + 1) (at (withRecord run (k .n) bytes) p)
+      place : (p : ℕ) → p < 770 → (getD summary p 0 + movedBy 1 (halfIn bytes) bytes p) % 2 ^ 64 ≡ sumN (k .n + 1) (brought (withRecord run (k .n) bytes) p)
       place p h =
-          let f = sum-same (k .n) (at run p) (at (withRecord run (k .n) bytes) p) (λ i l. ap (λ (r : List ℕ). recordBrings r p) (sym (old-records i l))) in
-          let g : at (withRecord run (k .n) bytes) p (k .n) ≡ recordBrings bytes p = ap (λ (r : List ℕ). recordBrings r p) (record-new run (k .n) bytes room size) in
-          let e : getD summary p 0 ≡ sumN (k .n) (at run p) = ap (λ (s : List ℕ). getD s p 0) (k .is) ∙ summary-at run (k .n) p h in
-          let m = sum-more (at (withRecord run (k .n) bytes) p) (k .n) in
+          let f = sum-same (k .n) (brought run p) (brought (withRecord run (k .n) bytes) p) (λ i l. ap (λ (r : List ℕ). recordBrings r p) (sym (old-records i l))) in
+          let g : brought (withRecord run (k .n) bytes) p (k .n) ≡ recordBrings bytes p = ap (λ (r : List ℕ). recordBrings r p) (record-new run (k .n) bytes room size) in
+          let e : getD summary p 0 ≡ sumN (k .n) (brought run p) = ap (λ (s : List ℕ). getD s p 0) (k .is) ∙ summary-at run (k .n) p h in
+          let m = sum-more (brought (withRecord run (k .n) bytes) p) (k .n) in
           let t = small (k .n + 1) (withRecord run (k .n) bytes) (omega arith) halves p in
-          let w : getD summary p 0 + recordBrings bytes p ≡ sumN (k .n + 1) (at (withRecord run (k .n) bytes) p) = omega arith in
+          let w : getD summary p 0 + recordBrings bytes p ≡ sumN (k .n + 1) (brought (withRecord run (k .n) bytes) p) = omega arith in
           ap (λ (x : ℕ). x % 2 ^ 64) w ∙ mod-eq-of-lt t
 
       there : summaryMore summary bytes ≡ summaryAfresh (withRecord run (k .n) bytes) (k .n + 1)
-      there = tabulate-same 770 (λ p. (getD summary p 0 + movedBy 1 (halfIn bytes) bytes p) % 2 ^ 64) (λ p. sumN (k .n + 1) (at (withRecord run (k .n) bytes) p)) place
+      there = tabulate-same 770 (λ p. (getD summary p 0 + movedBy 1 (halfIn bytes) bytes p) % 2 ^ 64) (λ p. sumN (k .n + 1) (brought (withRecord run (k .n) bytes) p)) place
 
   -- another record
   pub kept-replaced : (number : ℕ) → number < k .n → KeptAfresh (withRecord run number bytes) (summaryMore (summaryLess summary (recordAt run number)) bytes)
@@ -156,20 +157,20 @@ module _ (run summary : List ℕ) (k : KeptAfresh run summary) (bytes : List ℕ
       wrapped s o c s′ e u v = omega arith
 
       place : (p : ℕ) → p < 770
-          → (getD (summaryLess summary (recordAt run number)) p 0 + movedBy 1 (halfIn bytes) bytes p) % 2 ^ 64 ≡ sumN (k .n) (at (withRecord run number bytes) p)
+          → (getD (summaryLess summary (recordAt run number)) p 0 + movedBy 1 (halfIn bytes) bytes p) % 2 ^ 64 ≡ sumN (k .n) (brought (withRecord run number bytes) p)
       place p h =
           let old : List ℕ = recordAt run number in
-          let f = sum-changed (k .n) number (at run p) (at (withRecord run number bytes) p) l (λ i m o. ap (λ (r : List ℕ). recordBrings r p) (sym (others i m o))) in
-          let g : at (withRecord run number bytes) p number ≡ recordBrings bytes p = ap (λ (r : List ℕ). recordBrings r p) (record-new run number bytes room size) in
-          let e : getD summary p 0 ≡ sumN (k .n) (at run p) = ap (λ (s : List ℕ). getD s p 0) (k .is) ∙ summary-at run (k .n) p h in
+          let f = sum-changed (k .n) number (brought run p) (brought (withRecord run number bytes) p) l (λ i m o. ap (λ (r : List ℕ). recordBrings r p) (sym (others i m o))) in
+          let g : brought (withRecord run number bytes) p number ≡ recordBrings bytes p = ap (λ (r : List ℕ). recordBrings r p) (record-new run number bytes room size) in
+          let e : getD summary p 0 ≡ sumN (k .n) (brought run p) = ap (λ (s : List ℕ). getD s p 0) (k .is) ∙ summary-at run (k .n) p h in
           let t = small (k .n) (withRecord run number bytes) (k .few) halves p in
           let b = brings-2 old p (k .halves number l) in
           ap (λ (x : ℕ). (x + recordBrings bytes p) % 2 ^ 64)
           (entry 770 (λ q. (getD summary q 0 + movedBy (wrapsOff 1) (wrapsOff (halfIn old)) old q) % 2 ^ 64) 0 p h
           ∙ ap (λ (x : ℕ). (getD summary p 0 + x) % 2 ^ 64) (less-brought old p))
-          ∙ wrapped (getD summary p 0) (recordBrings old p) (recordBrings bytes p) (sumN (k .n) (at (withRecord run number bytes) p)) (omega arith) b t
+          ∙ wrapped (getD summary p 0) (recordBrings old p) (recordBrings bytes p) (sumN (k .n) (brought (withRecord run number bytes) p)) (omega arith) b t
 
       there : summaryMore (summaryLess summary (recordAt run number)) bytes ≡ summaryAfresh (withRecord run number bytes) (k .n)
       there =
           tabulate-same 770 (λ p. (getD (summaryLess summary (recordAt run number)) p 0 + movedBy 1 (halfIn bytes) bytes p) % 2 ^ 64)
-          (λ p. sumN (k .n) (at (withRecord run number bytes) p)) place
+          (λ p. sumN (k .n) (brought (withRecord run number bytes) p)) place

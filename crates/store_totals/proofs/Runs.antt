@@ -14,7 +14,7 @@ use Rattle.store_summary.specs.Promises.{withRecord}
 use Rattle.store_summary.proofs.Keeping.{record-size}
 
 -- ---- a record's bytes are the run's
-record-byte : (run : List ℕ) (i j : ℕ) → j < 34 → getD (recordAt run i) j 0 ≡ getD run (34 * i + j) 0
+pub record-byte : (run : List ℕ) (i j : ℕ) → j < 34 → getD (recordAt run i) j 0 ≡ getD run (34 * i + j) 0
 record-byte run i j h = getD-take 34 (drop (34 * i) run) j 0 h ∙ getD-drop (34 * i) run j 0
 
 module _ (run : List ℕ) (number : ℕ) (bytes : List ℕ) (there : number < length run / 34) (size : length bytes ≡ 34) where

@@ -23,7 +23,7 @@ use Rattle.store_record.proofs.Records.{record-34, record-half}
 use Rattle.store_counts.specs.Summary.{countPlace, countedCode, countedSquare, recordBrings, summaryAfresh, summaryMore, summaryLess}
 use Rattle.store_summary.specs.Promises.{Store, recordsIn, withRecord, ifGiven, blank, withNew, addNew, addOf, replaceOld, replaceOf, KeepsStore}
 use Rattle.store_totals.specs.Totals.{SummaryCall, adding, replacing, Calls, emptySummary, piecesIn, FromEmpty}
-use Rattle.store_totals.proofs.Kept.{KeptAfresh, at, summary-at, records-are, kept-none, kept-added, kept-replaced}
+use Rattle.store_totals.proofs.Kept.{KeptAfresh, brought, summary-at, records-are, kept-none, kept-added, kept-replaced}
 
 -- ---- a call
 -- what a call leaves, where what it gives keeps what it was given
@@ -143,7 +143,7 @@ pieces : (run : List ℕ) (records code : ℕ) → 2 ≤ code → code ≤ 13
 pieces run records code l u =
     sum-same 64 (λ k. getD (summaryAfresh run records) (countPlace code k) 0) (λ k. sumN records (λ i. cond (eqb (codeIn (recordAt run i) k) code) 1 0))
     (λ k h. summary-at run records (countPlace code k) (omega arith)
-    ∙ sum-same records (at run (countPlace code k)) (λ i. cond (eqb (codeIn (recordAt run i) k) code) 1 0) (λ i m. one-piece (recordAt run i) k h l))
+    ∙ sum-same records (brought run (countPlace code k)) (λ i. cond (eqb (codeIn (recordAt run i) k) code) 1 0) (λ i m. one-piece (recordAt run i) k h l))
     ∙ sum-swap 64 records (λ i k. cond (eqb (codeIn (recordAt run i) k) code) 1 0)
     ∙ sum-same records (λ i. sumN 64 (λ k. cond (eqb (codeIn (recordAt run i) k) code) 1 0)) (λ i. piecesIn code (recordAt run i)) (λ i m. counts 64 (λ k. eqb (codeIn (recordAt run i) k) code))
   where

@@ -4,13 +4,13 @@
 # `$ ` stands a command, and up to the next one what it prints. What comments before a block say:
 #   <!-- with NAME = FILE, .. -->     files that it needs, copied from the repository
 #   <!-- needs COMMAND -->            it is run where the command is there
-#   <!-- not run: WHY -->             it is not run; <!-- not run WORDS: WHY --> is said of a line of it that begins so
+#   <!-- not run: WHY -->             it is not run; <!-- not run WORDS: WHY --> is said of its lines that have these words
 
 function tell(text) { print text > (folder "/" block) }
 
 function begins_commands(line) {
     return line ~ /^(\$ |(bin|\.ci|oracle|include|bench)\/[a-z])/ ||
-        line ~ /^(awk|cat|cc|cmp|cp|echo|head|ls|parallel|pgn-extract|rt|rustc|sed|sha256sum|sort|split|wc|xxd) /
+        line ~ /^(awk|cat|cc|cmp|cp|echo|for|head|ls|parallel|pgn-extract|rt|rustc|sed|sha256sum|sort|split|wc|xxd) /
 }
 
 function begin(line) {
@@ -20,17 +20,17 @@ function begin(line) {
     tell("page " page ":" FNR)
     if (with != "") tell("with " with)
     if (needs != "") tell("needs " needs)
-    if (why != "" && prefix == "") tell("not run: " why)
+    if (whole != "") tell("not run: " whole)
     shows = line ~ /^\$ /
     item = 0
 }
 
-function add(line) {
+function add(line,    k) {
     if (!within) return
-    if (prefix != "" && index(line, prefix) == 1) {
+    for (k = 1; k <= marks; k++) if (index(line, words[k])) {
         sub(/ +#.*/, "", line)
-        tell("line not run: " line " (" why ")")
-        met = 1
+        tell("line not run: " line " (" why[k] ")")
+        met[k] = 1
         return
     }
     if (shows && sub(/^\$ /, "", line)) {
@@ -41,11 +41,11 @@ function add(line) {
     else print line > (folder "/" block ".script")
 }
 
-function forget() { with = needs = why = prefix = ""; met = 0 }
+function forget(    k) { with = needs = whole = ""; for (k = 1; k <= marks; k++) met[k] = 0; marks = 0 }
 
 # A comment that is said of nothing is a fault.
-function end() {
-    if (within && prefix != "" && !met) { print page ":" FNR ": no line begins with " prefix; faults++ }
+function end(    k) {
+    if (within) for (k = 1; k <= marks; k++) if (!met[k]) { print page ":" FNR ": no line has " words[k]; faults++ }
     if (within) forget()
     within = in_block = 0
 }
@@ -54,11 +54,13 @@ function said(text) { if (in_block) end(); blank = 0; open_place = 1; sub(/ -->$
 
 /^<!-- with .* -->$/ { with = said(substr($0, 11)); next }
 /^<!-- needs .* -->$/ { needs = said(substr($0, 12)); next }
-/^<!-- not run.*: .* -->$/ {
-    why = prefix = said(substr($0, 13))
-    sub(/^[^:]*: /, "", why)
-    sub(/: .*$/, "", prefix)
-    sub(/^ /, "", prefix)
+/^<!-- not run: .* -->$/ { whole = said(substr($0, 15)); next }
+/^<!-- not run .*: .* -->$/ {
+    text = said(substr($0, 14))
+    marks++
+    words[marks] = why[marks] = text
+    sub(/: .*$/, "", words[marks])
+    why[marks] = substr(text, length(words[marks]) + 3)
     next
 }
 /^    / && (in_block || open_place) {
@@ -73,6 +75,6 @@ function said(text) { if (in_block) end(); blank = 0; open_place = 1; sub(/ -->$
 {
     blank = open_place = 0
     if (in_block) end()
-    if (with needs why != "") { print page ":" FNR ": a comment on commands, and none follow"; faults++; forget() }
+    if (with needs whole != "" || marks) { print page ":" FNR ": a comment on commands, and none follow"; faults++; forget() }
 }
 END { if (in_block) end(); exit faults > 0 }

@@ -57,13 +57,15 @@ macro_rules! line {
     };
 }
 
-/// The empty part, which is all that it gives of a refused line, and exactly of one; the number is the reader's.
+/// The empty part, which is all that it gives of a refused line, and exactly of one; the number is the reader's. 253 stands for anything else.
 fn field(x: &mut Input) -> Code {
     let line = x.line();
-    match read_line(&line) {
-        Err(refusal) if position_field(&line).is_empty() => Code { number: refusal.number(), square: NO_SQUARE },
-        _ => Code { number: 0, square: if position_field(&line).is_empty() { 0 } else { NO_SQUARE } },
-    }
+    let number = match (read_line(&line), position_field(&line).is_empty()) {
+        (Err(refusal), true) => refusal.number(),
+        (Ok(_), false) => 0,
+        _ => 253,
+    };
+    Code { number, square: NO_SQUARE }
 }
 
 fn lines() -> Vec<Door> {

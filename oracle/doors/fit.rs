@@ -37,7 +37,8 @@ thread_local! {
     static FITTING: RefCell<Fitting> = RefCell::new(Fitting::new());
 }
 
-fn said(x: f64) -> String {
+/// The bits of a double; a NaN is a NaN, whatever its bits.
+pub fn said(x: f64) -> String {
     if x.is_nan() { "nan".to_string() } else { x.to_bits().to_string() }
 }
 
@@ -63,6 +64,7 @@ pub fn answer(word: &str, n: &[u64], trace: Option<Trace>) -> Result<String, Ref
         ("fit", _) => done(*fitting = Fitting::new()),
         ("put", _) => done(fitting.put(n[0], n[1] as usize, f64::from_bits(n[2]))),
         ("line", Some(trace)) => done(trace.add_gradient(f64::from_bits(n[0]), &mut fitting.gradient)?),
+        ("list_line", Some(trace)) => done(trace.list()?.add_gradient(f64::from_bits(n[0]), &mut fitting.gradient)?),
         ("odd_line", Some(mut trace)) => {
             (trace.entries[0], trace.piece_count) = (small(n[1]), small(n[2]));
             done(trace.add_gradient(f64::from_bits(n[0]), &mut fitting.gradient)?)

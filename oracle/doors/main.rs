@@ -11,7 +11,7 @@ mod seeded;
 #[path = "../harness/weight.rs"]
 mod weight;
 
-use chess_scores::{piece_attacks, read_line, Ledger, Outcome, Position, Refusal, Trace, Verdict};
+use chess_scores::{piece_attacks, read_line, read_record, table_coefficient, Ledger, Mode, Outcome, Position, Refusal, State, Trace, TraceList, Verdict};
 use std::io::{self, BufRead, BufWriter, Read, Write};
 
 type Answer = Result<String, Refusal>;
@@ -70,10 +70,12 @@ fn trace(trace: &Trace) -> String {
     parts.join(" ")
 }
 
-/// The bits of the double; a NaN is a NaN, whatever its bits.
 fn double(kind: u8, seed: u64, trace: &Trace) -> Answer {
-    let value = trace.eval(&seeded::weights(kind, seed))?;
-    Ok(if value.is_nan() { "nan".to_string() } else { value.to_bits().to_string() })
+    Ok(fit::said(trace.eval(&seeded::weights(kind, seed))?))
+}
+
+fn list_double(kind: u8, seed: u64, list: &TraceList) -> Answer {
+    Ok(fit::said(list.eval(&seeded::weights(kind, seed))?))
 }
 
 fn bent(asked: &Question) -> Answer {
@@ -83,15 +85,50 @@ fn bent(asked: &Question) -> Answer {
     outcome(position)
 }
 
-fn odd(asked: &Question) -> Answer {
+/// The position in a state of its own: rights are a sum of 1 K, 2 Q, 4 k, 8 q.
+fn in_state(asked: &Question) -> Answer {
+    let (mut position, rights, counter) = (asked.position()?, asked.byte(1), |place: usize| asked.numbers[place].parse().expect("a counter"));
+    position.state = State {
+        side: asked.byte(0),
+        white_short: rights & 1 != 0,
+        white_long: rights & 2 != 0,
+        black_short: rights & 4 != 0,
+        black_long: rights & 8 != 0,
+        passant: asked.byte(2),
+        halfmoves: counter(3),
+        moves: counter(4),
+    };
+    outcome(position)
+}
+
+fn odd(asked: &Question) -> Trace {
     let mut trace = seeded::trace(asked.bitboard(4));
     *seeded::numbers(&mut trace).swap_remove(asked.bitboard(0) as usize) = asked.numbers[1].parse().expect("a number");
-    double(asked.byte(2), asked.bitboard(3), &trace)
+    trace
+}
+
+/// A record's side, half points and 64 codes.
+fn stored(number: u64, run: &[u8]) -> Answer {
+    let (position, half_points) = read_record(run, number)?;
+    let codes: String = position.board.iter().map(|code| format!("{code:x}")).collect();
+    assert_eq!(position.state, State::of_side(position.state.side), "a record has a side alone");
+    Ok(format!("{} {half_points} {codes}", position.state.side))
+}
+
+fn weigh(asked: &Question) -> Answer {
+    let (expected, coefficient) = table_coefficient(f64::from_bits(asked.bitboard(0)), asked.byte(1), f64::from_bits(asked.bitboard(2)), asked.bitboard(3))?;
+    Ok(format!("{} {}", fit::said(expected), fit::said(coefficient)))
 }
 
 /// The six digits of an order, one a kind.
 fn order(digits: u64) -> [u8; 6] {
     std::array::from_fn(|place| (digits / 10_u64.pow(5 - place as u32) % 10) as u8)
+}
+
+fn captures(asked: &Question, position: Position, mode: Mode) -> Answer {
+    let told = position.captures(mode, &order(asked.bitboard(0)), asked.byte(1), asked.byte(2))?;
+    let listed: Vec<String> = told.captures.iter().map(|c| format!(" {} {} {}", c.from, c.kind, c.taken)).collect();
+    Ok(format!("{}{} {}", listed.len(), listed.concat(), told.stop.map_or("out".to_string(), |stop| stop.to_string())))
 }
 
 fn of_position(asked: &Question, position: Position) -> Answer {
@@ -106,19 +143,20 @@ fn of_position(asked: &Question, position: Position) -> Answer {
             let found = position.lvp(&chess_scores::ORDER, asked.byte(0), asked.bitboard(1), asked.bitboard(2))?;
             found.map_or("none".to_string(), |(square, _)| square.to_string())
         }
-        "see" => position.see(&chess_scores::ORDER, asked.byte(0), asked.byte(1))?.to_string(),
+        "see" => position.see(Mode::First, &chess_scores::ORDER, asked.byte(0), asked.byte(1))?.to_string(),
         "lvp_by" => {
             let found = position.lvp(&order(asked.bitboard(0)), asked.byte(1), asked.bitboard(2), asked.bitboard(3))?;
             found.map_or("none".to_string(), |(square, kind)| format!("{square} {kind}"))
         }
-        "captures" => {
-            let told = position.captures(&order(asked.bitboard(0)), asked.byte(1), asked.byte(2))?;
-            let listed: Vec<String> = told.captures.iter().map(|c| format!(" {} {} {}", c.from, c.kind, c.taken)).collect();
-            format!("{}{} {}", listed.len(), listed.concat(), told.stop.map_or("out".to_string(), |stop| stop.to_string()))
-        }
-        "see_by" => position.see(&order(asked.bitboard(0)), asked.byte(1), asked.byte(2))?.to_string(),
+        "captures" => captures(asked, position, Mode::First)?,
+        "captures_second" => captures(asked, position, Mode::Second)?,
+        "see_by" => position.see(Mode::First, &order(asked.bitboard(0)), asked.byte(1), asked.byte(2))?.to_string(),
+        "see_second" => position.see(Mode::Second, &order(asked.bitboard(0)), asked.byte(1), asked.byte(2))?.to_string(),
         "trace" => trace(&position.trace()?),
+        "list_trace" => trace(&position.trace_list()?.flat()?),
         "double" => return double(asked.byte(0), asked.bitboard(1), &position.trace()?),
+        "list_double" => return list_double(asked.byte(0), asked.bitboard(1), &position.trace_list()?),
+        "record" => position.record(asked.byte(0))?.map(|byte| byte.to_string()).join(" "),
         _ => "no door".to_string(),
     })
 }
@@ -130,21 +168,26 @@ fn of(asked: &Question) -> Answer {
         "king" => piece_attacks(chess_scores::KING, asked.byte(0), 0)?.to_string(),
         "pawn" => piece_attacks(chess_scores::PAWN + asked.byte(0), asked.byte(1), 0)?.to_string(),
         "wild" => return double(asked.byte(0), asked.bitboard(1), &seeded::trace(asked.bitboard(2))),
-        "odd" => return odd(asked),
+        "list_wild" => return list_double(asked.byte(0), asked.bitboard(1), &seeded::trace(asked.bitboard(2)).list()?),
+        "odd" => return double(asked.byte(2), asked.bitboard(3), &odd(asked)),
+        "list_odd" => return list_double(asked.byte(2), asked.bitboard(3), &odd(asked).list()?),
         "bent" => return bent(asked),
+        "state" => return in_state(asked),
+        "stored" => return stored(asked.bitboard(0), &(1..asked.numbers.len()).map(|place| asked.byte(place)).collect::<Vec<u8>>()),
+        "weigh" => return weigh(asked),
         "fit" | "put" | "step" | "of" | "at" => return fit::answer(asked.word, &asked.all_numbers(), None),
-        "line" | "odd_line" => return fit::answer(asked.word, &asked.all_numbers(), Some(asked.position()?.trace()?)),
+        "line" | "odd_line" | "list_line" => return fit::answer(asked.word, &asked.all_numbers(), Some(asked.position()?.trace()?)),
         _ if asked.line.is_empty() => "no door".to_string(),
         _ => return of_position(asked, asked.position()?),
     })
 }
 
-/// SCORE is `over` in the oracle's words.
+/// SCORE is `over` in the oracle's words, and a square its number.
 fn said(answer: Answer) -> String {
     match answer {
         Ok(text) => text,
         Err(Refusal::Score) => "over".to_string(),
-        Err(refusal) => refusal.to_string(),
+        Err(refusal) => format!("refused {}{}", refusal.number(), refusal.square().map_or(String::new(), |square| format!(" {square}"))),
     }
 }
 

@@ -5,14 +5,15 @@ import sys
 from functools import lru_cache
 
 from . import attack, bitboard, exchange, score
-from .double import Weights, trace_eval
+from .double import Weights, in_ranges, trace_eval
 from .fit import WEIGHTS, Fit, adam_step, gradient_add, root, weigh
 from .line import read_line
 from .position import Position, placed
-from .refusal import SCORE, Refused
+from .refusal import ENTRY, SCORE, TRACE, Refused, refuse_unless
 from .seeded import from_bits, odd_trace, seeded_trace, seeded_weights, stirred, to_bits
 from .square_weights import PST
 from .state import State
+from .store import SIZE, read_record, write_record
 from .trace import NUMBERS, compute_trace, exact_sum, flattened
 
 
@@ -64,6 +65,22 @@ def bits(number):
 
 def double(kind, seed, trace):
     return bits(trace_eval(trace, *weights_of(kind, seed)))
+
+
+MOST_ENTRIES = 64
+
+
+def listed(trace):
+    """A trace that has a list; what its list gives is what it gives (02, W-208)."""
+    refuse_unless(in_ranges(trace), TRACE)
+    refuse_unless(sum(trace.entries) <= MOST_ENTRIES, ENTRY)
+    return trace
+
+
+def stored(number, *run):
+    """A record's side, half points and 64 codes."""
+    read = read_record(bytes(run), number)
+    return f"{read.side} {read.half_points} " + "".join(f"{code:x}" for code in read.board)
 
 
 def next_square(board):
@@ -151,11 +168,19 @@ WORDS = {
     "double": lambda kind, seed, position: double(kind, seed, compute_trace(position)),
     "wild": lambda kind, seed, trace_seed: double(kind, seed, seeded_trace(trace_seed)),
     "odd": lambda place, value, kind, seed, trace_seed: double(kind, seed, odd_trace(trace_seed, place, value)),
+    "list_trace": traced,
+    "list_double": lambda kind, seed, position: double(kind, seed, listed(compute_trace(position))),
+    "list_wild": lambda kind, seed, trace_seed: double(kind, seed, listed(seeded_trace(trace_seed))),
+    "list_odd": lambda place, value, kind, seed, trace_seed: double(kind, seed, listed(odd_trace(trace_seed, place, value))),
     "bent": bent,
     "state": in_state,
+    "record": lambda half_points, position: numbers(
+        write_record(position.bitboards, position.board, position.state, half_points, SIZE)),
+    "stored": stored,
     "fit": FITTING.begun,
     "put": FITTING.put,
     "line": FITTING.line,
+    "list_line": FITTING.line,
     "odd_line": FITTING.odd_line,
     "step": FITTING.step,
     "of": FITTING.whole,

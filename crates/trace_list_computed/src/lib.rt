@@ -13,7 +13,7 @@ ghost use Rattle.trace.specs.Trace.{mobilityOf, entriesOf};
 ghost use Rattle.trace_list.specs.Form.{onesIn, listBytes};
 ghost use lib.Bits.{bitAnd};
 ghost use Rattle.trace_list_computed.specs.PrivatePawns.{ranksBefore};
-ghost use Rattle.trace_list_computed.specs.PrivateWalk.{Few, onesBefore, entryPut, bothPut, turnedOver, refusedList};
+ghost use Rattle.trace_list_computed.specs.PrivateWalk.{Few, Padded, onesBefore, entryPut, putWhere, bothPut, turnedOver, refusedList};
 ghost use Rattle.trace_list_computed.specs.Promises.{ComputesList};
 use attack::inner::attacks_from;
 use attack::inner::occupied;
@@ -31,6 +31,7 @@ use position::State;
 use refusal::Refusal;
 use trace_counts::Trace;
 use trace_list::BYTES;
+use trace_list::ENTRIES;
 use trace_list::PER_ENTRY;
 
 // A trace, how many entries its list has, and whether the position passed its test: beside a refusal stand a trace of zeros and none.
@@ -39,6 +40,9 @@ pub struct ListTraced {
     pub trace: Trace,
     pub used: u8,
 }
+
+// The number of a list's last entry.
+const LAST_ENTRY: usize = ENTRIES - 1;
 
 // The files that have one to their left, to their right; the ranks that have one before a pawn of White, of Black.
 const HAS_LEFT: u64 = 0xfefe_fefe_fefe_fefe;
@@ -143,8 +147,39 @@ fn first(white: bool) -> u8
     if white { WHITE } else { BLACK }
 }
 
-// The pieces that a square has, White's before Black's: how many entries there are then. The first of them is written by a choice of its colour and no jump, since
-// which colour stands on a square can't be guessed.
+// A byte, or 0: a choice, and no jump.
+fn chosen(there: bool, byte: u8) -> u8
+    ensures { λ r. ⌜ r ≡ cond there byte 0 ⌝ }
+{
+    if there { byte } else { 0 }
+}
+
+fn one_if(there: bool) -> usize
+    ensures { λ r. ⌜ r ≡ digit there ⌝ }
+{
+    if there { 1 } else { 0 }
+}
+
+// Black's piece on a square that White has too, where there is one; zeros over zeros where there is none.
+fn put_second(there: bool, bytes: &mut [u8; BYTES], n: usize, kind: u8, square: u8) -> usize
+    requires { ⌜ (there ≡ true → n < 64) × (n ≤ 64) × Padded n (now bytes) ⌝ }
+    ensures { λ r. ⌜ (r ≡ n + digit there) × (now (bytes .exit) ≡ putWhere there kind square 1 n (now (bytes .entry))) ⌝ }
+{
+    if n > LAST_ENTRY {
+        return n;
+    }
+    put(
+        bytes,
+        n,
+        chosen(there, kind),
+        chosen(there, square),
+        chosen(there, BLACK),
+    );
+    n + one_if(there)
+}
+
+// The pieces that a square has, White's before Black's: how many entries there are then. There is no jump on a colour, since which stands on a square can't be
+// guessed: the first piece is written by a choice of its colour, and the second, or zeros, always.
 fn put_both(
     white: bool,
     black: bool,
@@ -153,16 +188,12 @@ fn put_both(
     kind: u8,
     square: u8,
 ) -> usize
-    requires { ⌜ (white ≡ true → n < 64) × (black ≡ true → n + digit white < 64) ⌝ }
+    requires { ⌜ (white ≡ true → n < 64) × (black ≡ true → n + digit white < 64) × Padded n (now bytes) ⌝ }
     ensures { λ r. ⌜ (r ≡ n + digit white + digit black) × (now (bytes .exit) ≡ bothPut white black kind square n (now (bytes .entry))) ⌝ }
 {
     if white | black {
         put(bytes, n, kind, square, first(white));
-        if white & black {
-            put(bytes, n + 1, kind, square, BLACK);
-            return n + 2;
-        }
-        return n + 1;
+        return put_second(white & black, bytes, n + 1, kind, square);
     }
     n
 }

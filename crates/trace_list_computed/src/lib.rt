@@ -6,25 +6,16 @@ ghost use Prim.Native.Nat.{_+_, _*_, _<_, _≤_};
 ghost use lib.Dec.{T};
 ghost use lib.ListN.{length};
 ghost use Rattle.bits.specs.Bitboard.{has, digit, those};
-ghost use Rattle.attack.specs.Attacks.{attacks};
 ghost use Rattle.attack_rays.specs.PrivateMirror.{partner, paired};
-ghost use Rattle.score_tally.specs.Mobility.{attackedFrom};
-ghost use Rattle.trace.specs.Trace.{mobilityOf, entriesOf};
+ghost use Rattle.trace.specs.Trace.{entriesOf};
 ghost use Rattle.trace_list.specs.Form.{onesIn, listBytes};
-ghost use lib.Bits.{bitAnd};
-ghost use Rattle.trace_list_computed.specs.PrivatePawns.{ranksBefore};
 ghost use Rattle.trace_list_computed.specs.PrivateWalk.{Few, Padded, onesBefore, entryPut, putWhere, bothPut, turnedOver, refusedList};
 ghost use Rattle.trace_list_computed.specs.Promises.{ComputesList};
-use attack::inner::attacks_from;
-use attack::inner::occupied;
 use attack::inner::standing;
 use bits::Lowest;
 use chess::color::BLACK;
 use chess::color::WHITE;
-use chess::inner::index;
 use chess::kind::KINDS;
-use chess::kind::PAWN;
-use chess::piece::PIECES;
 use chess::piece::Piece;
 use position::Checked;
 use position::State;
@@ -43,68 +34,6 @@ pub struct ListTraced {
 
 // The number of a list's last entry.
 const LAST_ENTRY: usize = ENTRIES - 1;
-
-// The files that have one to their left, to their right; the ranks that have one before a pawn of White, of Black.
-const HAS_LEFT: u64 = 0xfefe_fefe_fefe_fefe;
-
-const HAS_RIGHT: u64 = 0x7f7f_7f7f_7f7f_7f7f;
-
-const BEFORE_WHITE: u64 = 0x00ff_ffff_ffff_ffff;
-
-const BEFORE_BLACK: u64 = 0xffff_ffff_ffff_ff00;
-
-// The pawns with a rank before them.
-fn with_rank(pawns: u64, color: u8) -> u64
-    ensures { λ r. ⌜ r ≡ bitAnd pawns (ranksBefore color) ⌝ }
-{
-    if color == WHITE {
-        return pawns & BEFORE_WHITE;
-    }
-    pawns & BEFORE_BLACK
-}
-
-// How many squares the pawns of a colour attack, all at once: one on each side that a pawn has.
-fn attacked_by_pawns(pawns: u64, color: u8) -> u32
-    ensures { λ r. ⌜ (r ≡ attackedFrom (λ s. attacks 0 color s 0) pawns) × (r ≤ 128) ⌝ }
-{
-    let pawns = with_rank(pawns, color);
-    bits::count(pawns & HAS_LEFT) + bits::count(pawns & HAS_RIGHT)
-}
-
-// How many squares the pieces of a kind and a colour attack.
-fn attacked(pieces: u64, kind: u8, color: u8, occupied: u64) -> u32
-    ensures { λ r. ⌜ (r ≡ attackedFrom (λ s. attacks kind color s occupied) pieces) × (r ≤ 4096) ⌝ }
-{
-    if kind == PAWN {
-        return attacked_by_pawns(pieces, color);
-    }
-    let mut rest = pieces;
-    let mut sum: u32 = 0;
-    loop {
-        let n = bits::next(rest);
-        let Lowest::At(s, r) = n else {
-            return sum;
-        };
-        sum += bits::count(attacks_from(kind, color, s, occupied));
-        rest = r;
-    }
-}
-
-fn mobility(bitboards: &[u64]) -> [i32; Piece::COUNT]
-    ensures { λ r. ⌜ r ≡ mobilityOf (now (bitboards .entry)) ⌝ }
-{
-    let occupied = occupied(bitboards);
-    let mut mobility: [i32; Piece::COUNT] = [0; Piece::COUNT];
-    let mut n: u8 = 0;
-    while n < PIECES {
-        let kind = n / 2;
-        let color = n % 2;
-        let sum = attacked(standing(bitboards, kind, color), kind, color, occupied);
-        mobility[index(n)] = sum as i32;
-        n += 1;
-    }
-    mobility
-}
 
 // Each square of x changed with its partner n above or below: m has the lower of each two.
 fn swapped(x: u64, n: u64, m: u64) -> u64
@@ -269,7 +198,7 @@ pub fn compute_list(
     if let Checked::Refused(refusal) = position::check(bitboards, board, state) {
         return refused(refusal);
     }
-    let mobility = mobility(bitboards);
+    let mobility = trace::inner::mobility(bitboards);
     let trace = trace::inner::gathered(bitboards, state.side, mobility);
     clear(bytes);
     let entries = listed(bitboards, bytes);

@@ -1,5 +1,5 @@
 -- `trace_list_computed::put_both` meets its contract. Assumes nothing.
-use Prim.Native.Nat.{_+_, _<_}
+use Prim.Native.Nat.{_<_}
 use native.Mathlib.Omega.{arith}
 use borrow.Author.Needs.{needs}
 use Rattle.trace_list_computed.proofs.Squares.{both-room, second-room, both-put, none-put, padded-on}

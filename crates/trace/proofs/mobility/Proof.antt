@@ -1,13 +1,14 @@
--- `trace_list_computed::mobility` meets its contract. The loop's invariant: the first n planes are counted. Assumes nothing.
-use mathlib.Core.Path.{_≡_}
-use Prim.Native.Nat.{_-_, _≤_}
+-- `trace::mobility` meets its contract. The loop's invariant: the first n planes are counted. Assumes nothing.
+use mathlib.Core.Path.{_≡_, refl}
+use Prim.Native.Nat.{ℕ, _-_, _/_, _%_, _≤_}
 use native.Mathlib.Omega.{arith}
 use borrow.Author.Needs.{needs}
-use Rattle.trace.proofs.Walks.{movedTo, moved-none}
-use Rattle.trace.proofs.Counted.{count-held}
-use Rattle.trace_list_computed.proofs.Sums.{planeOf, plane-more, planes-all}
-use Rattle.trace_list_computed.proofs.mobility.Statement.{statement}
-use Rattle.trace_list_computed.proofs.mobility.Tie as tie
+use Rattle.attack.specs.Attacks.{attacks}
+use Rattle.trace_mobility.proofs.Sums.{attacked-most}
+use Rattle.trace.proofs.Walks.{movedTo, moved-none, planeOf, plane-more, planes-all}
+use Rattle.trace.proofs.Counted.{held-number}
+use Rattle.trace.proofs.mobility.Statement.{statement}
+use Rattle.trace.proofs.mobility.Tie as tie
 
 abbrev Inv-loop : tie.InvT-loop
 Inv-loop bitboards occupied mobility₀ n₀ mobility n = (n ≤ 12) × (mobility ≡ movedTo (planeOf bitboards) n)
@@ -27,8 +28,15 @@ standing-requires c κs = search needs
 attacked-requires : tie.Need-attacked-requires Inv-loop μ-loop
 attacked-requires c κs = search needs
 
-cast-mobility : tie.Need-cast-mobility Inv-loop μ-loop
-cast-mobility c = search needs
+-- what was counted fits
+small : (c : tie.After-attacked Inv-loop μ-loop) → c .attacked .result ≤ 4096
+small c =
+    let s = c .before in
+    let l = s .before .before in
+    rw (c .attacked .ensures) (attacked-most (λ (x : ℕ). attacks (l .loop .n / 2) (l .loop .n % 2) x (l .before .occupied .result)) (s .standing .result))
+
+whole-requires : tie.Need-whole-requires Inv-loop μ-loop
+whole-requires c κs = small c
 
 index-requires : tie.Need-index-requires Inv-loop μ-loop
 index-requires c κs = search needs
@@ -47,14 +55,15 @@ loop-less c = omega arith
 
 loop-again : tie.Need-loop-again Inv-loop μ-loop
 loop-again c =
-    let t = c .before in
+    let w = c .before in
+    let t = w .before in
     let s = t .before in
     let l = s .before .before .loop in
     let o = s .before .before .before in
     let bbs = o .before .before .args .bitboards .now in (
       omega arith,
       plane-more bbs (l .mobility) (l .n) (c .index .result) (s .standing .result) (o .occupied .result) (t .attacked .result) _ (omega arith) (c .index .ensures) (l .inv .1)
-          (count-held (t .attacked .result) (t .attacked .ensures .1)) (t .attacked .ensures .0) (o .occupied .ensures) (s .standing .ensures),
+          (held-number (w .whole .result) (t .attacked .result) (t .attacked .result) (w .whole .ensures) (small t) refl) (t .attacked .ensures) (o .occupied .ensures) (s .standing .ensures),
     )
 
 returns : tie.Need-returns Inv-loop μ-loop
@@ -73,7 +82,7 @@ mobility-spec =
     loop-holds
     standing-requires
     attacked-requires
-    cast-mobility
+    whole-requires
     index-requires
     mul-mobility
     array-set-from-mobility

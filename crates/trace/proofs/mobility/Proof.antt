@@ -1,92 +1,76 @@
--- `trace::mobility` meets its contract. The loop's invariant: the first n planes are counted. Assumes nothing.
-use mathlib.Core.Path.{_≡_, refl}
-use Prim.Native.Nat.{ℕ, _-_, _/_, _%_, _≤_}
-use native.Mathlib.Omega.{arith}
+-- `trace::mobility` meets its contract. Assumes nothing.
+use mathlib.Core.Path.{refl}
 use borrow.Author.Needs.{needs}
-use Rattle.attack.specs.Attacks.{attacks}
-use Rattle.trace_mobility.proofs.Sums.{attacked-most}
-use Rattle.trace.proofs.Walks.{movedTo, moved-none, planeOf, plane-more, planes-all}
-use Rattle.trace.proofs.Counted.{held-number}
+use Rattle.trace.proofs.Walks.{next-moved}
 use Rattle.trace.proofs.mobility.Statement.{statement}
 use Rattle.trace.proofs.mobility.Tie as tie
 
-abbrev Inv-loop : tie.InvT-loop
-Inv-loop bitboards occupied mobility₀ n₀ mobility n = (n ≤ 12) × (mobility ≡ movedTo (planeOf bitboards) n)
+moved-requires : tie.Need-moved-requires
+moved-requires c κs = search needs
 
-abbrev μ-loop : tie.MeasureT-loop
-μ-loop bitboards occupied mobility₀ n₀ mobility n = 12 - n
+moved-requires-2 : tie.Need-moved-requires-2
+moved-requires-2 c κs = search needs
 
-occupied-requires : tie.Need-occupied-requires Inv-loop μ-loop
-occupied-requires c κs = search needs
+moved-requires-3 : tie.Need-moved-requires-3
+moved-requires-3 c κs = search needs
 
-loop-holds : tie.Need-loop-holds Inv-loop μ-loop
-loop-holds c = (omega arith, moved-none (planeOf (c .before .before .args .bitboards .now)))
+moved-requires-4 : tie.Need-moved-requires-4
+moved-requires-4 c κs = search needs
 
-standing-requires : tie.Need-standing-requires Inv-loop μ-loop
-standing-requires c κs = search needs
+moved-requires-5 : tie.Need-moved-requires-5
+moved-requires-5 c κs = search needs
 
-attacked-requires : tie.Need-attacked-requires Inv-loop μ-loop
-attacked-requires c κs = search needs
+moved-requires-6 : tie.Need-moved-requires-6
+moved-requires-6 c κs = search needs
 
--- what was counted fits
-small : (c : tie.After-attacked Inv-loop μ-loop) → c .attacked .result ≤ 4096
-small c =
-    let s = c .before in
-    let l = s .before .before in
-    rw (c .attacked .ensures) (attacked-most (λ (x : ℕ). attacks (l .loop .n / 2) (l .loop .n % 2) x (l .before .occupied .result)) (s .standing .result))
+moved-requires-7 : tie.Need-moved-requires-7
+moved-requires-7 c κs = search needs
 
-whole-requires : tie.Need-whole-requires Inv-loop μ-loop
-whole-requires c κs = small c
+moved-requires-8 : tie.Need-moved-requires-8
+moved-requires-8 c κs = search needs
 
-index-requires : tie.Need-index-requires Inv-loop μ-loop
-index-requires c κs = search needs
+moved-requires-9 : tie.Need-moved-requires-9
+moved-requires-9 c κs = search needs
 
-mul-mobility : tie.Need-mul-mobility Inv-loop μ-loop
-mul-mobility c = omega (arith, c .index .ensures)
+moved-requires-10 : tie.Need-moved-requires-10
+moved-requires-10 c κs = search needs
 
-array-set-from-mobility : tie.Need-array-set-from-mobility Inv-loop μ-loop
-array-set-from-mobility c = omega (arith, c .index .ensures)
+moved-requires-11 : tie.Need-moved-requires-11
+moved-requires-11 c κs = search needs
 
-add-n : tie.Need-add-n Inv-loop μ-loop
-add-n c = omega arith
+moved-requires-12 : tie.Need-moved-requires-12
+moved-requires-12 c κs = search needs
 
-loop-less : tie.Need-loop-less Inv-loop μ-loop
-loop-less c = omega arith
-
-loop-again : tie.Need-loop-again Inv-loop μ-loop
-loop-again c =
-    let w = c .before in
-    let t = w .before in
-    let s = t .before in
-    let l = s .before .before .loop in
-    let o = s .before .before .before in
-    let bbs = o .before .before .args .bitboards .now in (
-      omega arith,
-      plane-more bbs (l .mobility) (l .n) (c .index .result) (s .standing .result) (o .occupied .result) (t .attacked .result) _ (omega arith) (c .index .ensures) (l .inv .1)
-          (held-number (w .whole .result) (t .attacked .result) (t .attacked .result) (w .whole .ensures) (small t) refl) (t .attacked .ensures) (o .occupied .ensures) (s .standing .ensures),
-    )
-
-returns : tie.Need-returns Inv-loop μ-loop
+returns : tie.Need-returns
 returns c =
-    let l = c .before .loop in
-    let bbs = c .before .before .before .before .args .bitboards .now in
-    planes-all bbs (l .mobility) (l .n) (omega arith) (l .inv .1)
+    let bbs = c .before .before .before .before .before .before .before .before .before .before .before .before .before .args .bitboards .now in
+    next-moved bbs 0 0 _ _ _ (c .before .before .before .before .before .before .before .before .before .before .before .moved .ensures)
+    (next-moved bbs 0 1 _ _ _ (c .before .before .before .before .before .before .before .before .before .before .moved2 .ensures)
+    (next-moved bbs 1 0 _ _ _ (c .before .before .before .before .before .before .before .before .before .moved3 .ensures)
+    (next-moved bbs 1 1 _ _ _ (c .before .before .before .before .before .before .before .before .moved4 .ensures)
+    (next-moved bbs 2 0 _ _ _ (c .before .before .before .before .before .before .before .moved5 .ensures)
+    (next-moved bbs 2 1 _ _ _ (c .before .before .before .before .before .before .moved6 .ensures)
+    (next-moved bbs 3 0 _ _ _ (c .before .before .before .before .before .moved7 .ensures)
+    (next-moved bbs 3 1 _ _ _ (c .before .before .before .before .moved8 .ensures)
+    (next-moved bbs 4 0 _ _ _ (c .before .before .before .moved9 .ensures)
+    (next-moved bbs 4 1 _ _ _ (c .before .before .moved10 .ensures)
+    (next-moved bbs 5 0 _ _ _ (c .before .moved11 .ensures)
+    (next-moved bbs 5 1 _ _ _ (c .moved12 .ensures) refl)))))))))))
 
 pub mobility-spec : {M : Type 1} → statement M
 mobility-spec =
     tie.close
     (tie.spec
-    Inv-loop
-    μ-loop
-    occupied-requires
-    loop-holds
-    standing-requires
-    attacked-requires
-    whole-requires
-    index-requires
-    mul-mobility
-    array-set-from-mobility
-    add-n
-    loop-less
-    loop-again
+    moved-requires
+    moved-requires-2
+    moved-requires-3
+    moved-requires-4
+    moved-requires-5
+    moved-requires-6
+    moved-requires-7
+    moved-requires-8
+    moved-requires-9
+    moved-requires-10
+    moved-requires-11
+    moved-requires-12
     returns)

@@ -15,7 +15,12 @@ use attack::inner::standing;
 use bits::Lowest;
 use chess::color::BLACK;
 use chess::color::WHITE;
-use chess::kind::KINDS;
+use chess::kind::BISHOP;
+use chess::kind::KING;
+use chess::kind::KNIGHT;
+use chess::kind::PAWN;
+use chess::kind::QUEEN;
+use chess::kind::ROOK;
 use chess::piece::Piece;
 use position::Checked;
 use position::State;
@@ -152,17 +157,17 @@ fn clear(bytes: &mut [u8; BYTES])
     *bytes = [0; BYTES];
 }
 
+// Kind by kind and no loop over them: so each kind has a loop of its own, whose end is guessed by that kind's.
 fn listed(bitboards: &[u64], bytes: &mut [u8; BYTES]) -> usize
     requires { ⌜ Few (now bitboards) × (now bytes ≡ listBytes []) ⌝ }
     ensures { λ r. ⌜ (r ≡ length (onesIn (entriesOf (now (bitboards .entry))))) × (now (bytes .exit) ≡ listBytes (onesIn (entriesOf (now (bitboards .entry))))) ⌝ }
 {
-    let mut used: usize = 0;
-    let mut kind: u8 = 0;
-    while kind < KINDS {
-        used = kind_listed(bitboards, kind, used, bytes);
-        kind += 1;
-    }
-    used
+    let pawns = kind_listed(bitboards, PAWN, 0, bytes);
+    let knights = kind_listed(bitboards, KNIGHT, pawns, bytes);
+    let bishops = kind_listed(bitboards, BISHOP, knights, bytes);
+    let rooks = kind_listed(bitboards, ROOK, bishops, bytes);
+    let queens = kind_listed(bitboards, QUEEN, rooks, bytes);
+    kind_listed(bitboards, KING, queens, bytes)
 }
 
 // What stands beside a refusal: a trace of zeros, and no entry.

@@ -1,6 +1,6 @@
 -- What `compute_trace` returns: one law for each return. Assumes nothing.
 use mathlib.Core.Path.{_≡_, sym, ap, _∙_}
-use mathlib.Core.Bool.{Bool}
+use mathlib.Core.Bool.{Bool, true}
 use mathlib.Core.List.{List}
 use Prim.Native.Nat.{ℕ, _<_}
 use lib.IntN.{ℤ, pos}
@@ -9,16 +9,17 @@ use borrow.Author.Tests.{eq-eqb, ne-eqb}
 use Rattle.refusal.specs.Answer.{Answer, given, orRefuse, refusalOf}
 use Rattle.refusal.specs.declared.Refusal.{Refusal}
 use Rattle.refusal.specs.declared.Refusal.the-variants as R
+use Rattle.bits.specs.Bitboard.{squares}
+use Rattle.attack.specs.Attacks.{occupied}
+use Rattle.position_consistent.specs.Consistent.{consistent}
 use Rattle.position.specs.Checked.{checked}
 use Rattle.position.specs.declared.State.{State}
 use Rattle.position.specs.declared.Checked.the-variants.{Fit}
 use Rattle.trace_counts.specs.declared.Trace.{Trace}
-use Rattle.trace.specs.Trace.{traceOf}
-use Rattle.attack_steps.specs.Steps.{stepTables}
-use Rattle.trace.specs.PrivateMarked.{filledTo, mobilityWith, traceWith, refusedWith}
+use Rattle.trace.specs.Trace.{mobilityOf, traceOf}
+use Rattle.trace.specs.PrivateMarked.{marked, traceWith, refusedWith}
 use Rattle.trace.specs.Promises.{tracedOf, paper, traceFrom, entriesAfter, Traces}
-use Rattle.trace.proofs.Planes.{filled-is}
-use Rattle.trace.proofs.Walks.{lent-mobility}
+use Rattle.trace.proofs.Planes.{marked-is}
 use Rattle.trace.specs.declared.Traced.{Traced}
 
 -- a refusal, with no trace and the entries as they were
@@ -41,12 +42,11 @@ module _ (bbs bytes : List ℕ) (state : State) (entries : List ℤ) where
   pub passed-on : (r : Traced) (q : Refusal) → length entries ≡ 768 → refusalOf q ≡ rest → r ≡ refusedWith q → Traces bbs bytes state entries r entries
   passed-on r q e p c = refuses r q c (p ∙ right e)
 
-  pub traced : (tables : List (List ℕ)) (t : Trace) (mobility : List ℤ) (blank marked : List ℤ) → length entries ≡ 768 → given (traceOf bbs (state .side)) ≡ rest
-      → tables ≡ stepTables → mobility ≡ mobilityWith tables bbs → t ≡ traceWith bbs (state .side) mobility
-      → length blank ≡ 768 → ((i : ℕ) → i < 768 → getD blank i (pos 0) ≡ pos 0) → marked ≡ filledTo bbs blank 12
-      → Traces bbs bytes state entries (record { checked = Fit; trace = t }) marked
+  pub traced : (t : Trace) (occ : ℕ) (mobility : List ℤ) (blank last : List ℤ) → length entries ≡ 768 → consistent bbs bytes ≡ true → given (traceOf bbs (state .side)) ≡ rest
+      → mobility ≡ mobilityOf bbs → t ≡ traceWith bbs (state .side) mobility → length blank ≡ 768 → ((i : ℕ) → i < 768 → getD blank i (pos 0) ≡ pos 0) → occ ≡ occupied bbs
+      → last ≡ marked bytes blank (squares occ) → Traces bbs bytes state entries (record { checked = Fit; trace = t }) last
   unfolding traceOf
-  traced tables t mobility blank marked e p et em t-is l z m =
+  traced t occ mobility blank last e f p em t-is l z eo m =
       let a : given (traceOf bbs (state .side)) ≡ tracedOf bbs bytes state entries = p ∙ right e in
-      let d : t ≡ traceOf bbs (state .side) = t-is ∙ ap (traceWith bbs (state .side)) (em ∙ ap (λ (x : List (List ℕ)). mobilityWith x bbs) et ∙ lent-mobility bbs) in
-      (ap given d ∙ a, d ∙ ap traceFrom a, m ∙ filled-is bbs blank l z ∙ ap after a)
+      let d : t ≡ traceOf bbs (state .side) = t-is ∙ ap (traceWith bbs (state .side)) em in
+      (ap given d ∙ a, d ∙ ap traceFrom a, m ∙ ap (λ (b : ℕ). marked bytes blank (squares b)) eo ∙ marked-is bbs bytes blank f l z ∙ ap after a)

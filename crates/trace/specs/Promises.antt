@@ -12,7 +12,7 @@ use Rattle.position.specs.declared.State.{State}
 use Rattle.position.specs.declared.Checked.{Checked}
 use Rattle.position.specs.declared.Checked.the-variants.{Fit, Refused}
 use Rattle.trace_counts.specs.declared.Trace.{Trace}
-use Rattle.trace.specs.Trace.{traceOf, entriesOf, noTrace}
+use Rattle.trace.specs.Trace.{mobilityOf, traceOf, entriesOf, noTrace}
 use Rattle.trace.specs.PrivateMarked.{traceWith}
 use Rattle.trace.specs.declared.Traced.{Traced}
 
@@ -48,3 +48,6 @@ Traces bitboards board state before r after =
 -- what stands beside the entries, with any mobility
 abbrev pub GathersTrace : List ℕ → ℕ → List ℤ → Trace → Type 0
 GathersTrace bitboards side mobility r = r ≡ traceWith bitboards side mobility
+
+abbrev pub GathersMobility : List ℕ → List ℤ → Type 0
+GathersMobility bitboards r = r ≡ mobilityOf bitboards

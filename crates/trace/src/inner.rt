@@ -1,5 +1,5 @@
 // For the crates above, on a position that their own doors have found consistent: total, and no door.
-ghost use Rattle.trace.specs.Promises.{GathersTrace};
+ghost use Rattle.trace.specs.Promises.{GathersMobility, GathersTrace};
 use chess::piece::Piece;
 use trace_counts::Trace;
 
@@ -8,4 +8,11 @@ pub fn gathered(bitboards: &[u64], side: u8, mobility: [i32; Piece::COUNT]) -> T
     ensures { λ r. ⌜ GathersTrace (now (bitboards .entry)) side mobility r ⌝ }
 {
     crate::gathered(bitboards, side, mobility)
+}
+
+// How many squares the pieces of each kind and colour attack.
+pub fn mobility(bitboards: &[u64]) -> [i32; Piece::COUNT]
+    ensures { λ r. ⌜ GathersMobility (now (bitboards .entry)) r ⌝ }
+{
+    crate::mobility(bitboards)
 }

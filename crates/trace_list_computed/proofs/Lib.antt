@@ -1,5 +1,4 @@
 pub mod Flipped
-pub mod Pawns
 pub mod Squares
 pub mod Sums
 pub mod Doors

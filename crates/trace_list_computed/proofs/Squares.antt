@@ -1,15 +1,18 @@
 -- A position's list, square by square: each square of a kind has two places in the trace, White's and then Black's, and where neither piece
 -- stands nothing is added. So the walk over the squares of either leaves out nothing. Assumes nothing.
-use mathlib.Core.Path.{_≡_, refl, sym, ap, ap₂, _∙_}
+use mathlib.Core.Path.{_≡_, refl, sym, ap, ap₂, subst, _∙_}
 use mathlib.Core.Bool.{Bool, true, false, cond, _&&_, _||_, true≢false}
 use mathlib.Mathlib.Data.Bool.Basic.{or-eq-false-eq-eq-false-and-eq-false}
-use mathlib.Core.List.{List, []}
-use Prim.Native.Nat.{ℕ, suc, _+_, _*_, _^_, _<_}
+use mathlib.Core.List.{List, [], _∷_}
+use Prim.Native.Nat.{ℕ, zero, suc, _+_, _*_, _/_, _%_, _^_, _<_, _≤_}
 use native.Mathlib.Omega.{arith}
 use lib.Bits.{bitOr, or-lt}
 use lib.IntN.{pos}
 use lib.Signed.{ltZ}
-use lib.ListN.{length}
+use lib.Dec.{ltb}
+use lib.ListN.{getD, length, set, List·getD-eq-default}
+use lib.Seq.{getD-set-other}
+use borrow.Author.Tests.{le-ltb, ltb-true, ltb-false}
 use Rattle.laws.proofs.Tables.{entry}
 use Rattle.bits.specs.Bitboard.{has, digit}
 use Rattle.bits.proofs.Digits.{has-or}
@@ -20,11 +23,12 @@ use Rattle.trace.specs.Trace.{entryAt, entriesOf}
 use Rattle.trace_exact.proofs.Entries.{entry-at}
 use Rattle.trace_marks.proofs.Walk as walk
 use Rattle.trace_list.specs.Ones.{ones}
-use Rattle.trace_list.specs.Form.{isOne, onesIn, listBytes}
+use Rattle.trace_list.specs.Form.{isOne, onesIn, entryByte, listBytes}
+use Rattle.trace_list.proofs.Bytes.{bytes-length, byte-at}
 use Rattle.trace_list.proofs.Ones.{ones-zero, ones-no}
 use Rattle.trace_list.proofs.There.{one-is}
 use Rattle.trace_list_turn.proofs.Ways.{room, length-yes, length-no, bytes-yes, bytes-no}
-use Rattle.trace_list_computed.specs.PrivateWalk.{Few, onesBefore, entryPut, putWhere, bothPut, turnedOver}
+use Rattle.trace_list_computed.specs.PrivateWalk.{Few, Padded, onesBefore, entryPut, putWhere, bothPut, turnedOver}
 use Rattle.trace_list_computed.proofs.Flipped.{has-turned}
 
 -- ---- what stands at a place
@@ -152,22 +156,55 @@ module _ (kind square n : ℕ) (bytes : List ℕ) where
   second-room true false e q = absurd (true≢false (sym e))
   second-room false b e q = absurd (true≢false (sym e))
 
-  pub two-put : (w b : Bool) (col : ℕ) (mid last : List ℕ) → (w && b) ≡ true → col ≡ cond w 0 1 → mid ≡ entryPut kind square col n bytes → last ≡ entryPut kind square 1 (n + 1) mid
-      → (n + 2 ≡ n + digit w + digit b) × (last ≡ bothPut w b kind square n bytes)
-  two-put true true col mid last e q p l = (omega arith, l ∙ ap (entryPut kind square 1 (n + 1)) (p ∙ ap (λ (c : ℕ). entryPut kind square c n bytes) q))
-  two-put true false col mid last e q p l = absurd (true≢false (sym e))
-  two-put false b col mid last e q p l = absurd (true≢false (sym e))
-
-  pub one-put : (w b : Bool) (col : ℕ) (mid : List ℕ) → (w || b) ≡ true → (w && b) ≡ false → col ≡ cond w 0 1 → mid ≡ entryPut kind square col n bytes
-      → (n + 1 ≡ n + digit w + digit b) × (mid ≡ bothPut w b kind square n bytes)
-  one-put true true col mid e f q p = absurd (true≢false f)
-  one-put true false col mid e f q p = (omega arith, p ∙ ap (λ (c : ℕ). entryPut kind square c n bytes) q)
-  one-put false true col mid e f q p =
+  pub both-put : (w b : Bool) (col r : ℕ) (mid last : List ℕ) → (w || b) ≡ true → col ≡ cond w 0 1 → mid ≡ entryPut kind square col n bytes → r ≡ n + 1 + digit (w && b)
+      → last ≡ putWhere (w && b) kind square 1 (n + 1) mid → (r ≡ n + digit w + digit b) × (last ≡ bothPut w b kind square n bytes)
+  both-put true true col r mid last e q p er l = (er, l ∙ ap (entryPut kind square 1 (n + 1)) (p ∙ ap (λ (c : ℕ). entryPut kind square c n bytes) q))
+  both-put true false col r mid last e q p er l = (er, l ∙ p ∙ ap (λ (c : ℕ). entryPut kind square c n bytes) q)
+  both-put false true col r mid last e q p er l =
       let z : n ≡ n + 0 = omega arith in
-      (omega arith, p ∙ ap (λ (c : ℕ). entryPut kind square c n bytes) q ∙ ap (λ (m : ℕ). entryPut kind square 1 m bytes) z)
-  one-put false false col mid e f q p = absurd (true≢false (sym e))
+      (omega (arith, er), l ∙ p ∙ ap (λ (c : ℕ). entryPut kind square c n bytes) q ∙ ap (λ (m : ℕ). entryPut kind square 1 m bytes) z)
+  both-put false false col r mid last e q p er l = absurd (true≢false (sym e))
 
   pub none-put : (w b : Bool) → (w || b) ≡ false → (n ≡ n + digit w + digit b) × (bytes ≡ bothPut w b kind square n bytes)
   none-put true b e = absurd (true≢false e)
   none-put false true e = absurd (true≢false e)
   none-put false false e = (omega arith, refl)
+
+-- ---- zeros over zeros: an entry that is not there, written all the same
+kept : (l : List ℕ) (i : ℕ) → getD l i 0 ≡ 0 → set l i 0 ≡ l
+kept [] i e = refl
+kept (x ∷ l) zero e = ap (λ (y : ℕ). y ∷ l) (sym e)
+kept (x ∷ l) (suc i) e = ap (λ (m : List ℕ). x ∷ m) (kept l i e)
+
+module _ (n : ℕ) (bytes : List ℕ) (z : Padded n bytes) where
+  pub second-put : (t : Bool) (kind square k s c : ℕ) (last : List ℕ) → k ≡ cond t kind 0 → s ≡ cond t square 0 → c ≡ cond t 1 0 → last ≡ entryPut k s c n bytes
+      → last ≡ putWhere t kind square 1 n bytes
+  second-put true kind square k s c last ek es ec e = e ∙ ap₂ (λ (x y : ℕ). entryPut x y c n bytes) ek es ∙ ap (λ (x : ℕ). entryPut kind square x n bytes) ec
+  second-put false kind square k s c last ek es ec e =
+      e
+      ∙ ap₂ (λ (x y : ℕ). entryPut x y c n bytes) ek es ∙ ap (λ (x : ℕ). entryPut 0 0 x n bytes) ec
+      ∙ ap (λ (l : List ℕ). set (set l (3 * n + 1) 0) (3 * n + 2) 0) (kept bytes (3 * n) (z .zeros (3 * n) (omega arith)))
+      ∙ ap (λ (l : List ℕ). set l (3 * n + 2) 0) (kept bytes (3 * n + 1) (z .zeros (3 * n + 1) (omega arith)))
+      ∙ kept bytes (3 * n + 2) (z .zeros (3 * n + 2) (omega arith))
+
+  pub past-end : (t : Bool) (kind square : ℕ) → (t ≡ true → n < 64) → 64 ≤ n → (n ≡ n + digit t) × (bytes ≡ putWhere t kind square 1 n bytes)
+  past-end true kind square h l = absurd (omega (arith, h refl))
+  past-end false kind square h l = (omega arith, refl)
+
+  pub padded-on : (kind square colour : ℕ) (mid : List ℕ) → mid ≡ entryPut kind square colour n bytes → Padded (n + 1) mid
+  padded-on kind square colour mid e =
+      record {
+        zeros = λ j l.
+            ap (λ (m : List ℕ). getD m j 0) e
+            ∙ getD-set-other (set (set bytes (3 * n) kind) (3 * n + 1) square) (3 * n + 2) j colour 0 (λ q. omega arith)
+            ∙ getD-set-other (set bytes (3 * n) kind) (3 * n + 1) j square 0 (λ q. omega arith)
+            ∙ getD-set-other bytes (3 * n) j kind 0 (λ q. omega arith) ∙ z .zeros j (omega arith);
+      }
+
+pub padded-list : (n : ℕ) (bytes places : List ℕ) → n ≡ length places → bytes ≡ listBytes places → Padded n bytes
+padded-list n bytes places en eb = record { zeros = λ j l. ap (λ (m : List ℕ). getD m j 0) eb ∙ go j (omega (arith, l, en)) (ltb j 192) refl }
+  where
+    go : (j : ℕ) → 3 * length places ≤ j → (t : Bool) → ltb j 192 ≡ t → getD (listBytes places) j 0 ≡ 0
+    go j l true e =
+        byte-at places j (ltb-true j 192 e) ∙ ap (λ (t : Bool). cond t (entryByte (j % 3) (getD places (j / 3) 0)) 0) (le-ltb j (3 * length places) l)
+    go j l false e = List·getD-eq-default (listBytes places) 0 (subst (λ (m : ℕ). m ≤ j) (sym (bytes-length places)) (ltb-false j 192 e))

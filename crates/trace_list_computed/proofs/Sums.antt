@@ -1,22 +1,20 @@
--- The mobility, plane by plane, with no tables lent; as many entries as pieces, so that a list has room for a position's. Assumes nothing.
-use mathlib.Core.Path.{_≡_, sym, ap, ap₂, subst, _∙_}
+-- As many entries as pieces, so that a list has room for a position's. Assumes nothing.
+use mathlib.Core.Path.{_≡_, sym, ap, subst, _∙_}
 use mathlib.Core.Bool.{Bool, true}
 use mathlib.Core.List.{List}
-use Prim.Native.Nat.{ℕ, _+_, _/_, _%_, _<_, _≤_}
+use Prim.Native.Nat.{ℕ, _<_, _≤_}
 use lib.IntN.{ℤ, pos, natAbs}
 use lib.Signed.{ltZ}
-use lib.ListN.{length, set}
+use lib.ListN.{length}
 use Rattle.laws.proofs.Sums.{whole-same}
 use Rattle.laws.proofs.Tables.{entry}
 use Rattle.bits.specs.Bitboard.{has, digit, howMany}
 use Rattle.places.specs.Places.{kindAt, squareAt, colourAt}
 use Rattle.chess.specs.Squares.{flipOf}
 use Rattle.position_consistent.specs.Consistent.{consistent}
-use Rattle.attack.specs.Attacks.{standing, occupied, attacks}
+use Rattle.attack.specs.Attacks.{standing}
 use Rattle.score_material.specs.Pieces.{pieces}
-use Rattle.score_tally.specs.Mobility.{attackedFrom, attackedBy, attacked}
-use Rattle.trace.specs.Trace.{entryAt, entriesOf, mobilityOf}
-use Rattle.trace.proofs.Walks.{movedTo, moved-more, moved-all, twelve, attacked-by}
+use Rattle.trace.specs.Trace.{entryAt, entriesOf}
 use Rattle.trace_exact.proofs.Ranges.{pieces-few}
 use Rattle.trace_exact.proofs.Tally.{many-sum, ones-pieces}
 use Rattle.trace_list.specs.Form.{isOne, onesIn}
@@ -24,25 +22,6 @@ use Rattle.trace_list.proofs.Ones.{ones-count}
 use Rattle.trace_list.proofs.There.{one-is}
 use Rattle.trace_list_computed.specs.PrivateWalk.{Few}
 
--- ---- the mobility
-abbrev pub planeOf : List ℕ → ℕ → ℤ
-planeOf bbs n = pos (attackedBy attacks bbs (n / 2) (n % 2))
-
-pub plane-more : (bbs : List ℕ) (mobility : List ℤ) (n i b occ r : ℕ) (z : ℤ) → n < 12 → i ≡ n → mobility ≡ movedTo (planeOf bbs) n → z ≡ pos r
-    → r ≡ attackedFrom (λ s. attacks (n / 2) (n % 2) s occ) b → occ ≡ occupied bbs → b ≡ standing bbs (n / 2) (n % 2) → set mobility i z ≡ movedTo (planeOf bbs) (n + 1)
-plane-more bbs mobility n i b occ r z h ei em ez er eo eb =
-    ap₂ (λ (l : List ℤ) (j : ℕ). set l j z) em ei
-    ∙ moved-more (planeOf bbs) n z h
-    (ez ∙ ap pos (er ∙ ap₂ (λ (o x : ℕ). attackedFrom (λ s. attacks (n / 2) (n % 2) s o) x) eo eb ∙ attacked-by attacks bbs (n / 2) (n % 2)))
-
-twelve-planes : (bbs : List ℕ) {l : List ℤ} (n : ℕ) → n ≡ 12 → l ≡ movedTo (planeOf bbs) n → l ≡ mobilityOf bbs
-unfolding attacked
-twelve-planes bbs n e q = q ∙ moved-all (planeOf bbs) n e ∙ twelve (attackedBy attacks bbs)
-
-pub planes-all : (bbs : List ℕ) (l : List ℤ) (n : ℕ) → n ≡ 12 → l ≡ movedTo (planeOf bbs) n → l ≡ mobilityOf bbs
-planes-all bbs l n e q = twelve-planes bbs n e q
-
--- ---- as many ones as pieces
 one-at : (bbs : List ℕ) (i : ℕ) → i < 768 → pos (digit (isOne (entriesOf bbs) i)) ≡ pos (entryAt bbs i)
 unfolding entriesOf entryAt
 one-at bbs i h =

@@ -1,3 +1,2 @@
-pub mod PrivatePawns
 pub mod PrivateWalk
 pub mod Promises

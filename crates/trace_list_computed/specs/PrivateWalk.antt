@@ -1,9 +1,10 @@
 -- The list of a position as it is put together, kind by kind and square by square. Only `compute_list`'s body knows of this. Definitions only.
+use mathlib.Core.Path.{_≡_}
 use mathlib.Core.Bool.{Bool, cond}
 use mathlib.Core.List.{List}
 use Prim.Native.Nat.{ℕ, _+_, _*_, _≤_}
 use lib.Bits.{bitXor}
-use lib.ListN.{set}
+use lib.ListN.{getD, set}
 use Rattle.refusal.specs.declared.Refusal.{Refusal}
 use Rattle.bits.specs.Bitboard.{has, digit, those, howMany}
 use Rattle.position.specs.declared.Checked.the-variants.{Refused}
@@ -20,6 +21,10 @@ onesBefore bbs k = ones (isOne (entriesOf bbs)) k
 -- a list has room for them all
 pub record Few (bbs : List ℕ) : Type 0 where
   pub few : howMany 768 (isOne (entriesOf bbs)) ≤ 64
+
+-- from entry n on there are zeros
+pub record Padded (n : ℕ) (bytes : List ℕ) : Type 0 where
+  pub zeros : (j : ℕ) → 3 * n ≤ j → getD bytes j 0 ≡ 0
 
 -- entry n is written
 abbrev pub entryPut : ℕ → ℕ → ℕ → ℕ → List ℕ → List ℕ

@@ -6,31 +6,28 @@ ghost use Prim.Native.Nat.{_+_, _*_, _<_, _≤_};
 ghost use lib.Dec.{T};
 ghost use lib.ListN.{length};
 ghost use Rattle.bits.specs.Bitboard.{has, digit, those};
-ghost use Rattle.attack.specs.Attacks.{attacks};
 ghost use Rattle.attack_rays.specs.PrivateMirror.{partner, paired};
-ghost use Rattle.score_tally.specs.Mobility.{attackedFrom};
-ghost use Rattle.trace.specs.Trace.{mobilityOf, entriesOf};
+ghost use Rattle.trace.specs.Trace.{entriesOf};
 ghost use Rattle.trace_list.specs.Form.{onesIn, listBytes};
-ghost use lib.Bits.{bitAnd};
-ghost use Rattle.trace_list_computed.specs.PrivatePawns.{ranksBefore};
-ghost use Rattle.trace_list_computed.specs.PrivateWalk.{Few, onesBefore, entryPut, bothPut, turnedOver, refusedList};
+ghost use Rattle.trace_list_computed.specs.PrivateWalk.{Few, Padded, onesBefore, entryPut, putWhere, bothPut, turnedOver, refusedList};
 ghost use Rattle.trace_list_computed.specs.Promises.{ComputesList};
-use attack::inner::attacks_from;
-use attack::inner::occupied;
 use attack::inner::standing;
 use bits::Lowest;
 use chess::color::BLACK;
 use chess::color::WHITE;
-use chess::inner::index;
-use chess::kind::KINDS;
+use chess::kind::BISHOP;
+use chess::kind::KING;
+use chess::kind::KNIGHT;
 use chess::kind::PAWN;
-use chess::piece::PIECES;
+use chess::kind::QUEEN;
+use chess::kind::ROOK;
 use chess::piece::Piece;
 use position::Checked;
 use position::State;
 use refusal::Refusal;
 use trace_counts::Trace;
 use trace_list::BYTES;
+use trace_list::ENTRIES;
 use trace_list::PER_ENTRY;
 
 // A trace, how many entries its list has, and whether the position passed its test: beside a refusal stand a trace of zeros and none.
@@ -40,67 +37,8 @@ pub struct ListTraced {
     pub used: u8,
 }
 
-// The files that have one to their left, to their right; the ranks that have one before a pawn of White, of Black.
-const HAS_LEFT: u64 = 0xfefe_fefe_fefe_fefe;
-
-const HAS_RIGHT: u64 = 0x7f7f_7f7f_7f7f_7f7f;
-
-const BEFORE_WHITE: u64 = 0x00ff_ffff_ffff_ffff;
-
-const BEFORE_BLACK: u64 = 0xffff_ffff_ffff_ff00;
-
-// The pawns with a rank before them.
-fn with_rank(pawns: u64, color: u8) -> u64
-    ensures { λ r. ⌜ r ≡ bitAnd pawns (ranksBefore color) ⌝ }
-{
-    if color == WHITE {
-        return pawns & BEFORE_WHITE;
-    }
-    pawns & BEFORE_BLACK
-}
-
-// How many squares the pawns of a colour attack, all at once: one on each side that a pawn has.
-fn attacked_by_pawns(pawns: u64, color: u8) -> u32
-    ensures { λ r. ⌜ (r ≡ attackedFrom (λ s. attacks 0 color s 0) pawns) × (r ≤ 128) ⌝ }
-{
-    let pawns = with_rank(pawns, color);
-    bits::count(pawns & HAS_LEFT) + bits::count(pawns & HAS_RIGHT)
-}
-
-// How many squares the pieces of a kind and a colour attack.
-fn attacked(pieces: u64, kind: u8, color: u8, occupied: u64) -> u32
-    ensures { λ r. ⌜ (r ≡ attackedFrom (λ s. attacks kind color s occupied) pieces) × (r ≤ 4096) ⌝ }
-{
-    if kind == PAWN {
-        return attacked_by_pawns(pieces, color);
-    }
-    let mut rest = pieces;
-    let mut sum: u32 = 0;
-    loop {
-        let n = bits::next(rest);
-        let Lowest::At(s, r) = n else {
-            return sum;
-        };
-        sum += bits::count(attacks_from(kind, color, s, occupied));
-        rest = r;
-    }
-}
-
-fn mobility(bitboards: &[u64]) -> [i32; Piece::COUNT]
-    ensures { λ r. ⌜ r ≡ mobilityOf (now (bitboards .entry)) ⌝ }
-{
-    let occupied = occupied(bitboards);
-    let mut mobility: [i32; Piece::COUNT] = [0; Piece::COUNT];
-    let mut n: u8 = 0;
-    while n < PIECES {
-        let kind = n / 2;
-        let color = n % 2;
-        let sum = attacked(standing(bitboards, kind, color), kind, color, occupied);
-        mobility[index(n)] = sum as i32;
-        n += 1;
-    }
-    mobility
-}
+// The number of a list's last entry.
+const LAST_ENTRY: usize = ENTRIES - 1;
 
 // Each square of x changed with its partner n above or below: m has the lower of each two.
 fn swapped(x: u64, n: u64, m: u64) -> u64
@@ -143,8 +81,39 @@ fn first(white: bool) -> u8
     if white { WHITE } else { BLACK }
 }
 
-// The pieces that a square has, White's before Black's: how many entries there are then. The first of them is written by a choice of its colour and no jump, since
-// which colour stands on a square can't be guessed.
+// A byte, or 0: a choice, and no jump.
+fn chosen(there: bool, byte: u8) -> u8
+    ensures { λ r. ⌜ r ≡ cond there byte 0 ⌝ }
+{
+    if there { byte } else { 0 }
+}
+
+fn one_if(there: bool) -> usize
+    ensures { λ r. ⌜ r ≡ digit there ⌝ }
+{
+    if there { 1 } else { 0 }
+}
+
+// Black's piece on a square that White has too, where there is one; zeros over zeros where there is none.
+fn put_second(there: bool, bytes: &mut [u8; BYTES], n: usize, kind: u8, square: u8) -> usize
+    requires { ⌜ (there ≡ true → n < 64) × (n ≤ 64) × Padded n (now bytes) ⌝ }
+    ensures { λ r. ⌜ (r ≡ n + digit there) × (now (bytes .exit) ≡ putWhere there kind square 1 n (now (bytes .entry))) ⌝ }
+{
+    if n > LAST_ENTRY {
+        return n;
+    }
+    put(
+        bytes,
+        n,
+        chosen(there, kind),
+        chosen(there, square),
+        chosen(there, BLACK),
+    );
+    n + one_if(there)
+}
+
+// The pieces that a square has, White's before Black's: how many entries there are then. There is no jump on a colour, since which stands on a square can't be
+// guessed: the first piece is written by a choice of its colour, and the second, or zeros, always.
 fn put_both(
     white: bool,
     black: bool,
@@ -153,16 +122,12 @@ fn put_both(
     kind: u8,
     square: u8,
 ) -> usize
-    requires { ⌜ (white ≡ true → n < 64) × (black ≡ true → n + digit white < 64) ⌝ }
+    requires { ⌜ (white ≡ true → n < 64) × (black ≡ true → n + digit white < 64) × Padded n (now bytes) ⌝ }
     ensures { λ r. ⌜ (r ≡ n + digit white + digit black) × (now (bytes .exit) ≡ bothPut white black kind square n (now (bytes .entry))) ⌝ }
 {
     if white | black {
         put(bytes, n, kind, square, first(white));
-        if white & black {
-            put(bytes, n + 1, kind, square, BLACK);
-            return n + 2;
-        }
-        return n + 1;
+        return put_second(white & black, bytes, n + 1, kind, square);
     }
     n
 }
@@ -192,17 +157,17 @@ fn clear(bytes: &mut [u8; BYTES])
     *bytes = [0; BYTES];
 }
 
+// Kind by kind and no loop over them: so each kind has a loop of its own, whose end is guessed by that kind's.
 fn listed(bitboards: &[u64], bytes: &mut [u8; BYTES]) -> usize
     requires { ⌜ Few (now bitboards) × (now bytes ≡ listBytes []) ⌝ }
     ensures { λ r. ⌜ (r ≡ length (onesIn (entriesOf (now (bitboards .entry))))) × (now (bytes .exit) ≡ listBytes (onesIn (entriesOf (now (bitboards .entry))))) ⌝ }
 {
-    let mut used: usize = 0;
-    let mut kind: u8 = 0;
-    while kind < KINDS {
-        used = kind_listed(bitboards, kind, used, bytes);
-        kind += 1;
-    }
-    used
+    let pawns = kind_listed(bitboards, PAWN, 0, bytes);
+    let knights = kind_listed(bitboards, KNIGHT, pawns, bytes);
+    let bishops = kind_listed(bitboards, BISHOP, knights, bytes);
+    let rooks = kind_listed(bitboards, ROOK, bishops, bytes);
+    let queens = kind_listed(bitboards, QUEEN, rooks, bytes);
+    kind_listed(bitboards, KING, queens, bytes)
 }
 
 // What stands beside a refusal: a trace of zeros, and no entry.
@@ -238,7 +203,7 @@ pub fn compute_list(
     if let Checked::Refused(refusal) = position::check(bitboards, board, state) {
         return refused(refusal);
     }
-    let mobility = mobility(bitboards);
+    let mobility = trace::inner::mobility(bitboards);
     let trace = trace::inner::gathered(bitboards, state.side, mobility);
     clear(bytes);
     let entries = listed(bitboards, bytes);

@@ -2,7 +2,7 @@
 -- piece of either colour has. Assumes nothing.
 use mathlib.Core.Path.{_≡_, refl, sym, ap, _∙_}
 use mathlib.Core.List.{_∷_}
-use Prim.Native.Nat.{_<_}
+use Prim.Native.Nat.{_+_, _*_, _<_}
 use native.Mathlib.Omega.{arith}
 use borrow.Author.Needs.{needs}
 use lib.ListN.{length}
@@ -10,8 +10,8 @@ use Rattle.bits.specs.Bitboard.{squares}
 use Rattle.bits.specs.Answers.{lowest}
 use Rattle.bits.proofs.Each.{next-at, next-done}
 use Rattle.trace_marks.proofs.Walk as walk
-use Rattle.trace_list_computed.specs.PrivateWalk.{turnedOver}
-use Rattle.trace_list_computed.proofs.Squares.{madeTo, begun, ended, white-room, black-room, square-on}
+use Rattle.trace_list_computed.specs.PrivateWalk.{onesBefore, turnedOver}
+use Rattle.trace_list_computed.proofs.Squares.{Made, madeTo, padded-list, begun, ended, white-room, black-room, square-on}
 use Rattle.trace_list_computed.proofs.kind_listed.Statement.{statement}
 use Rattle.trace_list_computed.proofs.kind_listed.Tie as tie
 
@@ -92,6 +92,7 @@ put-both-requires c κs =
     let v = t .turned .ensures ∙ ap turnedOver (t .before .standing2 .ensures) in (
       white-room b (s .args .kind) q (w .result) (t .turned .result) (s .pre .0) (came k .1) (w .ensures) v (s .pre .1) (l .loop .n) (l .loop .bytes) (made k) (d .stands .result) (d .stands .ensures),
       black-room b (s .args .kind) q (w .result) (t .turned .result) (s .pre .0) (came k .1) (w .ensures) v (s .pre .1) (l .loop .n) (l .loop .bytes) (made k) (d .stands .result) (d .stands .ensures) _ _ refl refl (e .stands2 .result) (e .stands2 .ensures),
+      padded-list (l .loop .n) (l .loop .bytes) (onesBefore b (128 * (s .args .kind) + 2 * q)) (ap (λ (x : Made). x .0) (made k)) (ap (λ (x : Made). x .1) (made k)),
     )
 
 loop-less : tie.Need-loop-less Inv-loop μ-loop

@@ -1,4 +1,4 @@
--- `trace_list_computed::attacked` meets its contract. The loop's invariant: what the squares of `rest` add to the sum makes the whole.
+-- `trace_mobility::inner::one_by_one` meets its contract. The loop's invariant: what the squares of `rest` add to the sum makes the whole.
 -- Assumes nothing.
 use mathlib.Core.Path.{_≡_, refl, sym, ap, _∙_}
 use mathlib.Core.List.{[], _∷_}
@@ -14,10 +14,9 @@ use Rattle.bits.proofs.Counts.{many-le}
 use Rattle.bits.proofs.Squares.{squares-le}
 use Rattle.bits.proofs.Each.{next-at, next-done}
 use Rattle.attack.specs.Attacks.{attacks}
-use Rattle.trace.proofs.Walks.{attacked-counted}
-use Rattle.trace_list_computed.proofs.Pawns.{of-pawns}
-use Rattle.trace_list_computed.proofs.attacked.Statement.{statement}
-use Rattle.trace_list_computed.proofs.attacked.Tie as tie
+use Rattle.trace_mobility.proofs.Sums.{attacked-counted}
+use Rattle.trace_mobility.proofs.inner.one_by_one.Statement.{statement}
+use Rattle.trace_mobility.proofs.inner.one_by_one.Tie as tie
 
 -- how many squares a piece on s attacks
 abbrev reach : ℕ → ℕ → ℕ → ℕ → ℕ
@@ -33,9 +32,7 @@ abbrev μ-loop : tie.MeasureT-loop
 μ-loop pieces kind color occupied rest₀ sum₀ rest sum = length (squares rest)
 
 loop-holds : tie.Need-loop-holds Inv-loop μ-loop
-loop-holds c =
-    let s = c .before in
-    (s .fits .pieces .fits, refl, omega (arith, squares-le (s .args .pieces)))
+loop-holds c = (c .fits .pieces .fits, refl, omega (arith, squares-le (c .args .pieces)))
 
 next-requires : tie.Need-next-requires Inv-loop μ-loop
 next-requires c κs = search needs
@@ -46,23 +43,13 @@ enum-known-n c = search needs
 enum-told : tie.Need-enum-told Inv-loop μ-loop
 enum-told c = search needs
 
-attacked-by-pawns-requires : tie.Need-attacked-by-pawns-requires Inv-loop μ-loop
-attacked-by-pawns-requires c κs = search needs
-
 returns : tie.Need-returns Inv-loop μ-loop
 returns c =
-    let a = c .before .before .args in
-    (of-pawns (c .attacked-by-pawns .result) (a .pieces) (a .kind) (a .color) (a .occupied) (c .before .if1 .taken) (c .attacked-by-pawns .ensures .0), omega (arith, c .attacked-by-pawns .ensures .1))
-
-returns-2 : tie.Need-returns-2 Inv-loop μ-loop
-returns-2 c =
     let l = c .before .before .before .loop in
-    let a = c .before .before .before .before .before .args in
+    let a = c .before .before .before .before .args in
     let f : ℕ → ℕ = reach (a .kind) (a .color) (a .occupied) in
-    let over : squares (l .rest) ≡ [] = next-done (l .rest) (sym (ap lowest (c .enum-told .given .1)) ∙ c .before .before .next .ensures) in (
-      sym (ap (counted f (l .sum)) over ∙ counted-none f (l .sum)) ∙ l .inv .1 ∙ sym (attacked-counted (λ s. attacks (a .kind) (a .color) s (a .occupied)) (a .pieces)),
-      omega arith,
-    )
+    let over : squares (l .rest) ≡ [] = next-done (l .rest) (sym (ap lowest (c .enum-told .given .1)) ∙ c .before .before .next .ensures) in
+    sym (ap (counted f (l .sum)) over ∙ counted-none f (l .sum)) ∙ l .inv .1 ∙ sym (attacked-counted (λ s. attacks (a .kind) (a .color) s (a .occupied)) (a .pieces))
 
 attacks-from-requires : tie.Need-attacks-from-requires Inv-loop μ-loop
 attacks-from-requires c κs = search needs
@@ -94,7 +81,7 @@ loop-less c = rw (first c) (omega arith)
 loop-again : tie.Need-loop-again Inv-loop μ-loop
 loop-again c =
     let l = c .before .before .before .before .before .before .loop in
-    let a = c .before .before .before .before .before .before .before .before .args in
+    let a = c .before .before .before .before .before .before .before .args in
     let s : ℕ = c .before .before .before .n .given .0 .0 in
     let r : ℕ = c .before .before .before .n .given .0 .1 .0 in
     let f : ℕ → ℕ = reach (a .kind) (a .color) (a .occupied) in (
@@ -104,19 +91,17 @@ loop-again c =
       left c,
     )
 
-pub attacked-spec : {M : Type 1} → statement M
-attacked-spec =
+pub one-by-one-spec : {M : Type 1} → statement M
+one-by-one-spec =
     tie.close
     (tie.spec
     Inv-loop
     μ-loop
-    attacked-by-pawns-requires
-    returns
     loop-holds
     next-requires
     enum-known-n
     enum-told
-    returns-2
+    returns
     attacks-from-requires
     count-requires
     add-sum

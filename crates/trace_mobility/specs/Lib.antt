@@ -1,0 +1,2 @@
+pub mod PrivateMasks
+pub mod Promises

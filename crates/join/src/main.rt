@@ -17,6 +17,7 @@ enum Turn {
     Stopped,
 }
 
+// There is room for a row at each byte of a chunk, so no rows are counted before they are taken.
 fn main() {
     let mut chunk = io::buffer();
     let mut out = [0u8; 262144];

@@ -4,19 +4,20 @@ use mathlib.Core.Bool.{Bool, true, false, cond, not, _&&_}
 use mathlib.Core.List.{List, []}
 use Prim.Native.Nat.{ℕ, _+_, _*_, _/_, _^_, _≤_, _<_}
 use native.Mathlib.Omega.{arith}
-use lib.Dec.{ltb}
+use lib.Dec.{leb, ltb}
 use lib.ListN.{length}
-use borrow.Author.Tests.{eq-eqb, ne-eqb, le-leb, lt-leb, lt-ltb, le-ltb, ltb-true}
+use borrow.Author.Tests.{eq-eqb, ne-eqb, le-leb, lt-leb, leb-true, lt-ltb, le-ltb, ltb-true}
 use Rattle.refusal.specs.declared.Refusal.the-variants as R
 use Rattle.text_out.specs.Text.{writtenOf, Adds}
 use Rattle.text_out.proofs.Added.{adds-to}
 use Rattle.line_cut.specs.Lines.{ends}
+use Rattle.line_cut.proofs.Counted.{ends-le}
 use Rattle.ledger_totals.proofs.Fits.{fits-last}
 use Rattle.ledger_feed.specs.Promises.{Came, turnedBy, many, full, came}
 use Rattle.ledger_feed.proofs.Doors.{written-nothing}
 use Rattle.ledger_joined_row.proofs.Laws.{and-left, and-right}
 use Rattle.ledger_join.specs.Machine.{Joint, joint, ownNumber, bytesOn}
-use Rattle.ledger_join.specs.Promises.{countsFit, feedPart, fedPart, jointByValue, rowAfter, jointText, wroteOf, FeedsPart, RowReady, TakesBytes}
+use Rattle.ledger_join.specs.Promises.{countsFit, isAmple, feedPart, fedPart, jointByValue, rowAfter, jointText, wroteOf, FeedsPart, RowReady, TakesBytes}
 use Rattle.ledger_join.specs.Promises.{PartEnd, onward, noLedgerAt, tooMany, noRoom, nextPart, nextPartOf, isBetween, totalsOfAll, endJoinOf, endSaid, endByValue, endText, endWrote, EndsJoin}
 use Rattle.ledger_join.specs.declared.Joining.{Joining}
 use Rattle.ledger_join.specs.declared.FedPart.{FedPart}
@@ -31,6 +32,26 @@ module _ (s : Joining) (more : ℕ) (e : countsFit s more ≡ true) where
 
   pub own-fit : s .loaded + s .refused + more < 2 ^ 64
   own-fit = ltb-true (s .loaded + s .refused + more) (2 ^ 64) (and-right (ltb (s .loads + s .refusals + more) (2 ^ 64)) (ltb (s .loaded + s .refused + more) (2 ^ 64)) e)
+
+pub ample-less : (s : Joining) (bytes room : ℕ) → room / 64 < bytes → false ≡ isAmple s bytes room
+ample-less s bytes room h = rw (lt-leb bytes (room / 64) h)
+
+pub ample-counts : (s : Joining) (bytes room : ℕ) → bytes ≤ room / 64 → countsFit s bytes ≡ isAmple s bytes room
+ample-counts s bytes room h = rw (le-leb bytes (room / 64) h)
+
+-- then there is enough for the rows that end
+module _ (s : Joining) (chunk out : List ℕ) (e : isAmple s (length chunk) (length out) ≡ true) where
+  all-counts : countsFit s (length chunk) ≡ true
+  all-counts = and-right (leb (length chunk) (length out / 64)) (countsFit s (length chunk)) e
+
+  pub ample-fit : countsFit s (ends chunk) ≡ true
+  ample-fit =
+      let a = all-fit s (length chunk) all-counts in
+      let b = own-fit s (length chunk) all-counts in
+      rw (lt-ltb (s .loads + s .refusals + ends chunk) (2 ^ 64) (omega (arith, ends-le chunk)), lt-ltb (s .loaded + s .refused + ends chunk) (2 ^ 64) (omega (arith, ends-le chunk)))
+
+  pub ample-room : ends chunk ≤ length out / 64
+  ample-room = let h = leb-true (length chunk) (length out / 64) (and-left (leb (length chunk) (length out / 64)) (countsFit s (length chunk)) e) in omega (arith, ends-le chunk)
 
 -- ---- feed
 module _ (s : Joining) (row chunk out : List ℕ) where

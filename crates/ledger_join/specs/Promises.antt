@@ -1,16 +1,19 @@
 -- What each function promises, for all inputs. Definitions only.
 use mathlib.Core.Path.{_≡_}
 use mathlib.Core.Bool.{Bool, false, cond, not, _&&_}
-use mathlib.Core.List.{List, []}
-use Prim.Native.Nat.{ℕ, _+_, _*_, _^_, _≤_, _<_}
+use mathlib.Core.List.{List, [], _++_}
+use Prim.Native.Nat.{ℕ, _+_, _-_, _*_, _/_, _^_, _≤_, _<_}
 use lib.Dec.{eqb, leb, ltb}
-use lib.ListN.{length, take}
+use lib.ListN.{length, take, drop, getD}
 use Rattle.refusal.specs.declared.Refusal.the-variants as R
-use Rattle.text_out.specs.Text.{writtenOf, Adds}
+use Rattle.text_out.specs.Text.{writtenOf, decimalOf, Adds}
 use Rattle.line_cut.specs.Lines.{ends}
 use Rattle.ledger_totals.specs.Totals.{lastRow}
 use Rattle.ledger_feed.specs.Promises.{Came, turned, many, full, came, turnedBy}
 use Rattle.ledger_joined_row.specs.Promises.{rowIs, textOf}
+use Rattle.ledger_joined_row.specs.declared.Kind.the-variants as K
+use Rattle.ledger_plain_row.specs.Plain.{noRow, plainIn}
+use Rattle.ledger_plain_row.specs.declared.PlainRow.{PlainRow}
 use Rattle.ledger_join.specs.Machine.{Joint, joint, afterRow, ownNumber, wholeNumber, byteHeld, byteOn, bytesOn}
 use Rattle.ledger_join.specs.declared.Joining.{Joining}
 use Rattle.ledger_join.specs.declared.FedPart.{FedPart}
@@ -20,6 +23,7 @@ use Rattle.ledger_join.specs.declared.NextPart.the-variants as N
 use Rattle.ledger_join.specs.declared.EndedJoin.{EndedJoin}
 use Rattle.ledger_join.specs.declared.EndedJoin.the-variants as E
 use Rattle.ledger_join.specs.declared.ByteTaken.{ByteTaken}
+use Rattle.ledger_join.specs.declared.SomeTaken.{SomeTaken}
 
 -- ---- before anything was read
 abbrev pub firstPart : Joining
@@ -142,6 +146,10 @@ pub record EndsJoin (s : Joining) (out : List ℕ) (r : EndedJoin) (out′ : Lis
 abbrev pub bothOf : Bool → Bool → Bool
 bothOf a b = a && b
 
+-- room and a number for a row at every byte
+abbrev pub isAmple : Joining → ℕ → ℕ → Bool
+isAmple s bytes room = leb bytes (room / 64) && countsFit s bytes
+
 -- a row that has ended
 pub record ClosesRow (s : Joining) (row out : List ℕ) (at : ℕ) (r : ByteTaken) (out′ : List ℕ) : Type 0 where
   pub state : r .state ≡ afterRow s (rowIs (ownNumber s) (s .loaded) (s .refused) (take (s .held) row))
@@ -162,6 +170,51 @@ pub record TakesByte (s : Joining) (row out : List ℕ) (byte at : ℕ) (r : Byt
   pub state : r .state ≡ byteOn (joint row s []) byte .state
   pub kept : row′ ≡ byteOn (joint row s []) byte .row
   pub text : Adds out at (byteOn (joint row s []) byte .text) out′ (r .end)
+
+-- a row may begin, and has a number of 64 bits
+abbrev pub isFresh : Joining → Bool
+isFresh s = eqb (s .held) 0 && (not (s .ended) && (not (s .stopped) && ltb (s .loaded + s .refused) (2 ^ 64 - 1)))
+
+abbrev pub plainAt : Joining → List ℕ → PlainRow
+plainAt s chunk = cond (isFresh s) (plainIn (ownNumber s) chunk) noRow
+
+-- a loaded line's row, and its number in the whole
+pub record PlainReady (s : Joining) (row text whole out : List ℕ) (front at : ℕ) : Type 0 where
+  pub ready : RowReady s out at 1
+  pub size : length row ≡ 84
+  pub short : length text ≤ 32
+  pub within : front ≤ length text
+  pub digits : length whole ≤ 20
+
+pub record TakesPlain (s : Joining) (row text whole out : List ℕ) (front at : ℕ) (r : ByteTaken) (row′ out′ : List ℕ) : Type 0 where
+  pub state : r .state ≡ afterRow s K.Loaded
+  pub kept : row′ ≡ writtenOf row 0 text
+  pub put : Adds out at (whole ++ drop front text) out′ (r .end)
+
+-- the first bytes of a chunk: a row or one byte
+pub record SomeReady (s : Joining) (row chunk whole out : List ℕ) (at : ℕ) : Type 0 where
+  pub ready : RowReady s out at (ends chunk)
+  pub size : length row ≡ 84
+  pub some : 0 < length chunk
+  pub digits : length whole ≤ 20
+  pub number : wholeNumber s < 2 ^ 64 → whole ≡ decimalOf (wholeNumber s)
+
+pub record TakesSome (s : Joining) (row chunk out : List ℕ) (at : ℕ) (r : SomeTaken) (row′ out′ : List ℕ) : Type 0 where
+  pub some : 0 < r .passed
+  pub passed : r .passed ≤ length chunk
+  pub state : r .state ≡ bytesOn (joint row s []) (take (r .passed) chunk) .state
+  pub kept : row′ ≡ bytesOn (joint row s []) (take (r .passed) chunk) .row
+  pub text : Adds out at (bytesOn (joint row s []) (take (r .passed) chunk) .text) out′ (r .end)
+
+-- the number of the next row, after n, kept as text: its first bytes. Past 64 bits nothing is said of it
+pub record KeepsNumber (text : List ℕ) (k n : ℕ) : Type 0 where
+  pub size : length text ≡ 20
+  pub within : k ≤ 20
+  pub number : n + 1 < 2 ^ 64 → take k text ≡ decimalOf (n + 1)
+
+-- one more, and no digit but the last changes
+abbrev pub isNext : List ℕ → ℕ → ℕ → ℕ → Bool
+isNext text k from to = leb 1 k && (eqb to (from + 1) && ltb (getD text (k - 1) 0) 57)
 
 pub record TakesBytes (s : Joining) (row chunk out : List ℕ) (r : FedPart) (row′ out′ : List ℕ) : Type 0 where
   pub answer : r ≡ F.Rows (bytesOn (joint row s []) chunk .state) (length (bytesOn (joint row s []) chunk .text))

@@ -3,12 +3,14 @@
 ghost use mathlib.Core.Path.{_≡_};
 ghost use Prim.Native.Nat.{_+_, _^_, _<_, _≤_};
 ghost use lib.ListN.{length};
-ghost use mathlib.Core.List.{[], _∷_};
+ghost use mathlib.Core.List.{[], _∷_, _++_};
+ghost use Rattle.text_out.specs.Text.{Adds};
 ghost use Rattle.line_cut.specs.Lines.{ends};
 ghost use Rattle.ledger_join.specs.Machine.{holdsMore, halted as Machine·halted, afterRow};
-ghost use Rattle.ledger_join.specs.Promises.{StartsJoin, FeedsPart, TurnsPart, EndsJoin, ClosesRow, RowReady, HoldsByte, TakesByte, TakesBytes, countsFit, nextPart, bothOf, isBetween};
+ghost use Rattle.ledger_join.specs.Promises.{StartsJoin, FeedsPart, TurnsPart, EndsJoin, ClosesRow, RowReady, HoldsByte, TakesByte, isFresh, plainAt, PlainReady, TakesPlain, SomeReady, TakesSome, KeepsNumber, isNext, TakesBytes, countsFit, isAmple, nextPart, bothOf, isBetween};
 ghost use Rattle.ledger_joined_row.specs.declared.Kind.the-variants as K;
 use ledger_joined_row::Kind;
+use ledger_plain_row::PlainRow;
 use refusal::Refusal;
 
 // The bytes that the row buffer has: no totals are longer.
@@ -16,6 +18,9 @@ pub const ROW: usize = 84;
 
 // The room that a row takes at most, with any number.
 const ROOM: usize = 64;
+
+// The bytes of a number.
+const DIGITS: usize = 20;
 
 const MOST: u64 = 0xffff_ffff_ffff_ffff;
 
@@ -55,10 +60,17 @@ pub enum EndedJoin {
     Many,
 }
 
-// The state after a byte, and the place after what was written.
+// The state after a byte or a row, and the place after what was written.
 pub struct ByteTaken {
     pub state: Joining,
     pub end: usize,
+}
+
+// The same after so many bytes.
+pub struct SomeTaken {
+    pub state: Joining,
+    pub end: usize,
+    pub passed: usize,
 }
 
 // Before anything was read.
@@ -226,22 +238,159 @@ fn take_byte(s: Joining, row: &mut [u8], byte: u8, out: &mut [u8], at: usize) ->
     byte_held(s, row, byte, out, at)
 }
 
-// The bytes of a chunk, where there is room for their rows.
-fn take_bytes(s: Joining, row: &mut [u8], chunk: &[u8], out: &mut [u8]) -> FedPart
-    requires { ⌜ RowReady s (now out) 0 (ends (now chunk)) × (length (now row) ≡ 84) ⌝ }
+// A row may begin here, and has a number of 64 bits.
+fn fresh(s: Joining) -> bool
+    requires { ⌜ s .loaded + s .refused < 2 ^ 64 ⌝ }
+    ensures { λ r. ⌜ r ≡ isFresh s ⌝ }
+{
+    both(
+        s.held == 0,
+        both(!s.ended, both(!s.stopped, s.loaded + s.refused < MOST)),
+    )
+}
+
+fn told(s: Joining, chunk: &[u8]) -> PlainRow
+    requires { ⌜ s .loaded + s .refused < 2 ^ 64 ⌝ }
+    ensures { λ r. ⌜ r ≡ plainAt s (now (chunk .entry)) ⌝ }
+{
+    if !fresh(s) {
+        return PlainRow { front: 0, size: 0 };
+    }
+    ledger_plain_row::tell(chunk, s.loaded + s.refused + 1)
+}
+
+fn put_both(out: &mut [u8], at: usize, whole: &[u8], rest: &[u8]) -> usize
+    requires { ⌜ at + (length (now whole) + length (now rest)) ≤ length (now out) ⌝ }
+    ensures { λ r. ⌜ Adds (now (out .entry)) at (now (whole .entry) ++ now (rest .entry)) (now (out .exit)) r ⌝ }
+{
+    let end = text_out::put(out, at, whole).or(at);
+    text_out::put(out, end, rest).or(end)
+}
+
+// A loaded line's row, with its number in the whole, and kept as every row is.
+fn take_row(
+    s: Joining,
+    row: &mut [u8],
+    text: &[u8],
+    front: usize,
+    whole: &[u8],
+    out: &mut [u8],
+    at: usize,
+) -> ByteTaken
+    requires { ⌜ PlainReady s (now row) (now text) (now whole) (now out) front at ⌝ }
+    ensures { λ r. ⌜ TakesPlain s (now (row .entry)) (now (text .entry)) (now (whole .entry)) (now (out .entry)) front at r (now (row .exit)) (now (out .exit)) ⌝ }
+{
+    text_out::put(row, 0, text);
+    let end = put_both(out, at, whole, &text[front..]);
+    let state = one_loaded(s);
+    ByteTaken { state, end }
+}
+
+// A row that is told at once, or one byte.
+fn take_some(
+    s: Joining,
+    row: &mut [u8],
+    chunk: &[u8],
+    whole: &[u8],
+    out: &mut [u8],
+    at: usize,
+) -> SomeTaken
+    requires { ⌜ SomeReady s (now row) (now chunk) (now whole) (now out) at ⌝ }
+    ensures { λ r. ⌜ TakesSome s (now (row .entry)) (now (chunk .entry)) (now (out .entry)) at r (now (row .exit)) (now (out .exit)) ⌝ }
+{
+    let r = told(s, chunk);
+    let n = r.size;
+    let front = r.front;
+    if n == 0 {
+        let one = take_byte(s, row, chunk[0], out, at);
+        let next = one.state;
+        return SomeTaken {
+            state: next,
+            end: one.end,
+            passed: 1,
+        };
+    }
+    let all = take_row(s, row, &chunk[..n], front, whole, out, at);
+    let next = all.state;
+    SomeTaken {
+        state: next,
+        end: all.end,
+        passed: n,
+    }
+}
+
+// The number of the next row in the whole, after n of them: how many bytes it has.
+fn spell(text: &mut [u8], n: u64) -> usize
+    requires { ⌜ length (now text) ≡ 20 ⌝ }
+    ensures { λ r. ⌜ KeepsNumber (now (text .exit)) r n ⌝ }
+{
+    if n == MOST {
+        return 0;
+    }
+    text_out::decimal(text, 0, n + 1).or(0)
+}
+
+// One more, and no digit but the last changes.
+fn is_next(text: &[u8], k: usize, from: u64, to: u64) -> bool
+    requires { ⌜ k ≤ length (now text) ⌝ }
+    ensures { λ r. ⌜ r ≡ isNext (now (text .entry)) k from to ⌝ }
+{
+    if k == 0 {
+        return false;
+    }
+    if to <= from {
+        return false;
+    }
+    if to - from > 1 {
+        return false;
+    }
+    text[k - 1] < b'9'
+}
+
+// The number as it was kept, counted on.
+fn count_on(text: &mut [u8], k: usize, from: u64, to: u64) -> usize
+    requires { ⌜ KeepsNumber (now text) k from ⌝ }
+    ensures { λ r. ⌜ KeepsNumber (now (text .exit)) r to ⌝ }
+{
+    if to == from {
+        return k;
+    }
+    if is_next(text, k, from, to) {
+        let last = k - 1;
+        let digit = text[last];
+        text[last] = digit + 1;
+        return k;
+    }
+    spell(text, to)
+}
+
+// The rows of a chunk, where there is room for them: the number in the whole is kept from one to the next.
+fn take_rows(s: Joining, row: &mut [u8], chunk: &[u8], out: &mut [u8], text: &mut [u8]) -> FedPart
+    requires { ⌜ RowReady s (now out) 0 (ends (now chunk)) × (length (now row) ≡ 84) × (length (now text) ≡ 20) ⌝ }
     ensures { λ r. ⌜ TakesBytes s (now (row .entry)) (now (chunk .entry)) (now (out .entry)) r (now (row .exit)) (now (out .exit)) ⌝ }
 {
     let mut state = s;
     let mut wrote = 0;
     let mut i = 0;
+    let mut k = spell(text, s.loads + s.refusals);
     while i < chunk.len() {
-        let taken = take_byte(state, row, chunk[i], out, wrote);
+        let before = state.loads + state.refusals;
+        let taken = take_some(state, row, &chunk[i..], &text[..k], out, wrote);
         let next = taken.state;
         state = next;
         wrote = taken.end;
-        i += 1;
+        i += taken.passed;
+        k = count_on(text, k, before, next.loads + next.refusals);
     }
     FedPart::Rows(state, wrote)
+}
+
+fn take_bytes(s: Joining, row: &mut [u8], chunk: &[u8], out: &mut [u8]) -> FedPart
+    requires { ⌜ RowReady s (now out) 0 (ends (now chunk)) × (length (now row) ≡ 84) ⌝ }
+    ensures { λ r. ⌜ TakesBytes s (now (row .entry)) (now (chunk .entry)) (now (out .entry)) r (now (row .exit)) (now (out .exit)) ⌝ }
+{
+    let mut text = [0u8; DIGITS];
+    take_rows(s, row, chunk, out, &mut text)
 }
 
 fn both(a: bool, b: bool) -> bool
@@ -262,12 +411,25 @@ fn counts_fit(s: Joining, more: usize) -> bool
     )
 }
 
+// There is room and a number for a row at every byte: the rows need not be counted.
+fn ample(s: Joining, bytes: usize, room: usize) -> bool
+    ensures { λ r. ⌜ r ≡ isAmple s bytes room ⌝ }
+{
+    if room / ROOM < bytes {
+        return false;
+    }
+    counts_fit(s, bytes)
+}
+
 // Takes a chunk of a part, of any size: a row for each one that ends in it. It needs 64 bytes of room for each of them.
 pub fn feed(state: Joining, row: &mut [u8], chunk: &[u8], out: &mut [u8]) -> FedPart
     ensures { λ r. ⌜ FeedsPart state (now (row .entry)) (now (chunk .entry)) (now (out .entry)) r (now (row .exit)) (now (out .exit)) ⌝ }
 {
     if row.len() != ROW {
         return FedPart::Refused(Refusal::Shape);
+    }
+    if ample(state, chunk.len(), out.len()) {
+        return take_bytes(state, row, chunk, out);
     }
     let ends = line_cut::ends(chunk);
     if !counts_fit(state, ends) {

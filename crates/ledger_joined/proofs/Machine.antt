@@ -28,29 +28,11 @@ use Rattle.ledger_join.specs.Machine.{Joint, joint, holdsMore, halted, afterRow
 use Rattle.ledger_join.specs.Promises.{nextPart}
 use Rattle.ledger_join.specs.declared.Joining.{Joining}
 use Rattle.ledger_join.proofs.Bytes.{byte-after, byte-bounds}
-use Rattle.ledger_join.proofs.Turn.{byte-then}
+use Rattle.ledger_join.proofs.Pieces.{byte-then, bytes-cut, bytes-later}
 use Rattle.ledger_joined.specs.Joined.{machineFrom, Machined, AnyCut}
 use Rattle.ledger_joined.proofs.Parts.{last-ends}
 
 -- ---- however it is cut
-bytes-cut : (m : Joint) (a b : List ℕ) → bytesOn m (a ++ b) ≡ bytesOn (bytesOn m a) b
-unfolding bytesOn
-bytes-cut m [] b = refl
-bytes-cut m (x ∷ a) b = bytes-cut (byteOn m x) a b
-
-abbrev later : List ℕ → Joint → Joint
-later t m = joint (m .row) (m .state) (t ++ m .text)
-
-byte-later : (t : List ℕ) (m : Joint) (b : ℕ) → byteOn (later t m) b ≡ later t (byteOn m b)
-byte-later t m b =
-    let u : Joint = byteOn (joint (m .row) (m .state) []) b in
-    byte-after (m .row) (m .state) (t ++ m .text) b ∙ ap (joint (u .row) (u .state)) (append-assoc t (m .text) (u .text)) ∙ sym (ap (later t) (byte-after (m .row) (m .state) (m .text) b))
-
-bytes-later : (t : List ℕ) (m : Joint) (a : List ℕ) → bytesOn (later t m) a ≡ later t (bytesOn m a)
-unfolding bytesOn
-bytes-later t m [] = refl
-bytes-later t m (b ∷ a) = ap (λ (x : Joint). bytesOn x a) (byte-later t m b) ∙ bytes-later t (byteOn m b) a
-
 pub any-cut : (m : Joint) (a b : List ℕ) → AnyCut m a b
 any-cut m a b = record { cut = bytes-cut m a b; text = λ t. bytes-later t m a }
 

@@ -1,15 +1,13 @@
 -- A row of a part is taken as the one that its line has in the whole, and the totals are taken as such. Assumes nothing.
-use mathlib.Core.Path.{_≡_, refl, sym, ap, ap₂, _∙_}
+use mathlib.Core.Path.{_≡_, refl, sym, ap, ap₂, subst, _∙_}
 use mathlib.Core.Bool.{Bool, true, false, cond, not, _&&_, _||_, false≢true}
-use mathlib.Core.List.{List, [], _∷_, _++_, append-assoc, append-nil}
-use Prim.Native.Nat.{ℕ, zero, suc, _+_, _-_, _/_, _%_, _<_, _≤_}
+use mathlib.Core.List.{List, [], _∷_, _++_, append-assoc}
+use Prim.Native.Nat.{ℕ, zero, suc, _+_, _/_, _%_, _<_, _≤_}
 use native.Mathlib.Omega.{arith}
 use lib.Dec.{ltb, leb}
-use lib.ListN.{length, take, drop, length-append}
-use lib.Seq.{take-append-seam, drop-append-seam}
-use borrow.Author.Tests.{ne-eqb, le-leb, lt-ltb, ltb-true}
+use lib.ListN.{length, drop}
+use borrow.Author.Tests.{ne-eqb, lt-ltb, ltb-true}
 use lib.IntN.{ℤ, pos, negsuc}
-use Rattle.laws.specs.Tests.{same}
 use Rattle.refusal.specs.Answer.{Answer, given, refused}
 use Rattle.position_boards.specs.Boards.{bitboardsOf}
 use Rattle.position.specs.declared.State.{State}
@@ -29,13 +27,10 @@ use Rattle.ledger_row.specs.Row.{shownOf, spaced, loadedRow, refusedRow, rowOf,
 use Rattle.ledger_totals.specs.Totals.{lastRow}
 use Rattle.ledger_feed.specs.Machine.{tally}
 use Rattle.ledger_whole.specs.Whole.{endsInLF}
-use Rattle.ledger_joined_row.specs.Rows.{beginsWith, behindNumber, isNumber, isScore, isWord, isShown, saysRefused, saysLoaded, withoutLF, afterNumber, isRow}
+use Rattle.ledger_joined_row.specs.Rows.{beginsWith, behindNumber, isScore, isWord, isShown, saysRefused, saysLoaded, afterNumber, isRow}
 use Rattle.ledger_joined_row.proofs.Numbers.{same-self, number-own}
+use Rattle.ledger_joined_row.proofs.Own.{plus-own, minus-own, half-kind, ends-after, ends-end, behind-own, said-own, row-own}
 use Rattle.ledger_join.specs.Join.{Checked, noLedger, checked, JoinedPart, withRow, partFrom}
-
--- ---- a text begins with its own front
-begins-own : (front rest : List ℕ) → beginsWith front (front ++ rest) ≡ true
-begins-own front rest = ap (λ (x : List ℕ). same x front) (take-append-seam front rest) ∙ same-self front
 
 -- ---- what follows the number in a row, up to the LF
 tailOf : Answer Line → List ℕ
@@ -48,40 +43,9 @@ row-is number (given l) = ap (λ (x : List ℕ). spaced number ++ x) (sym (appen
 row-is number (refused n v) = ap (λ (x : List ℕ). spaced number ++ x) (sym (append-assoc (text "refused ") (decimalOf n) (text "\n")))
 
 -- ---- a score is shown as one
-first-digit : (f n : ℕ) (rest : List ℕ) → beginsWith (text "-") (digitsUpTo (suc f) n ++ rest) ≡ false
-unfolding digitsUpTo
-first-digit zero n rest = go (ltb n 10)
-  where
-    one : (d : ℕ) → beginsWith (text "-") ((48 + d) ∷ rest) ≡ false
-    one d = rw (ne-eqb (48 + d) 45 (λ q. no d q))
-      where
-        no : (d : ℕ) → 48 + d ≡ 45 → ⊥
-        no d q = omega arith
-
-    go : (t : Bool) → beginsWith (text "-") (cond t ((48 + n) ∷ []) ([] ++ ((48 + n % 10) ∷ [])) ++ rest) ≡ false
-    go true = one n
-    go false = one (n % 10)
-first-digit (suc f) n rest = go (ltb n 10) (first-digit f (n / 10) (((48 + n % 10) ∷ []) ++ rest))
-  where
-    one : (d : ℕ) → beginsWith (text "-") ((48 + d) ∷ rest) ≡ false
-    one d = rw (ne-eqb (48 + d) 45 (λ q. no d q))
-      where
-        no : (d : ℕ) → 48 + d ≡ 45 → ⊥
-        no d q = omega arith
-
-    go : (t : Bool) → beginsWith (text "-") (digitsUpTo (suc f) (n / 10) ++ (((48 + n % 10) ∷ []) ++ rest)) ≡ false
-        → beginsWith (text "-") (cond t ((48 + n) ∷ []) (digitsUpTo (suc f) (n / 10) ++ ((48 + n % 10) ∷ [])) ++ rest) ≡ false
-    go true r = one n
-    go false r = ap (beginsWith (text "-")) (append-assoc (digitsUpTo (suc f) (n / 10)) ((48 + n % 10) ∷ []) rest) ∙ r
-
-no-minus : (n : ℕ) → beginsWith (text "-") (decimalOf n) ≡ false
-no-minus n = ap (beginsWith (text "-")) (sym (append-nil (decimalOf n))) ∙ first-digit 19 n []
-
 score-own : (z : ℤ) → in16 z ≡ true → isScore (signedOf z) ≡ true
-score-own (pos n) e =
-    let h = ltb-true n 32768 e in
-    ap (λ (b : Bool). cond b (isNumber 1 32768 (drop 1 (decimalOf n))) (isNumber 0 32767 (decimalOf n))) (no-minus n) ∙ number-own 0 32767 n (omega arith) (omega arith) (omega arith)
-score-own (negsuc n) e = let h = ltb-true n 32768 e in number-own 1 32768 (suc n) (omega arith) (omega arith) (omega arith)
+score-own (pos n) e = let h = ltb-true n 32768 e in plus-own n (omega arith)
+score-own (negsuc n) e = let h = ltb-true n 32768 e in minus-own (suc n) (omega arith) (omega arith)
 
 or-right : (a b : Bool) → b ≡ true → (a || b) ≡ true
 or-right true b e = refl
@@ -114,17 +78,6 @@ score-16 bbs state z e = score-short attacks pstOf bbs (state .side) z e
 -- ---- a line's refusals are numbers of one digit or two, from 1
 refused-own : (n : ℕ) → 1 ≤ n → n < 100 → saysRefused (text "refused " ++ decimalOf n) ≡ true
 refused-own n l u = number-own 1 99 n l (omega arith) (omega arith)
-
--- the half points
-half-kind : (half : ℕ) (s : List ℕ) → half < 3 → isShown s ≡ true → (saysRefused (spaced half ++ s) ≡ false) × (saysLoaded (spaced half ++ s) ≡ true)
-unfolding digitsUpTo
-half-kind zero s h e = (refl, e)
-half-kind (suc zero) s h e = (refl, e)
-half-kind (suc (suc zero)) s h e = (refl, e)
-half-kind (suc (suc (suc n))) s h e = absurd (no h)
-  where
-    no : suc (suc (suc n)) < 3 → ⊥
-    no q = omega arith
 
 -- ---- what is said of a line or a record: half points below 3, or a refusal's number
 pub record ForRow (a : Answer Line) : Type 0 where
@@ -165,44 +118,13 @@ not-twice : (t : Bool) → not (not t) ≡ t
 not-twice true = refl
 not-twice false = refl
 
-behind-own : (number : ℕ) (a : Answer Line) → behindNumber number (rowOf number a) ≡ tailOf a ++ text "\n"
-behind-own number a = ap (drop (length (spaced number))) (row-is number a) ∙ drop-append-seam (spaced number) (tailOf a ++ text "\n")
-
--- a row without its LF
-body-own : (s : List ℕ) → withoutLF (s ++ text "\n") ≡ s
-body-own s =
-    let e = length-append s (text "\n") in
-    let k : length (s ++ text "\n") - 1 ≡ length s = omega arith in
-    ap (λ (n : ℕ). take n (s ++ text "\n")) k ∙ take-append-seam s (text "\n")
-
-rest-own : (number : ℕ) (a : Answer Line) → afterNumber number (rowOf number a) ≡ tailOf a
-rest-own number a =
-    ap (λ (r : List ℕ). behindNumber number (withoutLF r)) (row-is number a ∙ sym (append-assoc (spaced number) (tailOf a) (text "\n")))
-    ∙ ap (behindNumber number) (body-own (spaced number ++ tailOf a)) ∙ drop-append-seam (spaced number) (tailOf a)
-
-ends-cons : (b : ℕ) (s : List ℕ) → endsInLF s ≡ true → endsInLF (b ∷ s) ≡ true
-unfolding endsInLF
-ends-cons b [] e = absurd (false≢true e)
-ends-cons b (c ∷ s) e = e
-
-ends-after : (s t : List ℕ) → endsInLF t ≡ true → endsInLF (s ++ t) ≡ true
-ends-after [] t e = e
-ends-after (b ∷ s) t e = ends-cons b (s ++ t) (ends-after s t e)
-
-ends-end : endsInLF (text "\n") ≡ true
-unfolding endsInLF
-ends-end = refl
-
 fits-own : (number : ℕ) (a : Answer Line) → ForRow a → isRow number (rowOf number a) ≡ true
 fits-own number a s =
     let short = answer-32 number a (λ n v e. s .two-digits n v (sym e)) (λ l e. let h = s .half l (sym e) in omega arith) in
-    ap₂ _&&_ (le-leb (length (rowOf number a)) 32 short)
-    (ap₂ _&&_ (ap endsInLF (row-is number a) ∙ ends-after (spaced number) (tailOf a ++ text "\n") (ends-after (tailOf a) (text "\n") ends-end))
-    (ap₂ _&&_ (ap (beginsWith (spaced number)) (row-is number a) ∙ begins-own (spaced number) (tailOf a ++ text "\n"))
-    (ap (λ (x : List ℕ). saysRefused x || saysLoaded x) (rest-own number a) ∙ kind a s .1)))
+    ap (isRow number) (row-is number a) ∙ row-own number (tailOf a) (subst (λ (x : List ℕ). length x ≤ 32) (row-is number a) short) (kind a s .1)
 
 turned-own : (number : ℕ) (a : Answer Line) → ForRow a → saysRefused (afterNumber number (rowOf number a)) ≡ not (isLoaded a)
-turned-own number a s = ap saysRefused (rest-own number a) ∙ kind a s .0
+turned-own number a s = ap saysRefused (ap (afterNumber number) (row-is number a) ∙ said-own number (tailOf a)) ∙ kind a s .0
 
 step-own : (part before loaded others : ℕ) (rows : List (List ℕ)) (rest : List ℕ) (t : Bool)
     → step part before loaded others rows true rest (not t)
@@ -220,7 +142,7 @@ row-taken part before loaded others a rows s =
     step-is part before loaded others row rows (fits-own number a s)
     ∙ ap (λ (b : Bool). step part before loaded others rows b (behindNumber number row) (saysRefused (afterNumber number row))) (fits-own number a s)
     ∙ ap (λ (b : Bool). step part before loaded others rows true (behindNumber number row) b) (turned-own number a s)
-    ∙ ap (λ (x : List ℕ). step part before loaded others rows true x (not (isLoaded a))) (behind-own number a)
+    ∙ ap (λ (x : List ℕ). step part before loaded others rows true x (not (isLoaded a))) (ap (behindNumber number) (row-is number a) ∙ behind-own number (tailOf a))
     ∙ step-own part before loaded others rows (tailOf a ++ text "\n") (isLoaded a)
     ∙ ap (λ (x : List ℕ). withRow x (partFrom part before (tally loaded (isLoaded a)) (tally others (not (isLoaded a))) rows)) (sym (row-is (before + number) a))
 

@@ -106,13 +106,13 @@ behind (b ∷ s) g a h m =
     ∙ append-assoc (digitsUpTo g a) (b ∷ []) s
 
 -- a first digit alone, and one that is no 0 with others behind it
-own-alone : (b : ℕ) → T (isFigure b) → decimalOf (decimalFrom 0 (b ∷ [])) ≡ b ∷ []
+pub own-alone : (b : ℕ) → T (isFigure b) → decimalOf (decimalFrom 0 (b ∷ [])) ≡ b ∷ []
 unfolding decimalFrom
 own-alone b t =
     digit-alone 20 (10 * 0 + (b - 48)) (omega arith) (omega (arith, to-57 b t))
     ∙ ap (λ (k : ℕ). k ∷ []) (let q : 48 + (10 * 0 + (b - 48)) ≡ b = omega (arith, from-48 b t) in q)
 
-own-more : (b : ℕ) (s : List ℕ) → T (isFigure b) → (b ≡ 48 → ⊥) → T (every isFigure s) → length s ≤ 19 → decimalOf (decimalFrom 0 (b ∷ s)) ≡ b ∷ s
+pub own-more : (b : ℕ) (s : List ℕ) → T (isFigure b) → (b ≡ 48 → ⊥) → T (every isFigure s) → length s ≤ 19 → decimalOf (decimalFrom 0 (b ∷ s)) ≡ b ∷ s
 unfolding decimalFrom
 own-more b s t n m l =
     let a : ℕ = 10 * 0 + (b - 48) in

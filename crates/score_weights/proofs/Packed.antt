@@ -1,10 +1,12 @@
 -- Words added are both phases' weights added: each weight is lifted by 128 and is then at most 245, so those of 4,096 pieces stay within their fields.
 -- Assumes nothing.
-use mathlib.Core.Path.{_≡_, sym, ap, _∙_, subst}
+use mathlib.Core.Path.{_≡_, refl, sym, ap, _∙_, subst}
+use mathlib.Core.Bool.{Bool, true, false}
 use Prim.Native.Nat.{ℕ, _+_, _*_, _-_, _/_, _%_, _<_, _≤_}
 use native.Mathlib.Omega.{arith}
-use lib.Dec.{eqb, eqb→eq}
+use lib.Dec.{eqb, leb, ltb, eqb→eq, leb→le}
 use lib.IntN.{ℤ, pos, natAbs, _+ℤ_, _-ℤ_}
+use borrow.Author.Tests.{ltb-true, ltb-false}
 use Rattle.laws.specs.Tests.{allBelow, allBelow2}
 use Rattle.laws.proofs.Tests.{all-at, all2-at}
 use Rattle.laws.proofs.Diff.{Diff, aboveZero, belowZero, diff-of, diff-pos, diff-add, diff-minus, diff-eq, diff-swap, abs-diff}
@@ -14,6 +16,7 @@ use Rattle.chess.proofs.Codes.{white-le}
 use Rattle.score_pst.specs.Pst.{pstOf}
 use Rattle.score_pst.proofs.Table.{small}
 use Rattle.score_weights.specs.PrivatePacked.{lifted, fields, packedAt, openingIn, endingIn}
+use Rattle.score_weights.proofs.Past.{off-board, no-kind}
 
 -- ---- one weight
 lifted-diff : (z : ℤ) → natAbs z ≤ 117 → Diff z (lifted z) 128 × (lifted z ≤ 245)
@@ -36,6 +39,22 @@ own kind colour s hk hc hs =
     (all2-at 6 64 (λ k t. eqb (packedAt k (flipOf t colour)) (fields (lifted (pstOf (codeOf k colour) t 0)) (lifted (pstOf (codeOf k colour) t 1)) 1))
     (all-at 2 (λ c. allBelow2 6 64 (λ k t. eqb (packedAt k (flipOf t c)) (fields (lifted (pstOf (codeOf k c) t 0)) (lifted (pstOf (codeOf k c) t 1)) 1))) tt colour hc) kind s hk hs)
 
+-- no word is more than 245 in both fields
+pub packed-le : (kind s : ℕ) → packedAt kind s ≤ 1099768529141
+unfolding packedAt allBelow2
+packed-le kind s = by-kind (ltb kind 6) refl
+  where
+    none : 0 ≡ packedAt kind s → packedAt kind s ≤ 1099768529141
+    none e = omega (arith, e)
+
+    by-square : kind < 6 → (b : Bool) → ltb s 64 ≡ b → packedAt kind s ≤ 1099768529141
+    by-square hk true e = leb→le (packedAt kind s) 1099768529141 (all2-at 6 64 (λ k t. leb (packedAt k t) 1099768529141) tt kind s hk (ltb-true s 64 e))
+    by-square hk false e = none (off-board kind s (ltb-false s 64 e))
+
+    by-kind : (b : Bool) → ltb kind 6 ≡ b → packedAt kind s ≤ 1099768529141
+    by-kind true e = by-square (ltb-true kind 6 e) (ltb s 64) refl
+    by-kind false e = none (no-kind kind s (ltb-false kind 6 e))
+
 -- ---- a sum of words, and both phases' sums
 pub record Unpacked (sum count : ℕ) (opening ending : ℤ) : Type 0 where
   pub low : ℕ
@@ -46,12 +65,12 @@ pub record Unpacked (sum count : ℕ) (opening ending : ℤ) : Type 0 where
   pub low-le : low ≤ 245 * count
   pub high-le : high ≤ 245 * count
 
-pub nothing : Unpacked 0 0 (pos 0) (pos 0)
-nothing = record { low = 0; high = 0; is = omega arith; first = diff-pos 0; last = diff-pos 0; low-le = omega arith; high-le = omega arith }
+pub none-added : Unpacked 0 0 (pos 0) (pos 0)
+none-added = record { low = 0; high = 0; is = omega arith; first = diff-pos 0; last = diff-pos 0; low-le = omega arith; high-le = omega arith }
 
-pub one : (kind colour s : ℕ) → kind < 6 → colour < 2 → s < 64
+pub one-piece : (kind colour s : ℕ) → kind < 6 → colour < 2 → s < 64
     → Unpacked (packedAt kind (flipOf s colour)) 1 (pstOf (codeOf kind colour) s 0) (pstOf (codeOf kind colour) s 1)
-one kind colour s hk hc hs =
+one-piece kind colour s hk hc hs =
     let code : codeOf kind colour < 14 = (let l = white-le kind in omega arith) in
     let o = lifted-diff (pstOf (codeOf kind colour) s 0) (small (codeOf kind colour) s 0 code hs (omega arith)) in
     let e = lifted-diff (pstOf (codeOf kind colour) s 1) (small (codeOf kind colour) s 1 code hs (omega arith)) in
@@ -65,8 +84,8 @@ one kind colour s hk hc hs =
       high-le = e .1;
     }
 
-pub together : (v m w n : ℕ) (x y z u : ℤ) → Unpacked v m x y → Unpacked w n z u → Unpacked (v + w) (m + n) (x +ℤ z) (y +ℤ u)
-together v m w n x y z u p q =
+pub more-pieces : (v m w n : ℕ) (x y z u : ℤ) → Unpacked v m x y → Unpacked w n z u → Unpacked (v + w) (m + n) (x +ℤ z) (y +ℤ u)
+more-pieces v m w n x y z u p q =
     let k : 128 * m + 128 * n ≡ 128 * (m + n) = omega arith in
     let i = p .is in
     let j = q .is in

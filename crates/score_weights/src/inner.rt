@@ -2,32 +2,12 @@
 // anew at every read. Total, and no door.
 //
 // A word has three fields: in its lowest 20 digits the opening's weight, in the next 20 the ending's, each lifted by 128, and above them a 1, which counts
-// the piece. Words of as many pieces as all twelve boards can hold are added with no carry from one field to the next.
+// the piece. Words of as many pieces as all twelve boards can hold are added with no carry from one field to the next. A kind has a function of its own, so
+// that a loop over its pieces has no choice of a kind in it.
 ghost use mathlib.Core.Path.{_≡_};
 ghost use Prim.Native.Nat.{_*_, _<_};
 ghost use lib.IntN.{pos, _-ℤ_};
-ghost use Rattle.score_weights.specs.Promises.{GivesPacked, SumsOpening, SumsEnding};
-use chess::kind::BISHOP;
-use chess::kind::KING;
-use chess::kind::KNIGHT;
-use chess::kind::PAWN;
-use chess::kind::QUEEN;
-use chess::kind::ROOK;
-
-// The word of a kind's white piece on a square; 0 past the six kinds and the 64 squares.
-pub fn word(kind: u8, square: u8) -> u64
-    ensures { λ r. ⌜ GivesPacked kind square r ⌝ }
-{
-    match kind {
-        PAWN => pawn(square),
-        KNIGHT => knight(square),
-        BISHOP => bishop(square),
-        ROOK => rook(square),
-        QUEEN => queen(square),
-        KING => king(square),
-        _ => 0,
-    }
-}
+ghost use Rattle.score_weights.specs.Promises.{PacksPawn, PacksKnight, PacksBishop, PacksRook, PacksQueen, PacksKing, SumsOpening, SumsEnding};
 
 const FIELD: u64 = 0x10_0000;
 
@@ -55,9 +35,10 @@ pub fn ending(sum: u64) -> i32
     lowered(sum / FIELD % FIELD, sum / FIELD / FIELD)
 }
 
+// The word of a white pawn on a square; 0 past the 64 squares.
 #[rattlefmt::skip]
-fn pawn(square: u8) -> u64
-    ensures { λ r. ⌜ GivesPacked 0 square r ⌝ }
+pub fn pawn_word(square: u8) -> u64
+    ensures { λ r. ⌜ PacksPawn square r ⌝ }
 {
     match square {
         0 => 0x1_00080_00080, 1 => 0x1_00080_00080, 2 => 0x1_00080_00080, 3 => 0x1_00080_00080,
@@ -80,9 +61,10 @@ fn pawn(square: u8) -> u64
     }
 }
 
+// The word of a white knight on a square; 0 past the 64 squares.
 #[rattlefmt::skip]
-fn knight(square: u8) -> u64
-    ensures { λ r. ⌜ GivesPacked 1 square r ⌝ }
+pub fn knight_word(square: u8) -> u64
+    ensures { λ r. ⌜ PacksKnight square r ⌝ }
 {
     match square {
         0 => 0x1_0003e_00037, 1 => 0x1_00042_00071, 2 => 0x1_00036_00073, 3 => 0x1_00058_0007d,
@@ -105,9 +87,10 @@ fn knight(square: u8) -> u64
     }
 }
 
+// The word of a white bishop on a square; 0 past the 64 squares.
 #[rattlefmt::skip]
-fn bishop(square: u8) -> u64
-    ensures { λ r. ⌜ GivesPacked 2 square r ⌝ }
+pub fn bishop_word(square: u8) -> u64
+    ensures { λ r. ⌜ PacksBishop square r ⌝ }
 {
     match square {
         0 => 0x1_00059_0004d, 1 => 0x1_0007b_0005a, 2 => 0x1_00063_00070, 3 => 0x1_00061_00073,
@@ -130,9 +113,10 @@ fn bishop(square: u8) -> u64
     }
 }
 
+// The word of a white rook on a square; 0 past the 64 squares.
 #[rattlefmt::skip]
-fn rook(square: u8) -> u64
-    ensures { λ r. ⌜ GivesPacked 3 square r ⌝ }
+pub fn rook_word(square: u8) -> u64
+    ensures { λ r. ⌜ PacksRook square r ⌝ }
 {
     match square {
         0 => 0x1_0007c_0006f, 1 => 0x1_0008d_0007e, 2 => 0x1_0008a_0007d, 3 => 0x1_00070_00082,
@@ -155,9 +139,10 @@ fn rook(square: u8) -> u64
     }
 }
 
+// The word of a white queen on a square; 0 past the 64 squares.
 #[rattlefmt::skip]
-fn queen(square: u8) -> u64
-    ensures { λ r. ⌜ GivesPacked 4 square r ⌝ }
+pub fn queen_word(square: u8) -> u64
+    ensures { λ r. ⌜ PacksQueen square r ⌝ }
 {
     match square {
         0 => 0x1_00052_00089, 1 => 0x1_00052_00083, 2 => 0x1_00060_0007d, 3 => 0x1_0005f_0008a,
@@ -180,9 +165,10 @@ fn queen(square: u8) -> u64
     }
 }
 
+// The word of a white king on a square; 0 past the 64 squares.
 #[rattlefmt::skip]
-fn king(square: u8) -> u64
-    ensures { λ r. ⌜ GivesPacked 5 square r ⌝ }
+pub fn king_word(square: u8) -> u64
+    ensures { λ r. ⌜ PacksKing square r ⌝ }
 {
     match square {
         0 => 0x1_00063_00057, 1 => 0x1_00065_0007c, 2 => 0x1_00069_00079, 3 => 0x1_00073_00045,

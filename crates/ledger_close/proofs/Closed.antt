@@ -4,7 +4,6 @@ use mathlib.Core.Bool.{Bool, true, false, cond}
 use mathlib.Core.List.{List}
 use Prim.Native.Nat.{ℕ, _≤_}
 use lib.Dec.{ltb}
-use lib.IntN.{ℤ}
 use lib.ListN.{length, take}
 use Rattle.refusal.specs.Answer.{Answer, given, refused, refusalOf}
 use Rattle.refusal.specs.Refusals.{numberOf}
@@ -13,15 +12,11 @@ use Rattle.refusal.specs.declared.Refusal.the-variants as R
 use Rattle.refusal.proofs.Paper.{number-small}
 use Rattle.position_boards.specs.Boards.{bitboardsOf}
 use Rattle.position_profile.proofs.Exactly.{either}
-use Rattle.attack_steps.specs.Steps.{stepTables}
-use Rattle.score_pst.specs.Pst.{pstTable}
-use Rattle.position.specs.declared.State.{State}
 use Rattle.line_ranks.specs.Promises.{emptyBoard}
 use Rattle.line_parse.specs.Line.{Line, lineOf}
 use Rattle.line_parse.specs.Promises.{paper, byValue}
 use Rattle.line_parse.specs.declared.Read.{Read}
 use Rattle.line.specs.Promises.{bitboardsAfter}
-use Rattle.score.specs.Score.{Outcome}
 use Rattle.text_out.specs.Text.{Puts, Adds, place, afterOf}
 use Rattle.text_out.proofs.Added.{adds-or}
 use Rattle.line_held.specs.Held.{saidOf}
@@ -29,11 +24,10 @@ use Rattle.line_profile.specs.Under.{under, saidUnder}
 use Rattle.line_profile.specs.declared.Profile.{Profile}
 use Rattle.line_profile.specs.declared.Profile.the-variants as P
 use Rattle.line_profile.proofs.Judged.{same-under}
-use Rattle.ledger_row.specs.Row.{saidRow, rowBy, rowOf, isLoaded}
-use Rattle.ledger_row.specs.Promises.{PutsRow, scoreWith}
+use Rattle.ledger_row.specs.Row.{saidRow, rowOf, isLoaded}
+use Rattle.ledger_row.specs.Promises.{PutsRow}
 use Rattle.ledger_row.specs.declared.Row.{Row}
 use Rattle.ledger_row.proofs.Lengths.{refused-32, row-32}
-use Rattle.ledger_row.proofs.Lent.{told-row}
 use Rattle.ledger_row.proofs.Rows.{row-read}
 
 -- ---- no longer than 32 bytes
@@ -54,22 +48,22 @@ pub said-32 : (profile : Profile) (number : ℕ) (line : List ℕ) (size : ℕ) 
 said-32 profile number line size = under-32 profile number (saidOf line size) (held-32 number line size)
 
 -- ---- what was read and judged: its row is the line's under the profile
-pub row-judged : (profile : Profile) (rule : List ℕ → State → Answer Outcome) (number : ℕ) (said : Answer Line) (old new : List ℕ) (at : ℕ) (read : Read) (bitboards : List ℕ) (r : Row)
+pub row-judged : (profile : Profile) (number : ℕ) (said : Answer Line) (old new : List ℕ) (at : ℕ) (read : Read) (bitboards : List ℕ) (r : Row)
     → paper read ≡ byValue (under profile said) → bitboards ≡ bitboardsAfter said (bitboardsOf emptyBoard)
-    → PutsRow old new at (paper read) (saidRow rule number bitboards (paper read)) r → PutsRow old new at (under profile said) (rowBy rule number (under profile said)) r
-row-judged profile rule number said old new at read bitboards r e f h = go (under profile said) refl
+    → PutsRow old new at (paper read) (saidRow number bitboards (paper read)) r → PutsRow old new at (under profile said) (rowOf number (under profile said)) r
+row-judged profile number said old new at read bitboards r e f h = go (under profile said) refl
   where
-    go : (a : Answer Line) → under profile said ≡ a → PutsRow old new at a (rowBy rule number a) r
+    go : (a : Answer Line) → under profile said ≡ a → PutsRow old new at a (rowOf number a) r
     go (given l) q =
         let same : said ≡ given l = sym (same-under profile said (l .state, l .half) (ap byValue q)) ∙ q in
-        row-read rule number (given l) old new at read bitboards r (e ∙ ap byValue q) (f ∙ ap (λ (a : Answer Line). bitboardsAfter a (bitboardsOf emptyBoard)) same) h
+        row-read number (given l) old new at read bitboards r (e ∙ ap byValue q) (f ∙ ap (λ (a : Answer Line). bitboardsAfter a (bitboardsOf emptyBoard)) same) h
     go (refused n v) q =
         let out : paper read ≡ refused n v = e ∙ ap byValue q in
-        record { puts = subst (λ (u : List ℕ). Puts old new at u (r .placed)) (ap (saidRow rule number bitboards) out) (h .puts); loaded = h .loaded ∙ ap isLoaded out }
+        record { puts = subst (λ (u : List ℕ). Puts old new at u (r .placed)) (ap (saidRow number bitboards) out) (h .puts); loaded = h .loaded ∙ ap isLoaded out }
 
--- ---- as a text that is added, by 01's tables
-pub closed-adds : (tables : List (List ℕ)) (pst : List ℤ) → tables ≡ stepTables → pst ≡ pstTable → (number : ℕ) (old new : List ℕ) (at : ℕ) (said : Answer Line) (r : Row)
-    → PutsRow old new at said (rowBy (scoreWith tables pst) number said) r → (next : ℕ) → next ≡ afterOf (place (r .placed)) at
+-- ---- as a text that is added
+pub closed-adds : (number : ℕ) (old new : List ℕ) (at : ℕ) (said : Answer Line) (r : Row)
+    → PutsRow old new at said (rowOf number said) r → (next : ℕ) → next ≡ afterOf (place (r .placed)) at
     → Adds old at (rowOf number said) new next
-closed-adds tables pst e f number old new at said r h next q =
-    adds-or old at (rowOf number said) new (r .placed) next (subst (λ (t : List ℕ). Puts old new at t (r .placed)) (told-row tables pst e f number said) (h .puts)) q
+closed-adds number old new at said r h next q =
+    adds-or old at (rowOf number said) new (r .placed) next (h .puts) q

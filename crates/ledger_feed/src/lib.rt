@@ -1,10 +1,5 @@
 // The ledger as a machine over bytes: any number of bytes at a time go in, whole rows come out.
-ghost use mathlib.Core.Path.{_≡_};
-ghost use Rattle.attack_steps.specs.Steps.{stepTables};
-ghost use Rattle.score_pst.specs.Pst.{pstTable};
 ghost use Rattle.ledger_feed.specs.Promises.{Starts, Countable, Feeds, MakesState, Ready, Takes};
-use attack_steps::inner::ROWS;
-use chess::square::Square;
 use line_cut::Begun;
 use line_cut::LINE;
 use line_profile::Profile;
@@ -68,16 +63,8 @@ fn made(held: usize, cr: bool, loaded: u64, refused: u64) -> SoFar
 }
 
 // The bytes of a chunk, where there is room for their rows: from line's end to line's end.
-fn take(
-    profile: Profile,
-    state: SoFar,
-    line: &mut [u8],
-    chunk: &[u8],
-    out: &mut [u8],
-    pst: &[i8],
-    tables: &[[u64; Square::COUNT]; ROWS],
-) -> Fed
-    requires { ⌜ Ready state (now line) (now chunk) (now out) × (now tables ≡ stepTables) × (now pst ≡ pstTable) ⌝ }
+fn take(profile: Profile, state: SoFar, line: &mut [u8], chunk: &[u8], out: &mut [u8]) -> Fed
+    requires { ⌜ Ready state (now line) (now chunk) (now out) ⌝ }
     ensures { λ r. ⌜ Takes profile state (now (line .entry)) (now (chunk .entry)) (now (out .entry)) r (now (line .exit)) (now (out .exit)) ⌝ }
 {
     let mut begun = Begun {
@@ -101,8 +88,6 @@ fn take(
                 loaded + refused + 1,
                 out,
                 wrote,
-                pst,
-                tables,
             );
             let placed = row.placed;
             let is_loaded = row.loaded;
@@ -128,7 +113,5 @@ pub fn feed(profile: Profile, state: SoFar, line: &mut [u8], chunk: &[u8], out: 
     if out.len() / ROW < ends {
         return Fed::Full;
     }
-    let pst = score_pst::inner::table();
-    let tables = attack_steps::inner::tables();
-    take(profile, state, line, chunk, out, &pst, &tables)
+    take(profile, state, line, chunk, out)
 }

@@ -44,9 +44,7 @@ fn last_rows(profile: Profile, state: SoFar, line: &[u8], out: &mut [u8]) -> usi
         ).or(0);
     }
     let lines = state.loaded + state.refused + 1;
-    let pst = score_pst::inner::table();
-    let tables = attack_steps::inner::tables();
-    let row = ledger_close::close(profile, line, state.held, lines, out, 0, &pst, &tables);
+    let row = ledger_close::close(profile, line, state.held, lines, out, 0);
     let placed = row.placed;
     let is_loaded = row.loaded;
     let next = placed.or(0);

@@ -15,11 +15,9 @@ use Rattle.text_in.specs.Text.{text}
 use Rattle.line_parse.specs.Line.{Line, lineOf}
 use Rattle.line_parse.proofs.Given.{given-spells}
 use Rattle.line.proofs.Field.{refused-by}
-use Rattle.attack.specs.Attacks.{attacks}
-use Rattle.score_pst.specs.Pst.{pstOf}
 use Rattle.score_taper.specs.Parts.{in16}
 use Rattle.score_verdict.specs.Verdict.{Verdict, lost, won, drawn, none, verdictOf}
-use Rattle.score.specs.Score.{Outcome, verdict, score, verdictFirst, pointsBy, scoreBy, scoreOf}
+use Rattle.score.specs.Score.{Outcome, verdict, score, verdictFirst, pointsFor, scoreOf}
 use Rattle.text_out.specs.Text.{digitsUpTo, decimalOf, signedOf}
 use Rattle.ledger_row.proofs.Lengths.{answer-32}
 use Rattle.ledger_row.proofs.Rows.{score-short}
@@ -68,12 +66,8 @@ first-none none (refused n l) e = let k : _≡_ {A = ℕ} 0 1 = cc in omega arit
 first-none none (given z) e = let k : _≡_ {A = ℕ} 0 1 = cc in omega arith
 
 never-none : (bbs : List ℕ) (state : State) → scoreOf bbs state ≡ given (verdict none) → ⊥
-unfolding scoreOf scoreBy
-never-none bbs state e = first-none (verdictOf bbs (state .side)) (pointsBy attacks pstOf bbs (state .side)) e
-
-score-16 : (bbs : List ℕ) (state : State) (z : ℤ) → given (score z) ≡ scoreOf bbs state → in16 z ≡ true
 unfolding scoreOf
-score-16 bbs state z e = score-short attacks pstOf bbs (state .side) z e
+never-none bbs state e = first-none (verdictOf bbs (state .side)) (pointsFor bbs (state .side)) e
 
 -- ---- a line's refusals are numbers of one digit or two, from 1
 refused-own : (n : ℕ) → 1 ≤ n → n < 100 → saysRefused (text "refused " ++ decimalOf n) ≡ true
@@ -96,7 +90,7 @@ kind : (a : Answer Line) → ForRow a → (saysRefused (tailOf a) ≡ not (isLoa
 unfolding tailOf
 kind (given x) s =
     let p = half-kind (x .half) (shownOf (scoreOf (bitboardsOf (x .board)) (x .state))) (s .half x refl)
-    (shown-own (scoreOf (bitboardsOf (x .board)) (x .state)) (score-16 (bitboardsOf (x .board)) (x .state)) (never-none (bitboardsOf (x .board)) (x .state))) in
+    (shown-own (scoreOf (bitboardsOf (x .board)) (x .state)) (score-short (bitboardsOf (x .board)) (x .state)) (never-none (bitboardsOf (x .board)) (x .state))) in
     (p .0, ap₂ _||_ (p .0) (p .1))
 kind (refused n v) s =
     let p = refused-own n (s .from-1 n v refl) (s .two-digits n v refl) in

@@ -2,7 +2,6 @@
 use mathlib.Core.Path.{_≡_}
 use mathlib.Core.List.{List}
 use Prim.Native.Nat.{ℕ}
-use lib.IntN.{ℤ}
 use Rattle.refusal.specs.Answer.{Answer}
 use Rattle.refusal.specs.Refusals.{numberOf}
 use Rattle.refusal.specs.declared.Refusal.{Refusal}
@@ -12,7 +11,7 @@ use Rattle.line_parse.specs.declared.Read.{Read}
 use Rattle.text_out.specs.declared.Placed.{Placed}
 use Rattle.text_out.proofs.Determined.{put}
 use Rattle.ledger_row.specs.Row.{saidRow, refusedRow}
-use Rattle.ledger_row.specs.Promises.{PutsRow, PutsSaid, PutsRefused, scoreWith}
+use Rattle.ledger_row.specs.Promises.{PutsRow, PutsSaid, PutsRefused}
 use Rattle.ledger_row.specs.declared.Row.{Row}
 
 -- whatever the text that is put, and whatever was said
@@ -23,10 +22,9 @@ puts-row old new new′ at said text r s p q =
     let f = one (p .loaded) (q .loaded) in
     (λ i. record { placed = e .0 i; loaded = f i }, e .1)
 
-pub inner-row : (tables : List (List ℕ)) (pst : List ℤ) (old new new′ : List ℕ) (at number : ℕ) (read : Read) (bitboards : List ℕ) (r s : Row)
-    → PutsSaid tables pst old new at number read bitboards r → PutsSaid tables pst old new′ at number read bitboards s → (r ≡ s) × (new ≡ new′)
-inner-row tables pst old new new′ at number read bitboards r s =
-    puts-row old new new′ at (paper read) (saidRow (scoreWith tables pst) number bitboards (paper read)) r s
+pub inner-row : (old new new′ : List ℕ) (at number : ℕ) (read : Read) (bitboards : List ℕ) (r s : Row)
+    → PutsSaid old new at number read bitboards r → PutsSaid old new′ at number read bitboards s → (r ≡ s) × (new ≡ new′)
+inner-row old new new′ at number read bitboards r s = puts-row old new new′ at (paper read) (saidRow number bitboards (paper read)) r s
 
 pub inner-refused : (old new new′ : List ℕ) (at number : ℕ) (refusal : Refusal) (r s : Placed)
     → PutsRefused old new at number refusal r → PutsRefused old new′ at number refusal s → (r ≡ s) × (new ≡ new′)

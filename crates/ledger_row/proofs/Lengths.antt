@@ -12,12 +12,10 @@ use Rattle.refusal.specs.Refusals.{numberOf}
 use Rattle.refusal.specs.declared.Refusal.{Refusal}
 use Rattle.refusal.proofs.Paper.{number-small}
 use Rattle.position_boards.specs.Boards.{bitboardsOf}
-use Rattle.attack.specs.Attacks.{attacks}
 use Rattle.text_in.specs.Text.{text}
 use Rattle.line_parse.specs.Line.{Line, lineOf}
 use Rattle.line_parse.proofs.Given.{given-spells}
 use Rattle.line.proofs.Field.{refused-by}
-use Rattle.score_pst.specs.Pst.{pstOf}
 use Rattle.score_taper.specs.Parts.{in16}
 use Rattle.score_verdict.specs.Verdict.{lost, won, drawn, none}
 use Rattle.score.specs.Score.{Outcome, verdict, score, scoreOf}
@@ -67,7 +65,7 @@ unfolding scoreOf
 answer-32 number (refused n v) few half = refused-32 number n (few n v refl)
 answer-32 number (given l) few half =
     loaded-32 number (l .half) (scoreOf (bitboardsOf (l .board)) (l .state)) (half l refl)
-    (shown-6 (scoreOf (bitboardsOf (l .board)) (l .state)) (score-short attacks pstOf (bitboardsOf (l .board)) (l .state .side)))
+    (shown-6 (scoreOf (bitboardsOf (l .board)) (l .state)) (score-short (bitboardsOf (l .board)) (l .state)))
 
 pub row-32 : (number : ℕ) (line : List ℕ) → length (rowOf number (lineOf line)) ≤ 32
 row-32 number line = answer-32 number (lineOf line) (λ n v e. let h = refused-by line n v (sym e) in omega (arith, h .2)) (λ l e. let half = given-spells line l (sym e) .half in omega arith)

@@ -12,24 +12,25 @@ use Rattle.refusal.proofs.Answers.{given-not}
 use Rattle.position_boards.specs.Boards.{bitboardsOf}
 use Rattle.position.specs.declared.State.{State}
 use Rattle.line_ranks.specs.Promises.{emptyBoard}
-use Rattle.line_parse.specs.Line.{Line}
+use Rattle.line_parse.specs.Line.{Line, lineOf}
 use Rattle.line_parse.specs.Promises.{paper, byValue}
 use Rattle.line.specs.Promises.{bitboardsAfter}
+use Rattle.line.proofs.Loaded.{loaded-checked}
 use Rattle.line_parse.specs.declared.Read.{Read}
 use Rattle.line_parse.specs.declared.Read.the-variants.{Position, Refused}
 use Rattle.score_taper.specs.Parts.{in16, pointsOf}
 use Rattle.score_taper.specs.declared.Side.{Side}
 use Rattle.score_taper.proofs.Sides.{given-short}
 use Rattle.score_verdict.specs.Verdict.{Verdict, lost, won, drawn, none, verdictOf, toMove}
-use Rattle.score_tally.specs.Sides.{sideBy}
-use Rattle.score.specs.Score.{Outcome, score, verdictFirst, scoreBy}
+use Rattle.score_tally.specs.Sides.{sideOf}
+use Rattle.score.specs.Score.{Outcome, score, verdictFirst, scoreOf, evalOf}
 use Rattle.score_material.specs.Pieces.{pieces}
 use Rattle.attack.specs.Attacks.{other}
 use Rattle.score.specs.Answers.{scored}
 use Rattle.score.specs.declared.Scored.{Scored}
 use Rattle.text_out.specs.Text.{Puts}
 use Rattle.text_out.specs.declared.Placed.{Placed}
-use Rattle.ledger_row.specs.Row.{saidRow, rowBy, loadedRow, refusedRow, isLoaded}
+use Rattle.ledger_row.specs.Row.{saidRow, rowOf, loadedRow, refusedRow, isLoaded}
 use Rattle.ledger_row.specs.Promises.{PutsRow, Short}
 use Rattle.ledger_row.specs.declared.Row.{Row}
 
@@ -42,38 +43,43 @@ settled-short drawn a z h e = absurd (let k : _≡_ {A = ℕ} 0 1 = cc in omega 
 settled-short none (refused n l) z h e = given-not e
 settled-short none (given y) z h e = let k : z ≡ y = cc in h z (ap given k)
 
-pub score-short : (attack : ℕ → ℕ → ℕ → ℕ → ℕ) (weight : ℕ → ℕ → ℕ → ℤ) (bbs : List ℕ) (side : ℕ) (z : ℤ) → given (score z) ≡ scoreBy attack weight bbs side → in16 z ≡ true
-unfolding scoreBy
-score-short attack weight bbs side z e =
-    let own : Side = sideBy attack weight bbs (toMove side) in
-    let them : Side = sideBy attack weight bbs (other side) in
-    settled-short (verdictOf bbs side) (pointsOf own them (pieces bbs)) z (λ y. given-short own them (pieces bbs) y) e
+pub score-short : (bbs : List ℕ) (state : State) (z : ℤ) → given (score z) ≡ scoreOf bbs state → in16 z ≡ true
+unfolding scoreOf
+score-short bbs state z e =
+    let own : Side = sideOf bbs (toMove (state .side)) in
+    let them : Side = sideOf bbs (other (state .side)) in
+    settled-short (verdictOf bbs (state .side)) (pointsOf own them (pieces bbs)) z (λ y. given-short own them (pieces bbs) y) e
 
-pub scored-short : (attack : ℕ → ℕ → ℕ → ℕ → ℕ) (weight : ℕ → ℕ → ℕ → ℤ) (bbs : List ℕ) (side : ℕ) (r : Scored) → scored r ≡ scoreBy attack weight bbs side → Short r
-scored-short attack weight bbs side r e z q = score-short attack weight bbs side z (sym (ap scored q) ∙ e)
+pub scored-short : (bbs : List ℕ) (state : State) (r : Scored) → scored r ≡ scoreOf bbs state → Short r
+scored-short bbs state r e z q = score-short bbs state z (sym (ap scored q) ∙ e)
 
 -- ---- the row of what was refused, and of what was loaded
-module _ (rule : List ℕ → State → Answer Outcome) (number : ℕ) (bitboards old new : List ℕ) (at : ℕ) (read : Read) where
+module _ (number : ℕ) (bitboards old new : List ℕ) (at : ℕ) (read : Read) where
   abbrev PutsIt : Read → Row → Type 0
-  PutsIt said r = PutsRow old new at (paper said) (saidRow rule number bitboards (paper said)) r
+  PutsIt said r = PutsRow old new at (paper said) (saidRow number bitboards (paper said)) r
 
   pub row-refused : (q : Refusal) → read ≡ Refused q → (p : Placed) → Puts old new at (refusedRow number (numberOf q)) p
       → PutsIt read (record { placed = p; loaded = false })
   row-refused q told p h = subst (λ (x : Read). PutsIt x (record { placed = p; loaded = false })) (sym told) (record { puts = h; loaded = refl })
 
-  pub row-loaded : (state : State) (half : ℕ) → read ≡ Position state half → (a : Answer Outcome) → a ≡ rule bitboards state
+  pub row-loaded : (state : State) (half : ℕ) → read ≡ Position state half → (a : Answer Outcome) → a ≡ scoreOf bitboards state
       → (p : Placed) → Puts old new at (loadedRow number half a) p → PutsIt read (record { placed = p; loaded = true })
   row-loaded state half told a s p h =
       subst (λ (x : Read). PutsIt x (record { placed = p; loaded = true })) (sym told)
       (record { puts = subst (λ (b : Answer Outcome). Puts old new at (loadedRow number half b) p) s h; loaded = refl })
 
 -- ---- what was read of a line: its row is the line's
-pub row-read : (rule : List ℕ → State → Answer Outcome) (number : ℕ) (a : Answer Line) (old new : List ℕ) (at : ℕ) (read : Read) (bitboards : List ℕ) (r : Row)
+pub row-read : (number : ℕ) (a : Answer Line) (old new : List ℕ) (at : ℕ) (read : Read) (bitboards : List ℕ) (r : Row)
     → paper read ≡ byValue a → bitboards ≡ bitboardsAfter a (bitboardsOf emptyBoard)
-    → PutsRow old new at (paper read) (saidRow rule number bitboards (paper read)) r → PutsRow old new at a (rowBy rule number a) r
-row-read rule number (given l) old new at read bitboards r e f h =
-    let t : saidRow rule number bitboards (paper read) ≡ rowBy rule number (given l) = ap₂ (saidRow rule number) f e in
+    → PutsRow old new at (paper read) (saidRow number bitboards (paper read)) r → PutsRow old new at a (rowOf number a) r
+row-read number (given l) old new at read bitboards r e f h =
+    let t : saidRow number bitboards (paper read) ≡ rowOf number (given l) = ap₂ (saidRow number) f e in
     record { puts = subst (λ (u : List ℕ). Puts old new at u (r .placed)) t (h .puts); loaded = h .loaded ∙ ap isLoaded e }
-row-read rule number (refused n v) old new at read bitboards r e f h =
-    let t : saidRow rule number bitboards (paper read) ≡ rowBy rule number (refused n v) = ap (saidRow rule number bitboards) e in
+row-read number (refused n v) old new at read bitboards r e f h =
+    let t : saidRow number bitboards (paper read) ≡ rowOf number (refused n v) = ap (saidRow number bitboards) e in
     record { puts = subst (λ (u : List ℕ). Puts old new at u (r .placed)) t (h .puts); loaded = h .loaded ∙ ap isLoaded e }
+
+-- neither SHAPE nor anything at odds comes before a row's score
+pub shown-eval : (line : List ℕ) (l : Line) → lineOf line ≡ given l → evalOf (bitboardsOf (l .board)) (l .board) (l .state) ≡ scoreOf (bitboardsOf (l .board)) (l .state)
+unfolding evalOf
+shown-eval line l e = loaded-checked line l e (scoreOf (bitboardsOf (l .board)) (l .state))

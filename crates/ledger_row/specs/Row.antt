@@ -9,7 +9,6 @@ use Rattle.text_in.specs.Text.{text}
 use Rattle.line_parse.specs.Line.{Line}
 use Rattle.score_verdict.specs.Verdict.{lost, won, drawn, none}
 use Rattle.score_verdict.specs.Verdict.{Verdict}
-use Rattle.position.specs.declared.State.{State}
 use Rattle.score.specs.Score.{Outcome, verdict, score, scoreOf}
 use Rattle.text_out.specs.Text.{decimalOf, signedOf}
 
@@ -38,19 +37,15 @@ refusedRow number refusal = spaced number ++ (text "refused " ++ (decimalOf refu
 unfoldable pub loadedRow : ℕ → ℕ → Answer Outcome → List ℕ
 loadedRow number half scored = spaced number ++ (spaced half ++ (shownOf scored ++ text "\n"))
 
--- the row of what a reader said: the state and the half points, with the position's bitboards beside them, or a refusal; by any rule of the score
-abbrev pub saidRow : (List ℕ → State → Answer Outcome) → ℕ → List ℕ → Answer (State × ℕ) → List ℕ
-saidRow rule number bitboards (given said) = loadedRow number (said .1) (rule bitboards (said .0))
-saidRow rule number bitboards (refused n beside) = refusedRow number n
+-- the row of what a reader said: the state and the half points, with the position's bitboards beside them, or a refusal
+abbrev pub saidRow : ℕ → List ℕ → Answer (State × ℕ) → List ℕ
+saidRow number bitboards (given said) = loadedRow number (said .1) (scoreOf bitboards (said .0))
+saidRow number bitboards (refused n beside) = refusedRow number n
 
 -- the row of a line, by what the line says
-abbrev pub rowBy : (List ℕ → State → Answer Outcome) → ℕ → Answer Line → List ℕ
-rowBy rule number (given l) = saidRow rule number (bitboardsOf (l .board)) (given (l .state, l .half))
-rowBy rule number (refused n beside) = saidRow rule number [] (refused n beside)
-
--- the row by 01's score
 abbrev pub rowOf : ℕ → Answer Line → List ℕ
-rowOf = rowBy scoreOf
+rowOf number (given l) = saidRow number (bitboardsOf (l .board)) (given (l .state, l .half))
+rowOf number (refused n beside) = saidRow number [] (refused n beside)
 
 -- what gets a row with half points, `over` too; the others are refused
 abbrev pub isLoaded : {A : Type 0} → Answer A → Bool

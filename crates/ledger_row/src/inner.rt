@@ -11,8 +11,6 @@ use crate::words::number;
 use crate::words::put;
 use crate::words::shown;
 use crate::words::spaced;
-use attack_steps::inner::ROWS;
-use chess::square::Square;
 use line_parse::Read;
 use refusal::Refusal;
 use score::Scored;
@@ -66,17 +64,9 @@ pub fn refused(line: u64, refusal: Refusal, out: &mut [u8], at: usize) -> Placed
     text_out::put(out, at, &row[..end])
 }
 
-// The row of what a reader said, whether of a line or of a record; the tables of the score are lent.
-pub fn row(
-    line: u64,
-    read: Read,
-    bitboards: &[u64],
-    out: &mut [u8],
-    at: usize,
-    pst: &[i8],
-    tables: &[[u64; Square::COUNT]; ROWS],
-) -> Row
-    ensures { λ r. ⌜ PutsSaid (now (tables .entry)) (now (pst .entry)) (now (out .entry)) (now (out .exit)) at line read (now (bitboards .entry)) r ⌝ }
+// The row of what a reader said, whether of a line or of a record.
+pub fn row(line: u64, read: Read, bitboards: &[u64], out: &mut [u8], at: usize) -> Row
+    ensures { λ r. ⌜ PutsSaid (now (out .entry)) (now (out .exit)) at line read (now (bitboards .entry)) r ⌝ }
 {
     match read {
         Read::Refused(refusal) => Row {
@@ -84,7 +74,7 @@ pub fn row(
             loaded: false,
         },
         Read::Position(state, half) => {
-            let scored = score::inner::eval(bitboards, state.side, pst, tables);
+            let scored = score::inner::eval(bitboards, state);
             Row {
                 placed: loaded(line, half, scored, out, at),
                 loaded: true,

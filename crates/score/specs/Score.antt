@@ -5,14 +5,13 @@ use lib.IntN.{ℤ}
 use Rattle.refusal.specs.Answer.{Answer, given, refused}
 use Rattle.position.specs.Checked.{checked}
 use Rattle.position.specs.declared.State.{State}
-use Rattle.attack.specs.Attacks.{other, attacks}
-use Rattle.score_pst.specs.Pst.{pstOf}
+use Rattle.attack.specs.Attacks.{other}
 use Rattle.score_taper.specs.Parts.{pointsOf}
 use Rattle.score_material.specs.Pieces.{pieces}
 use Rattle.score_material.specs.Material.{material}
-use Rattle.score_tally.specs.Mobility.{mobilityBy}
-use Rattle.score_tally.specs.Weights.{weighedBy}
-use Rattle.score_tally.specs.Sides.{sideBy}
+use Rattle.score_tally.specs.Mobility.{mobilitySum}
+use Rattle.score_tally.specs.Weights.{weightSum}
+use Rattle.score_tally.specs.Sides.{sideOf}
 use Rattle.score_verdict.specs.Verdict.{Verdict, lost, won, drawn, none, toMove, verdictOf}
 
 -- what a call that scores may give
@@ -28,18 +27,13 @@ verdictFirst drawn points = given (verdict drawn)
 verdictFirst none (refused number beside) = refused number beside
 verdictFirst none (given z) = given (score z)
 
--- the score of own less other, for any rules of attacks and weights
-abbrev pub pointsBy : (ℕ → ℕ → ℕ → ℕ → ℕ) → (ℕ → ℕ → ℕ → ℤ) → List ℕ → ℕ → Answer ℤ
-pointsBy attack weight bbs side = pointsOf (sideBy attack weight bbs (toMove side)) (sideBy attack weight bbs (other side)) (pieces bbs)
+-- the score of own less other
+abbrev pub pointsFor : List ℕ → ℕ → Answer ℤ
+pointsFor bbs side = pointsOf (sideOf bbs (toMove side)) (sideOf bbs (other side)) (pieces bbs)
 
-unfoldable pub scoreBy : (ℕ → ℕ → ℕ → ℕ → ℕ) → (ℕ → ℕ → ℕ → ℤ) → List ℕ → ℕ → Answer Outcome
-unfolding verdictOf weighedBy material mobilityBy pieces
-scoreBy attack weight bbs side = verdictFirst (verdictOf bbs side) (pointsBy attack weight bbs side)
-
--- the score by 01's attacks and square weights
 unfoldable pub scoreOf : List ℕ → State → Answer Outcome
-unfolding scoreBy attacks pstOf
-scoreOf bbs state = scoreBy attacks pstOf bbs (state .side)
+unfolding verdictOf weightSum material mobilitySum pieces
+scoreOf bbs state = verdictFirst (verdictOf bbs (state .side)) (pointsFor bbs (state .side))
 
 -- the door: "Score ..: 1, 2, 3"
 unfoldable pub evalOf : List ℕ → List ℕ → State → Answer Outcome

@@ -3,7 +3,6 @@ use mathlib.Core.Path.{_≡_, refl, ap}
 use mathlib.Core.Bool.{Bool}
 use mathlib.Core.List.{List}
 use Prim.Native.Nat.{ℕ}
-use lib.IntN.{ℤ}
 use Rattle.refusal.specs.Answer.{Answer, given, refused}
 use Rattle.refusal.proofs.Paper.{one, retract, ofNumber, number-back}
 use Rattle.score_errors.specs.declared.Totals.{Totals}
@@ -44,13 +43,13 @@ feed gathered line chunk r s line′ line″ p q = (retract piecePaper pieceFrom
 pub end : (gathered : Gathered) (line : List ℕ) (r s : Ended) → EndsCollection gathered line r → EndsCollection gathered line s → r ≡ s
 end gathered line r s p q = retract endedPaper endedFrom ended-back r s (one p q)
 
-pub counted : (tables : List (List ℕ)) (pst : List ℤ) (t : List ℕ) (sum : Sum) (line : List ℕ) (ended : Bool) (size : ℕ) (r s : Sum)
-    → CountsLine tables pst t sum line ended size r → CountsLine tables pst t sum line ended size s → r ≡ s
-counted tables pst t sum line ended size r s = one
+pub counted : (t : List ℕ) (sum : Sum) (line : List ℕ) (ended : Bool) (size : ℕ) (r s : Sum)
+    → CountsLine t sum line ended size r → CountsLine t sum line ended size s → r ≡ s
+counted t sum line ended size r s = one
 
-pub take : (tables : List (List ℕ)) (pst : List ℤ) (t : List ℕ) (gathered : Gathered) (line chunk : List ℕ) (r s : Gathered) (line′ line″ : List ℕ)
-    → TakesPiece tables pst t gathered line chunk r line′ → TakesPiece tables pst t gathered line chunk s line″ → (r ≡ s) × (line′ ≡ line″)
-take tables pst t gathered line chunk r s line′ line″ p q = (one (p .answer) (q .answer), one (p .kept) (q .kept))
+pub take : (t : List ℕ) (gathered : Gathered) (line chunk : List ℕ) (r s : Gathered) (line′ line″ : List ℕ)
+    → TakesPiece t gathered line chunk r line′ → TakesPiece t gathered line chunk s line″ → (r ≡ s) × (line′ ≡ line″)
+take t gathered line chunk r s line′ line″ p q = (one (p .answer) (q .answer), one (p .kept) (q .kept))
 
 pub outcome : (sum : Sum) (r s : Ended) → Comes sum r → Comes sum s → r ≡ s
 outcome sum r s p q = retract endedPaper endedFrom ended-back r s (one p q)

@@ -5,7 +5,6 @@ use mathlib.Core.List.{List}
 use Prim.Native.Nat.{ℕ, _+_, _^_, _<_}
 use native.Mathlib.Omega.{arith}
 use borrow.Author.Tests.{lt-ltb, le-ltb, eq-eqb, ne-eqb}
-use lib.IntN.{ℤ}
 use lib.ListN.{length}
 use Rattle.refusal.specs.Answer.{Answer, given, refused, orRefuse, refusalOf}
 use Rattle.refusal.specs.declared.Refusal.the-variants as R
@@ -19,16 +18,12 @@ use Rattle.line_parse.specs.Promises.{paper, byValue}
 use Rattle.line_parse.specs.declared.Read.the-variants.{Position, Refused}
 use Rattle.line.specs.Promises.{bitboardsAfter}
 use Rattle.line.specs.declared.inner.Loaded.{Loaded}
-use Rattle.attack_steps.specs.Steps.{stepTables}
-use Rattle.score_pst.specs.Pst.{pstTable}
-use Rattle.score.specs.Score.{Outcome}
-use Rattle.score.proofs.Lent.{lent-score}
-use Rattle.ledger_row.specs.Promises.{scoreWith}
+use Rattle.score.specs.Score.{Outcome, scoreOf}
 use Rattle.line_held.specs.Held.{saidOf, ReadsHeld}
 use Rattle.score_expected.specs.Expected.{table}
 use Rattle.score_errors.specs.Errors.{addedWith}
 use Rattle.score_errors.specs.declared.Totals.{Totals}
-use Rattle.score_collection.specs.Gather.{refusedMore, noted, lineBy, lineMore}
+use Rattle.score_collection.specs.Gather.{refusedMore, noted, lineBy}
 use Rattle.line_cut.specs.Cut.{CutSoFar, runBy, endBy}
 use Rattle.line_cut.specs.Promises.{opened}
 use Rattle.score_collection.specs.Promises.{closeWith, closeMore, gatheredOf, gatheredIn, gatherOf, lineKept, Gathers, outcomeOf, endOf, EndsCollection}
@@ -45,41 +40,33 @@ pub one-refused : (sum : Sum) → sum .refused + 1 < 2 ^ 64 → record { totals 
 one-refused sum h = simp (lt-ltb (sum .refused + 1) (2 ^ 64) h)
 
 -- ---- a line in the buffer
-module _ (rule : List ℕ → State → Answer Outcome) (t : List ℕ) (sum : Sum) (line : List ℕ) (size : ℕ) (read : Loaded) (reads : ReadsHeld line size read) where
-  pub line-refused : (q : Refusal) → read .answer ≡ Refused q → refusedMore sum ≡ lineBy rule t sum (saidOf line size)
+module _ (t : List ℕ) (sum : Sum) (line : List ℕ) (size : ℕ) (read : Loaded) (reads : ReadsHeld line size read) where
+  pub line-refused : (q : Refusal) → read .answer ≡ Refused q → refusedMore sum ≡ lineBy t sum (saidOf line size)
   line-refused q told = go (saidOf line size) (sym (ap paper told) ∙ reads .answer)
     where
-      go : (a : Answer Line) → refusalOf q ≡ byValue a → refusedMore sum ≡ lineBy rule t sum a
+      go : (a : Answer Line) → refusalOf q ≡ byValue a → refusedMore sum ≡ lineBy t sum a
       go (given l) e = given-not (sym e)
       go (refused n v) e = refl
 
-  pub line-loaded : (state : State) (half : ℕ) → read .answer ≡ Position state half → (a : Answer Outcome) → a ≡ rule (read .bitboards) state
-      → noted sum (addedWith t (sum .totals) (state .side) a half) ≡ lineBy rule t sum (saidOf line size)
+  pub line-loaded : (state : State) (half : ℕ) → read .answer ≡ Position state half → (a : Answer Outcome) → a ≡ scoreOf (read .bitboards) state
+      → noted sum (addedWith t (sum .totals) (state .side) a half) ≡ lineBy t sum (saidOf line size)
   line-loaded state half told a s = go (saidOf line size) (sym (ap paper told) ∙ reads .answer) (reads .boards)
     where
       go : (b : Answer Line) → given (state, half) ≡ byValue b → read .bitboards ≡ bitboardsAfter b (bitboardsOf emptyBoard)
-          → noted sum (addedWith t (sum .totals) (state .side) a half) ≡ lineBy rule t sum b
+          → noted sum (addedWith t (sum .totals) (state .side) a half) ≡ lineBy t sum b
       go (refused n v) e f = given-not e
       go (given l) e f =
           let both : _≡_ {A = State × ℕ} (state, half) (l .state, l .half) = cc in
           let e : state ≡ l .state = ap (λ (x : State × ℕ). x .0) both in
           let d : state .side ≡ l .state .side = ap (λ (x : State). x .side) e in
           let k : half ≡ l .half = ap (λ (x : State × ℕ). x .1) both in
-          let g : a ≡ rule (bitboardsOf (l .board)) (l .state) = s ∙ ap₂ rule f e in
+          let g : a ≡ scoreOf (bitboardsOf (l .board)) (l .state) = s ∙ ap₂ scoreOf f e in
           ap₂ (λ (x : ℕ) (y : Answer Outcome). noted sum (addedWith t (sum .totals) x y half)) d g
-          ∙ ap (λ (h : ℕ). noted sum (addedWith t (sum .totals) (l .state .side) (rule (bitboardsOf (l .board)) (l .state)) h)) k
+          ∙ ap (λ (h : ℕ). noted sum (addedWith t (sum .totals) (l .state .side) (scoreOf (bitboardsOf (l .board)) (l .state)) h)) k
 
--- ---- where the tables that are lent are 01's and 02's, the line does what 02 says
-lent-line : (sum : Sum) (a : Answer Line) → lineBy (scoreWith stepTables pstTable) table sum a ≡ lineMore sum a
-lent-line sum (given l) =
-    ap (λ (x : Answer Outcome). noted sum (addedWith table (sum .totals) (l .state .side) x (l .half))) (lent-score (bitboardsOf (l .board)) (l .state))
-lent-line sum (refused n v) = refl
-
-pub told-close : (tables : List (List ℕ)) (pst : List ℤ) (t : List ℕ) → tables ≡ stepTables → pst ≡ pstTable → t ≡ table
-    → (sum : Sum) (line : List ℕ) (size : ℕ) → closeWith tables pst t sum line size ≡ closeMore sum line size
-told-close tables pst t e f g sum line size =
-    ap₂ (λ (x : List (List ℕ)) (w : List ℤ). closeWith x w t sum line size) e f ∙ ap (λ (x : List ℕ). closeWith stepTables pstTable x sum line size) g
-    ∙ lent-line sum (saidOf line size)
+-- ---- where the table that is lent is 02's, the line does what 02 says
+pub told-close : (t : List ℕ) → t ≡ table → (sum : Sum) (line : List ℕ) (size : ℕ) → closeWith t sum line size ≡ closeMore sum line size
+told-close t e sum line size = ap (λ (x : List ℕ). closeWith x sum line size) e
 
 -- ---- the end
 pub comes-many : (sum : Sum) → sum .full ≡ true → refusalOf R.Many ≡ outcomeOf sum

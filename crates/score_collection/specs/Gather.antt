@@ -5,9 +5,8 @@ use Prim.Native.Nat.{ℕ, _+_, _^_}
 use lib.Dec.{ltb}
 use Rattle.refusal.specs.Answer.{Answer, given, refused}
 use Rattle.position_boards.specs.Boards.{bitboardsOf}
-use Rattle.position.specs.declared.State.{State}
 use Rattle.line_parse.specs.Line.{Line}
-use Rattle.score.specs.Score.{Outcome, scoreOf}
+use Rattle.score.specs.Score.{scoreOf}
 use Rattle.score_expected.specs.Expected.{table}
 use Rattle.score_errors.specs.Errors.{addedWith}
 use Rattle.score_errors.specs.declared.Totals.{Totals}
@@ -24,11 +23,11 @@ abbrev pub noted : Sum → Answer Totals → Sum
 noted sum (given totals) = record { totals = totals; refused = sum .refused; full = sum .full }
 noted sum (refused number beside) = record { totals = sum .totals; refused = sum .refused; full = true }
 
--- a line, by what it says, by any rule of the score and any table
-abbrev pub lineBy : (List ℕ → State → Answer Outcome) → List ℕ → Sum → Answer Line → Sum
-lineBy rule t sum (given l) = noted sum (addedWith t (sum .totals) (l .state .side) (rule (bitboardsOf (l .board)) (l .state)) (l .half))
-lineBy rule t sum (refused number beside) = refusedMore sum
+-- a line, by what it says and any table
+abbrev pub lineBy : List ℕ → Sum → Answer Line → Sum
+lineBy t sum (given l) = noted sum (addedWith t (sum .totals) (l .state .side) (scoreOf (bitboardsOf (l .board)) (l .state)) (l .half))
+lineBy t sum (refused number beside) = refusedMore sum
 
--- by 01's score and 02's table
+-- by 02's table
 abbrev pub lineMore : Sum → Answer Line → Sum
-lineMore = lineBy scoreOf table
+lineMore = lineBy table

@@ -4,12 +4,10 @@ use mathlib.Core.Bool.{Bool, false, cond, not}
 use mathlib.Core.List.{List}
 use Prim.Native.Nat.{ℕ}
 use lib.Dec.{eqb}
-use lib.IntN.{ℤ}
 use lib.ListN.{length}
 use Rattle.refusal.specs.Answer.{Answer, given, refused, orRefuse}
 use Rattle.refusal.specs.declared.Refusal.the-variants as R
 use Rattle.line_held.specs.Held.{saidOf}
-use Rattle.ledger_row.specs.Promises.{scoreWith}
 use Rattle.line_cut.specs.Cut.{CutSoFar, runBy, endBy}
 use Rattle.line_cut.specs.Promises.{opened}
 use Rattle.score_errors.specs.Promises.{none}
@@ -62,22 +60,22 @@ endOf gathered line =
 abbrev pub EndsCollection : Gathered → List ℕ → Ended → Type 0
 EndsCollection gathered line r = endedPaper r ≡ endOf gathered line
 
--- ---- the inner functions, by whatever tables are lent
-abbrev pub closeWith : List (List ℕ) → List ℤ → List ℕ → Sum → List ℕ → ℕ → Sum
-closeWith tables pst t sum line size = lineBy (scoreWith tables pst) t sum (saidOf line size)
+-- ---- the inner functions, by whatever table is lent
+abbrev pub closeWith : List ℕ → Sum → List ℕ → ℕ → Sum
+closeWith t sum line size = lineBy t sum (saidOf line size)
 
-abbrev pub ClosesLine : List (List ℕ) → List ℤ → List ℕ → Sum → List ℕ → ℕ → Sum → Type 0
-ClosesLine tables pst t sum line size r = r ≡ closeWith tables pst t sum line size
+abbrev pub ClosesLine : List ℕ → Sum → List ℕ → ℕ → Sum → Type 0
+ClosesLine t sum line size r = r ≡ closeWith t sum line size
 
-abbrev pub CountsLine : List (List ℕ) → List ℤ → List ℕ → Sum → List ℕ → Bool → ℕ → Sum → Type 0
-CountsLine tables pst t sum line ended size r = r ≡ cond ended (closeWith tables pst t sum line size) sum
+abbrev pub CountsLine : List ℕ → Sum → List ℕ → Bool → ℕ → Sum → Type 0
+CountsLine t sum line ended size r = r ≡ cond ended (closeWith t sum line size) sum
 
 pub record TakesBy (close : Sum → List ℕ → ℕ → Sum) (gathered : Gathered) (line chunk : List ℕ) (r : Gathered) (line′ : List ℕ) : Type 0 where
   pub answer : r ≡ gatheredOf (runBy close (opened (gathered .begun) line) (gathered .sum) chunk)
   pub kept : line′ ≡ runBy close (opened (gathered .begun) line) (gathered .sum) chunk .left .line
 
-abbrev pub TakesPiece : List (List ℕ) → List ℤ → List ℕ → Gathered → List ℕ → List ℕ → Gathered → List ℕ → Type 0
-TakesPiece tables pst t gathered line chunk r line′ = TakesBy (closeWith tables pst t) gathered line chunk r line′
+abbrev pub TakesPiece : List ℕ → Gathered → List ℕ → List ℕ → Gathered → List ℕ → Type 0
+TakesPiece t gathered line chunk r line′ = TakesBy (closeWith t) gathered line chunk r line′
 
 abbrev pub Comes : Sum → Ended → Type 0
 Comes sum r = endedPaper r ≡ outcomeOf sum

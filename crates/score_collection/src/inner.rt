@@ -1,4 +1,4 @@
-// The same with the tables lent: total, and no door.
+// The same with the table of expected scores lent: total, and no door.
 ghost use mathlib.Core.Path.{_≡_};
 ghost use Rattle.score_collection.specs.Gather.{refusedMore};
 ghost use Rattle.score_collection.specs.Answers.{noteWith};
@@ -6,8 +6,6 @@ ghost use Rattle.score_collection.specs.Promises.{ClosesLine, CountsLine
 use crate::Ended;
 use crate::Gathered;
 use crate::Sum;
-use attack_steps::inner::ROWS;
-use chess::square::Square;
 use line_parse::Read;
 use refusal::Refusal;
 use score_errors::Added;
@@ -57,15 +55,8 @@ fn note(sum: Sum, added: Added) -> Sum
 }
 
 // A line of so many bytes, by a buffer that holds its first ones: read, scored and added, or counted as refused.
-fn read_line(
-    sum: Sum,
-    line: &[u8],
-    size: usize,
-    expected: &[u32; COUNT],
-    pst: &[i8],
-    tables: &[[u64; Square::COUNT]; ROWS],
-) -> Sum
-    ensures { λ r. ⌜ ClosesLine (now (tables .entry)) (now (pst .entry)) (now (expected .entry)) sum (now (line .entry)) size r ⌝ }
+fn read_line(sum: Sum, line: &[u8], size: usize, expected: &[u32; COUNT]) -> Sum
+    ensures { λ r. ⌜ ClosesLine (now (expected .entry)) sum (now (line .entry)) size r ⌝ }
 {
     let read = line_held::read(line, size);
     let answer = read.answer;
@@ -73,7 +64,7 @@ fn read_line(
         Read::Refused(_) => refused(sum),
         Read::Position(state, half) => {
             let bitboards = read.bitboards;
-            let scored = score::inner::eval(&bitboards, state.side, pst, tables);
+            let scored = score::inner::eval(&bitboards, state);
             let totals = sum.totals;
             note(
                 sum,
@@ -84,33 +75,18 @@ fn read_line(
 }
 
 // The same where a line ended.
-pub fn counted(
-    sum: Sum,
-    line: &[u8],
-    ended: bool,
-    size: usize,
-    expected: &[u32; COUNT],
-    pst: &[i8],
-    tables: &[[u64; Square::COUNT]; ROWS],
-) -> Sum
-    ensures { λ r. ⌜ CountsLine (now (tables .entry)) (now (pst .entry)) (now (expected .entry)) sum (now (line .entry)) ended size r ⌝ }
+pub fn counted(sum: Sum, line: &[u8], ended: bool, size: usize, expected: &[u32; COUNT]) -> Sum
+    ensures { λ r. ⌜ CountsLine (now (expected .entry)) sum (now (line .entry)) ended size r ⌝ }
 {
     if ended {
-        return read_line(sum, line, size, expected, pst, tables);
+        return read_line(sum, line, size, expected);
     }
     sum
 }
 
 // A piece of any size, from line's end to line's end.
-pub fn take(
-    gathered: Gathered,
-    line: &mut [u8],
-    chunk: &[u8],
-    expected: &[u32; COUNT],
-    pst: &[i8],
-    tables: &[[u64; Square::COUNT]; ROWS],
-) -> Gathered
-    ensures { λ r. ⌜ TakesPiece (now (tables .entry)) (now (pst .entry)) (now (expected .entry)) gathered (now (line .entry)) (now (chunk .entry)) r (now (line .exit)) ⌝ }
+pub fn take(gathered: Gathered, line: &mut [u8], chunk: &[u8], expected: &[u32; COUNT]) -> Gathered
+    ensures { λ r. ⌜ TakesPiece (now (expected .entry)) gathered (now (line .entry)) (now (chunk .entry)) r (now (line .exit)) ⌝ }
 {
     let mut begun = gathered.begun;
     let mut sum = gathered.sum;
@@ -120,7 +96,7 @@ pub fn take(
         at = cut.at;
         let next = cut.begun;
         begun = next;
-        sum = counted(sum, line, cut.ended, cut.size, expected, pst, tables);
+        sum = counted(sum, line, cut.ended, cut.size, expected);
     }
     Gathered { begun, sum }
 }

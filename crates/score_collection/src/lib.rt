@@ -54,9 +54,7 @@ pub fn feed(gathered: Gathered, line: &mut [u8], chunk: &[u8]) -> Piece
         return Piece::Refused(Refusal::Shape);
     }
     let expected = score_expected::inner::table();
-    let pst = score_pst::inner::table();
-    let tables = attack_steps::inner::tables();
-    Piece::Lines(inner::take(gathered, line, chunk, &expected, &pst, &tables))
+    Piece::Lines(inner::take(gathered, line, chunk, &expected))
 }
 
 // The end of the input: an unfinished line ends there. SHAPE, MANY.
@@ -67,9 +65,7 @@ pub fn end(gathered: Gathered, line: &[u8]) -> Ended
         return Ended::Refused(Refusal::Shape);
     }
     let expected = score_expected::inner::table();
-    let pst = score_pst::inner::table();
-    let tables = attack_steps::inner::tables();
     let begun = gathered.begun;
     let held = begun.held;
-    inner::outcome(inner::counted(gathered.sum, line, 0 < held, held, &expected, &pst, &tables))
+    inner::outcome(inner::counted(gathered.sum, line, 0 < held, held, &expected))
 }

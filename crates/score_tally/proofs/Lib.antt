@@ -1,5 +1,2 @@
-pub mod Constants
-pub mod Reached
-pub mod Walks
-pub mod Tally
+pub mod Boards
 pub mod Determined

@@ -1,32 +1,38 @@
--- What the loops over the bitboards give, the tables lent. Definitions only.
+-- What the boards of a colour come to, and both colours. Definitions only.
 use mathlib.Core.List.{List, []}
-use Prim.Native.Nat.{ℕ}
-use lib.IntN.{ℤ, pos, _+ℤ_}
-use lib.ListN.{getD, set}
-use Rattle.chess.specs.Codes.{codeOf}
-use Rattle.score_pst.specs.Pst.{weightIn}
+use Prim.Native.Nat.{ℕ, _+_, _*_, _≤_}
+use lib.IntN.{ℤ, pos}
+use lib.ListN.{getD}
+use Rattle.laws.specs.Sums.{sumN}
+use Rattle.attack.specs.Attacks.{standing, attacks}
+use Rattle.score_walks.specs.PrivateWalked.{packedFrom}
+use Rattle.score_walks.specs.declared.Walked.{Walked}
 use Rattle.score_taper.specs.declared.Side.{Side}
 use Rattle.score_material.specs.Material.{material}
-use Rattle.score_tally.specs.Mobility.{attackedFrom}
-use Rattle.score_tally.specs.Weights.{weighedFrom}
-use Rattle.score_tally.specs.PrivateLent.{reachWith}
+use Rattle.score_tally.specs.Mobility.{factorOf, attackedFrom}
 use Rattle.score_tally.specs.declared.Sides.{Sides}
-use Rattle.score_tally.specs.declared.inner.Walked.{Walked}
+use Rattle.score_tally.specs.declared.inner.ColorSums.{ColorSums}
 
--- the pieces of one board: the squares that they attack, and what they weigh in each phase
-abbrev pub walkedOf : List ℕ → List ℤ → ℕ → ℕ → ℕ → ℕ → Walked
-walkedOf knights pst pieces kind colour occ = record {
-  attacked = attackedFrom (λ s. reachWith knights kind s occ) pieces;
-  opening = weighedFrom (λ s. weightIn pst (codeOf kind colour) s 0) pieces;
-  ending = weighedFrom (λ s. weightIn pst (codeOf kind colour) s 1) pieces;
+-- as much as 64 pieces come to at most
+abbrev pub Small : Walked → Type 0
+Small w = (w .attacked ≤ 4096) × (w .words ≤ 70385185865024)
+
+-- a colour's six boards, each by itself, and from the bitboards
+abbrev pub togetherOf : ℕ → Walked → Walked → Walked → Walked → ℕ → ColorSums
+togetherOf pawns knights bishops rooks queens kings = record {
+  words = pawns + knights .words + bishops .words + rooks .words + queens .words + kings;
+  mobility = knights .attacked * 24 + bishops .attacked * 47 + rooks .attacked * 39 + queens .attacked * 21;
 }
 
--- "four sums, two sides by two phases": that of a colour and a phase, and all of them with a number more in it
+abbrev pub sumsOf : List ℕ → ℕ → ℕ → ColorSums
+sumsOf bbs colour occ = record {
+  words = sumN 6 (λ kind. packedFrom kind colour (standing bbs kind colour));
+  mobility = sumN 6 (λ kind. attackedFrom (λ s. attacks kind colour s occ) (standing bbs kind colour) * factorOf kind);
+}
+
+-- "four sums, two sides by two phases": that of a colour and a phase
 abbrev pub sumAt : List (List ℤ) → ℕ → ℕ → ℤ
 sumAt sums colour phase = getD (getD sums colour []) phase (pos 0)
-
-abbrev pub plusOf : List (List ℤ) → ℕ → ℕ → ℤ → List (List ℤ)
-plusOf sums colour phase z = set sums colour (set (getD sums colour []) phase (sumAt sums colour phase +ℤ z))
 
 -- a colour's side of such sums, and both colours' sides
 abbrev pub sideWith : List ℕ → ℕ → ℤ → ℤ → ℕ → Side

@@ -4,12 +4,11 @@ use mathlib.Core.Bool.{Bool, cond, _&&_}
 use mathlib.Core.List.{List, []}
 use Prim.Native.Nat.{ℕ, _+_, _*_, _/_, _^_, _≤_, _<_}
 use lib.Dec.{eqb, leb, ltb}
-use lib.IntN.{ℤ}
 use lib.ListN.{length}
 use Rattle.refusal.specs.declared.Refusal.the-variants as R
 use Rattle.text_out.specs.Text.{writtenOf}
-use Rattle.ledger_row.specs.Row.{rowBy}
-use Rattle.ledger_row.specs.Promises.{PutsRow, scoreWith}
+use Rattle.ledger_row.specs.Row.{rowOf}
+use Rattle.ledger_row.specs.Promises.{PutsRow}
 use Rattle.ledger_row.specs.declared.Row.{Row}
 use Rattle.ledger_feed.specs.Machine.{Kept, rowMore}
 use Rattle.ledger_feed.specs.Promises.{Came, turned, turnedBy, many, full, came}
@@ -93,8 +92,8 @@ pub record FeedsStore (state : StoreSoFar) (piece chunk out : List ℕ) (r : Sto
   pub within : storeWrote (storeFedPaper r) ≤ length out
 
 -- ---- private functions: the row of a piece; a chunk whose rows have room, and what was taken
-abbrev pub RowsPiece : List (List ℕ) → List ℤ → List ℕ → List ℕ → ℕ → ℕ → List ℕ → Row → Type 0
-RowsPiece tables pst old new at number piece r = PutsRow old new at (pieceSays piece) (rowBy (scoreWith tables pst) number (pieceSays piece)) r
+abbrev pub RowsPiece : List ℕ → List ℕ → ℕ → ℕ → List ℕ → Row → Type 0
+RowsPiece old new at number piece r = PutsRow old new at (pieceSays piece) (rowOf number (pieceSays piece)) r
 
 pub record ReadyStore (state : StoreSoFar) (piece chunk out : List ℕ) : Type 0 where
   pub size : length piece ≡ 34

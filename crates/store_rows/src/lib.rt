@@ -1,10 +1,5 @@
 // The ledger's rows for a store, as a machine over bytes: any number of bytes at a time go in, whole rows come out.
-ghost use mathlib.Core.Path.{_≡_};
-ghost use Rattle.attack_steps.specs.Steps.{stepTables};
-ghost use Rattle.score_pst.specs.Pst.{pstTable};
 ghost use Rattle.store_rows.specs.Promises.{BeginsStore, FeedsStore, MakesStore, ReadyStore, TakesStore, RowsPiece};
-use attack_steps::inner::ROWS;
-use chess::square::Square;
 use ledger_row::Row;
 use refusal::Refusal;
 use store_record::inner::RECORD;
@@ -49,33 +44,19 @@ fn made(held: usize, loaded: u64, refused: u64) -> StoreSoFar
     }
 }
 
-// The row of a piece. The tables of the score are lent.
-fn row(
-    piece: &[u8],
-    number: u64,
-    out: &mut [u8],
-    at: usize,
-    pst: &[i8],
-    tables: &[[u64; Square::COUNT]; ROWS],
-) -> Row
-    ensures { λ r. ⌜ RowsPiece (now (tables .entry)) (now (pst .entry)) (now (out .entry)) (now (out .exit)) at number (now (piece .entry)) r ⌝ }
+// The row of a piece.
+fn row(piece: &[u8], number: u64, out: &mut [u8], at: usize) -> Row
+    ensures { λ r. ⌜ RowsPiece (now (out .entry)) (now (out .exit)) at number (now (piece .entry)) r ⌝ }
 {
     let read = store_record::inner::read(piece);
     let answer = read.answer;
     let bitboards = read.bitboards;
-    ledger_row::inner::row(number, answer, &bitboards, out, at, pst, tables)
+    ledger_row::inner::row(number, answer, &bitboards, out, at)
 }
 
 // The bytes of a chunk, where there is room for their rows: from piece's end to piece's end.
-fn take(
-    state: StoreSoFar,
-    piece: &mut [u8],
-    chunk: &[u8],
-    out: &mut [u8],
-    pst: &[i8],
-    tables: &[[u64; Square::COUNT]; ROWS],
-) -> StoreFed
-    requires { ⌜ ReadyStore state (now piece) (now chunk) (now out) × (now tables ≡ stepTables) × (now pst ≡ pstTable) ⌝ }
+fn take(state: StoreSoFar, piece: &mut [u8], chunk: &[u8], out: &mut [u8]) -> StoreFed
+    requires { ⌜ ReadyStore state (now piece) (now chunk) (now out) ⌝ }
     ensures { λ r. ⌜ TakesStore state (now (piece .entry)) (now (chunk .entry)) (now (out .entry)) r (now (piece .exit)) (now (out .exit)) ⌝ }
 {
     let mut held = state.held;
@@ -88,7 +69,7 @@ fn take(
         at = cut.at;
         held = cut.held;
         if cut.ended {
-            let row = row(piece, loaded + refused + 1, out, wrote, pst, tables);
+            let row = row(piece, loaded + refused + 1, out, wrote);
             let placed = row.placed;
             let is_loaded = row.loaded;
             wrote = placed.or(wrote);
@@ -116,7 +97,5 @@ pub fn feed(state: StoreSoFar, piece: &mut [u8], chunk: &[u8], out: &mut [u8]) -
     if out.len() / ROW < ends {
         return StoreFed::Full;
     }
-    let pst = score_pst::inner::table();
-    let tables = attack_steps::inner::tables();
-    take(state, piece, chunk, out, &pst, &tables)
+    take(state, piece, chunk, out)
 }

@@ -25,7 +25,7 @@ use Rattle.bits.proofs.Turned.{gate, sum-turned, added-is}
 use Rattle.attack.specs.Attacks.{standing}
 use Rattle.score_pst.specs.Pst.{pstOf, grids, gridEntry}
 use Rattle.score_material.specs.Pieces.{pieces}
-use Rattle.score_tally.specs.Weights.{weighedFrom, weighedBy}
+use Rattle.score_tally.specs.Weights.{weighedFrom, weightSum}
 use Rattle.trace.specs.Trace.{entryAt}
 use Rattle.trace_shipped.specs.Weights.{squareWeight}
 use Rattle.trace_exact.specs.Exact.{shippedWhole, term, squareSum}
@@ -35,15 +35,15 @@ use Rattle.trace_exact.specs.Exact.{shippedWhole, term, squareSum}
 abbrev weightOn : List ℕ → ℕ → ℕ → ℕ → ℕ → ℤ
 weightOn bbs kind colour phase s = gated (has (standing bbs kind colour) s) (pstOf (codeOf kind colour) s phase)
 
-weighed-is : (bbs : List ℕ) (colour phase : ℕ) → weighedBy pstOf bbs colour phase ≡ sumZ 6 (λ kind. sumZ 64 (weightOn bbs kind colour phase))
-unfolding weighedBy weighedFrom
+weighed-is : (bbs : List ℕ) (colour phase : ℕ) → weightSum bbs colour phase ≡ sumZ 6 (λ kind. sumZ 64 (weightOn bbs kind colour phase))
+unfolding weightSum weighedFrom
 weighed-is bbs colour phase =
     whole-same 6 (λ kind. added (λ s. pstOf (codeOf kind colour) s phase) (pos 0) (squares (standing bbs kind colour))) (λ kind. sumZ 64 (weightOn bbs kind colour phase))
     (λ kind h. added-is (standing bbs kind colour) (λ s. pstOf (codeOf kind colour) s phase) (pos 0) ∙ +ℤ-idl (sumZ 64 (weightOn bbs kind colour phase)))
 
 -- y0·(x−2) + y1·(32−x)
 abbrev pub thirtieths : List ℕ → ℕ → ℤ
-thirtieths bbs colour = weighedBy pstOf bbs colour 0 *ℤ (pos (pieces bbs) -ℤ pos 2) +ℤ weighedBy pstOf bbs colour 1 *ℤ (pos 32 -ℤ pos (pieces bbs))
+thirtieths bbs colour = weightSum bbs colour 0 *ℤ (pos (pieces bbs) -ℤ pos 2) +ℤ weightSum bbs colour 1 *ℤ (pos 32 -ℤ pos (pieces bbs))
 
 -- ---- what stands at a place
 pub entry-at : (bbs : List ℕ) (kind s colour : ℕ) → s < 64 → colour < 2 → entryAt bbs (entryPlace kind s colour) ≡ digit (has (standing bbs kind colour) (flipOf s colour))

@@ -11,12 +11,11 @@ use Rattle.laws.proofs.Sums.{whole-same}
 use Rattle.laws.proofs.Diff.{Diff, aboveZero, belowZero, diff-of, diff-add, diff-minus, diff-scale}
 use Rattle.laws.proofs.Terms.{diff-of-two, diff-weighed}
 use Rattle.places.specs.Places.{entryPlace, weightPlace}
-use Rattle.attack.specs.Attacks.{attacks}
 use Rattle.score_material.specs.Pieces.{count, pieces}
 use Rattle.chess.specs.Values.{valueOf}
 use Rattle.score_taper.specs.Parts.{tempoValue}
 use Rattle.score_material.specs.Material.{pair, pairValue}
-use Rattle.score_tally.specs.Mobility.{factorOf, attackedBy, attacked, mobilityBy}
+use Rattle.score_tally.specs.Mobility.{factorOf, attacked, mobilitySum}
 use Rattle.trace_named.specs.Named as D
 use Rattle.trace_counts.specs.declared.Trace.{Trace}
 use Rattle.trace.specs.Trace.{signOf, traceOf, entryAt, entriesOf}
@@ -55,7 +54,7 @@ counts-is bbs side = refl
 
 moves-is : (bbs : List ℕ) (side : ℕ)
     → sumZ 6 (λ kind. (D.attackedIn (traceOf bbs side) kind 0 -ℤ D.attackedIn (traceOf bbs side) kind 1) *ℤ pos (factorOf kind))
-    ≡ sumZ 6 (λ kind. (pos (attackedBy attacks bbs kind 0) -ℤ pos (attackedBy attacks bbs kind 1)) *ℤ pos (factorOf kind))
+    ≡ sumZ 6 (λ kind. (pos (attacked bbs kind 0) -ℤ pos (attacked bbs kind 1)) *ℤ pos (factorOf kind))
 unfolding sumZ traceOf attacked
 moves-is bbs side = refl
 
@@ -76,13 +75,13 @@ same-diff z y m n e d = subst (λ (x : ℤ). Diff x m n) (sym e) d
 -- the exact sum as a difference; a and b are 11·side as one
 pub diff-exact : (bbs : List ℕ) (side a b : ℕ) → Diff (signOf side *ℤ pos tempoValue) a b
     → Diff (exactSum shippedWhole (traceOf bbs side) (entriesOf bbs))
-    ((kinglessWorth bbs 0 + pair bbs 0 * pairValue + a) * 30 + mobilityBy attacks bbs 0 * 3 + (aboveZero (thirtieths bbs 0) + belowZero (thirtieths bbs 1)))
-    ((kinglessWorth bbs 1 + pair bbs 1 * pairValue + b) * 30 + mobilityBy attacks bbs 1 * 3 + (belowZero (thirtieths bbs 0) + aboveZero (thirtieths bbs 1)))
-unfolding kinglessWorth mobilityBy
+    ((kinglessWorth bbs 0 + pair bbs 0 * pairValue + a) * 30 + mobilitySum bbs 0 * 3 + (aboveZero (thirtieths bbs 0) + belowZero (thirtieths bbs 1)))
+    ((kinglessWorth bbs 1 + pair bbs 1 * pairValue + b) * 30 + mobilitySum bbs 1 * 3 + (belowZero (thirtieths bbs 0) + aboveZero (thirtieths bbs 1)))
+unfolding kinglessWorth mobilitySum
 diff-exact bbs side a b h =
     same-diff (exactSum shippedWhole (traceOf bbs side) (entriesOf bbs)) _
-    ((kinglessWorth bbs 0 + pair bbs 0 * pairValue + a) * 30 + mobilityBy attacks bbs 0 * 3 + (aboveZero (thirtieths bbs 0) + belowZero (thirtieths bbs 1)))
-    ((kinglessWorth bbs 1 + pair bbs 1 * pairValue + b) * 30 + mobilityBy attacks bbs 1 * 3 + (belowZero (thirtieths bbs 0) + aboveZero (thirtieths bbs 1)))
+    ((kinglessWorth bbs 0 + pair bbs 0 * pairValue + a) * 30 + mobilitySum bbs 0 * 3 + (aboveZero (thirtieths bbs 0) + belowZero (thirtieths bbs 1)))
+    ((kinglessWorth bbs 1 + pair bbs 1 * pairValue + b) * 30 + mobilitySum bbs 1 * 3 + (belowZero (thirtieths bbs 0) + aboveZero (thirtieths bbs 1)))
     (exact-at shippedWhole (traceOf bbs side) bbs ∙ by-parts)
     (diff-add ((counts +ℤ pairs *ℤ pos pairValue +ℤ signOf side *ℤ pos tempoValue) *ℤ pos 30 +ℤ moves *ℤ pos 3) (thirtieths bbs 0 -ℤ thirtieths bbs 1) _ _ _ _
     (diff-add ((counts +ℤ pairs *ℤ pos pairValue +ℤ signOf side *ℤ pos tempoValue) *ℤ pos 30) (moves *ℤ pos 3) _ _ _ _
@@ -92,14 +91,14 @@ diff-exact bbs side a b h =
     (diff-weighed 5 (λ kind. count bbs kind 0) (λ kind. count bbs kind 1) valueOf)
     (diff-scale pairs pairValue _ _ (diff-of-two (pair bbs 0) (pair bbs 1))))
     h))
-    (diff-scale moves 3 _ _ (diff-weighed 6 (λ kind. attackedBy attacks bbs kind 0) (λ kind. attackedBy attacks bbs kind 1) factorOf)))
+    (diff-scale moves 3 _ _ (diff-weighed 6 (λ kind. attacked bbs kind 0) (λ kind. attacked bbs kind 1) factorOf)))
     (diff-minus (thirtieths bbs 0) (thirtieths bbs 1) _ _ _ _ (diff-of (thirtieths bbs 0)) (diff-of (thirtieths bbs 1))))
   where
     counts : ℤ
     counts = sumZ 5 (λ kind. (pos (count bbs kind 0) -ℤ pos (count bbs kind 1)) *ℤ pos (valueOf kind))
 
     moves : ℤ
-    moves = sumZ 6 (λ kind. (pos (attackedBy attacks bbs kind 0) -ℤ pos (attackedBy attacks bbs kind 1)) *ℤ pos (factorOf kind))
+    moves = sumZ 6 (λ kind. (pos (attacked bbs kind 0) -ℤ pos (attacked bbs kind 1)) *ℤ pos (factorOf kind))
 
     pairs : ℤ
     pairs = pos (pair bbs 0) -ℤ pos (pair bbs 1)

@@ -6,7 +6,6 @@ use Rattle.line_profile.proofs.Judged.{judged-value}
 use Rattle.line_held.specs.Held.{saidOf}
 use Rattle.position_boards.specs.Boards.{bitboardsOf}
 use Rattle.line_ranks.specs.Promises.{emptyBoard}
-use Rattle.ledger_row.specs.Promises.{scoreWith}
 use borrow.Author.Needs.{needs}
 use Rattle.ledger_close.proofs.Closed.{row-judged}
 use Rattle.ledger_close.proofs.close.Statement.{statement}
@@ -37,7 +36,7 @@ returns c =
     let k = u .before .before .before in
     let a = k .before .before .before .args in
     let said = saidOf (now (a .line)) (a .size) in
-    row-judged (a .profile) (scoreWith (now (a .tables)) (now (a .pst))) (a .number) said (now (a .out)) (p .row .last .1 .1 .1 .0) (a .at) (u .under .result) (k .read .result .bitboards)
+    row-judged (a .profile) (a .number) said (now (a .out)) (p .row .last .1 .1 .1 .0) (a .at) (u .under .result) (k .read .result .bitboards)
     (p .row .result)
     (u .under .ensures ∙ ap (judgedRead (a .profile) (k .read .result .bitboards)) (k .read .ensures .answer)
     ∙ judged-value (a .profile) said (k .read .result .bitboards) (bitboardsOf emptyBoard) (k .read .ensures .boards))

@@ -32,24 +32,12 @@ returns-3 c =
     (ap (λ (k : ℕ). ltb (a .state .loaded + a .state .refused + k) (2 ^ 64)) (sym (c .before .before .before .ends .ensures)) ∙ sym (c .before .before .countable .ensures) ∙ not-false _ (c .before .if2 .left))
     (omega (arith, c .if3 .taken, c .before .before .before .ends .ensures))
 
-table-requires : tie.Need-table-requires
-table-requires c κs = search needs
-
-tables-requires : tie.Need-tables-requires
-tables-requires c κs = search needs
-
-slice-aggregate-take : tie.Need-slice-aggregate-take
-slice-aggregate-take c = search needs
-
 take-requires : tie.Need-take-requires
 take-requires c κs =
-    let a = c .before .before .before .before .before .before .before .before .before .before .before .before .before .before .args in (
-      feed-ready (a .profile) (a .state) (now (a .line)) (now (a .chunk)) (now (a .out)) (c .before .before .before .before .before .before .before .before .before .before .if1 .left)
-          (ap (λ (k : ℕ). ltb (a .state .loaded + a .state .refused + k) (2 ^ 64)) (sym (c .before .before .before .before .before .before .before .before .before .ends .ensures)) ∙ sym (c .before .before .before .before .before .before .before .before .countable .ensures) ∙ not-false _ (c .before .before .before .before .before .before .before .if2 .left))
-          (omega (arith, c .before .before .before .before .before .before .if3 .left, c .before .before .before .before .before .before .before .before .before .ends .ensures)),
-      c .before .before .before .before .tables .ensures,
-      c .before .before .before .before .before .table .ensures,
-    )
+    let a = c .before .before .before .before .before .before .before .before .before .before .args in
+    feed-ready (a .profile) (a .state) (now (a .line)) (now (a .chunk)) (now (a .out)) (c .before .before .before .before .before .before .if1 .left)
+    (ap (λ (k : ℕ). ltb (a .state .loaded + a .state .refused + k) (2 ^ 64)) (sym (c .before .before .before .before .before .ends .ensures)) ∙ sym (c .before .before .before .before .countable .ensures) ∙ not-false _ (c .before .before .before .if2 .left))
+    (omega (arith, c .before .before .if3 .left, c .before .before .before .before .before .ends .ensures))
 
 same-length : tie.Need-same-length
 same-length c = search needs
@@ -59,11 +47,11 @@ same-length-2 c = search needs
 
 returns-4 : tie.Need-returns-4
 returns-4 c =
-    let a = c .before .before .before .before .before .before .before .before .before .before .before .before .before .before .before .before .before .before .before .args in
+    let a = c .before .before .before .before .before .before .before .before .before .before .before .before .before .before .before .args in
     let t = c .before .before .before .before .take in
-    feed-rows (a .profile) (a .state) (now (a .line)) (now (a .chunk)) (now (a .out)) (c .before .before .before .before .before .before .before .before .before .before .before .before .before .before .before .if1 .left)
-    (ap (λ (k : ℕ). ltb (a .state .loaded + a .state .refused + k) (2 ^ 64)) (sym (c .before .before .before .before .before .before .before .before .before .before .before .before .before .before .ends .ensures)) ∙ sym (c .before .before .before .before .before .before .before .before .before .before .before .before .before .countable .ensures) ∙ not-false _ (c .before .before .before .before .before .before .before .before .before .before .before .before .if2 .left))
-    (omega (arith, c .before .before .before .before .before .before .before .before .before .before .before .if3 .left, c .before .before .before .before .before .before .before .before .before .before .before .before .before .before .ends .ensures)) (t .result) (t .last .1 .1 .0) (t .last .1 .1 .1 .1 .0) (t .ensures)
+    feed-rows (a .profile) (a .state) (now (a .line)) (now (a .chunk)) (now (a .out)) (c .before .before .before .before .before .before .before .before .before .before .before .if1 .left)
+    (ap (λ (k : ℕ). ltb (a .state .loaded + a .state .refused + k) (2 ^ 64)) (sym (c .before .before .before .before .before .before .before .before .before .before .ends .ensures)) ∙ sym (c .before .before .before .before .before .before .before .before .before .countable .ensures) ∙ not-false _ (c .before .before .before .before .before .before .before .before .if2 .left))
+    (omega (arith, c .before .before .before .before .before .before .before .if3 .left, c .before .before .before .before .before .before .before .before .before .before .ends .ensures)) (t .result) (t .last .1 .1 .0) (t .last .1 .1 .1 .1 .0) (t .ensures)
 
 pub feed-spec : {M : Type 1} → statement M
 feed-spec =
@@ -74,9 +62,6 @@ feed-spec =
     countable-requires
     returns-2
     returns-3
-    table-requires
-    tables-requires
-    slice-aggregate-take
     take-requires
     same-length
     same-length-2

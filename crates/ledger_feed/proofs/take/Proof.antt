@@ -20,16 +20,16 @@ use Rattle.ledger_feed.proofs.take.Statement.{statement}
 use Rattle.ledger_feed.proofs.take.Tie as tie
 
 abbrev Inv-loop : tie.InvT-loop
-Inv-loop profile line₀ chunk out₀ pst tables begun₀ loaded₀ refused₀ wrote₀ at₀ line out begun loaded refused wrote at =
+Inv-loop profile line₀ chunk out₀ begun₀ loaded₀ refused₀ wrote₀ at₀ line out begun loaded refused wrote at =
     Turn profile (runBy (closeRow profile) (opened begun₀ line₀) (rows loaded₀ refused₀ []) chunk) chunk out₀ line out begun loaded refused wrote at
 
 abbrev μ-loop : tie.MeasureT-loop
-μ-loop profile line₀ chunk out₀ pst tables begun₀ loaded₀ refused₀ wrote₀ at₀ line out begun loaded refused wrote at = length chunk - at
+μ-loop profile line₀ chunk out₀ begun₀ loaded₀ refused₀ wrote₀ at₀ line out begun loaded refused wrote at = length chunk - at
 
 loop-holds : tie.Need-loop-holds Inv-loop μ-loop
 loop-holds c =
     let a = c .before .before .before .args in
-    turn-none (a .profile) (a .state) (now (a .line)) (now (a .chunk)) (now (a .out)) (c .before .before .before .pre .0)
+    turn-none (a .profile) (a .state) (now (a .line)) (now (a .chunk)) (now (a .out)) (c .before .before .before .pre)
 
 next-requires : tie.Need-next-requires Inv-loop μ-loop
 next-requires c κs = search needs
@@ -96,7 +96,7 @@ loop-again c =
     let said = saidUnder (a .profile) (n .last .1 .0) (n .result .size) in
     turn-close (a .profile) (runBy (closeRow (a .profile)) (opened (record { held = a .state .held; cr = a .state .cr }) (now (a .line))) (rows (a .state .loaded) (a .state .refused) []) (now (a .chunk))) (now (a .chunk)) (now (a .out)) (l .line) (l .out) (l .begun) (l .loaded) (l .refused) (l .wrote) (l .at) (c .before .before .before .before .before .before .before .before .before .before .before .before .loop-test .taken) (l .inv) (n .result) (n .last .1 .0) (n .ensures)
     (c .before .before .before .before .before .before .if1 .taken) (k .last .1 .1 .1 .1 .0) (c .or .result)
-    (closed-adds (now (a .tables)) (now (a .pst)) (c .before .before .before .before .before .before .before .before .before .before .before .before .before .before .before .before .before .pre .1) (c .before .before .before .before .before .before .before .before .before .before .before .before .before .before .before .before .before .pre .2) (l .loaded + l .refused + 1) (l .out) (k .last .1 .1 .1 .1 .0) (l .wrote) said (k .result) (k .ensures) (c .or .result) (c .or .ensures))
+    (closed-adds (l .loaded + l .refused + 1) (l .out) (k .last .1 .1 .1 .1 .0) (l .wrote) said (k .result) (k .ensures) (c .or .result) (c .or .ensures))
     (k .result .loaded) (k .ensures .loaded) (l .loaded + boolByte (k .result .loaded)) (l .refused + boolByte (not (k .result .loaded)))
     (tally-number (k .result .loaded) (l .loaded)) (tally-number (not (k .result .loaded)) (l .refused))
 
@@ -119,7 +119,7 @@ made-requires : tie.Need-made-requires Inv-loop μ-loop
 made-requires c κs = search needs
 
 same-length : tie.Need-same-length Inv-loop μ-loop
-same-length c = c .before .before .loop .inv .lines .long ∙ sym (c .before .before .before .before .before .before .pre .0 .size)
+same-length c = c .before .before .loop .inv .lines .long ∙ sym (c .before .before .before .before .before .before .pre .size)
 
 same-length-2 : tie.Need-same-length-2 Inv-loop μ-loop
 same-length-2 c = c .before .before .loop .inv .kept

@@ -42,15 +42,6 @@ add-lines-2 c =
     let e = one-unfinished (c .before .before .before .before .before .args .state) (c .before .if1 .left) in
     record { fits = omega (arith, c .before .before .before .before .before .pre .1) }
 
-table-requires : tie.Need-table-requires
-table-requires c κs = search needs
-
-tables-requires : tie.Need-tables-requires
-tables-requires c κs = search needs
-
-slice-aggregate-close : tie.Need-slice-aggregate-close
-slice-aggregate-close c = search needs
-
 close-requires : tie.Need-close-requires
 close-requires c κs = search needs
 
@@ -59,8 +50,8 @@ or-requires-2 c κs = search needs
 
 add-last-2 : tie.Need-add-last-2
 add-last-2 c =
-    let e = one-unfinished (c .before .before .before .before .before .before .before .before .before .before .before .before .before .before .before .before .args .state) (c .before .before .before .before .before .before .before .before .before .before .before .before .if1 .left) in
-    record { fits = omega (arith, c .before .before .before .before .before .before .before .before .before .before .before .before .before .before .before .before .pre .1) }
+    let e = one-unfinished (c .before .before .before .before .before .before .before .before .before .before .before .before .args .state) (c .before .before .before .before .before .before .before .before .if1 .left) in
+    record { fits = omega (arith, c .before .before .before .before .before .before .before .before .before .before .before .before .pre .1) }
 
 last-requires-2 : tie.Need-last-requires-2
 last-requires-2 c κs = search needs
@@ -73,20 +64,20 @@ same-length-2 c = search needs
 
 returns-2 : tie.Need-returns-2
 returns-2 c =
-    let a = c .before .before .before .before .before .before .before .before .before .before .before .before .before .before .before .before .before .before .before .before .before .args in
+    let a = c .before .before .before .before .before .before .before .before .before .before .before .before .before .before .before .before .before .args in
     let lines = a .state .loaded + a .state .refused + 1 in
     let k = c .before .before .before .before .before .before .before .before .before .before .close in
     let first = c .before .before .before .before .before .before .before .or2 in
     let p = c .before .before .before .last2 in
-    finished-adds (a .profile) (a .state) (now (a .line)) (c .before .before .before .before .before .before .before .before .before .before .before .before .before .before .before .before .before .if1 .left) true (sym (c .before .before .before .before .before .before .if2 .taken) ∙ k .ensures .loaded)
-    (now (a .out)) (k .last .1 .1 .1 .1 .0) (p .last .1 .1 .1 .0) (first .result) (c .or3 .result) (c .before .before .before .before .before .before .before .before .before .before .before .before .before .before .before .before .before .before .before .before .before .pre .0)
-    (closed-adds _ _ (c .before .before .before .before .before .before .before .before .before .before .before .before .before .before .tables .ensures) (c .before .before .before .before .before .before .before .before .before .before .before .before .before .before .before .table .ensures) lines (now (a .out)) (k .last .1 .1 .1 .1 .0) 0 (saidUnder (a .profile) (now (a .line)) (a .state .held)) (k .result) (k .ensures) (first .result) (first .ensures))
+    finished-adds (a .profile) (a .state) (now (a .line)) (c .before .before .before .before .before .before .before .before .before .before .before .before .before .if1 .left) true (sym (c .before .before .before .before .before .before .if2 .taken) ∙ k .ensures .loaded)
+    (now (a .out)) (k .last .1 .1 .1 .1 .0) (p .last .1 .1 .1 .0) (first .result) (c .or3 .result) (c .before .before .before .before .before .before .before .before .before .before .before .before .before .before .before .before .before .pre .0)
+    (closed-adds lines (now (a .out)) (k .last .1 .1 .1 .1 .0) 0 (saidUnder (a .profile) (now (a .line)) (a .state .held)) (k .result) (k .ensures) (first .result) (first .ensures))
     (adds-or (k .last .1 .1 .1 .1 .0) (first .result) (lastRow lines (a .state .loaded + 1) (a .state .refused)) (p .last .1 .1 .1 .0) (p .result) (c .or3 .result) (p .ensures) (c .or3 .ensures))
 
 add-last-3 : tie.Need-add-last-3
 add-last-3 c =
-    let e = one-unfinished (c .before .before .before .before .before .before .before .before .before .before .before .before .before .before .before .before .args .state) (c .before .before .before .before .before .before .before .before .before .before .before .before .if1 .left) in
-    record { fits = omega (arith, c .before .before .before .before .before .before .before .before .before .before .before .before .before .before .before .before .pre .1) }
+    let e = one-unfinished (c .before .before .before .before .before .before .before .before .before .before .before .before .args .state) (c .before .before .before .before .before .before .before .before .if1 .left) in
+    record { fits = omega (arith, c .before .before .before .before .before .before .before .before .before .before .before .before .pre .1) }
 
 last-requires-3 : tie.Need-last-requires-3
 last-requires-3 c κs = search needs
@@ -99,14 +90,14 @@ same-length-3 c = search needs
 
 returns-3 : tie.Need-returns-3
 returns-3 c =
-    let a = c .before .before .before .before .before .before .before .before .before .before .before .before .before .before .before .before .before .before .before .before .before .args in
+    let a = c .before .before .before .before .before .before .before .before .before .before .before .before .before .before .before .before .before .args in
     let lines = a .state .loaded + a .state .refused + 1 in
     let k = c .before .before .before .before .before .before .before .before .before .before .close in
     let first = c .before .before .before .before .before .before .before .or2 in
     let p = c .before .before .before .last3 in
-    finished-adds (a .profile) (a .state) (now (a .line)) (c .before .before .before .before .before .before .before .before .before .before .before .before .before .before .before .before .before .if1 .left) false (sym (c .before .before .before .before .before .before .if2 .left) ∙ k .ensures .loaded)
-    (now (a .out)) (k .last .1 .1 .1 .1 .0) (p .last .1 .1 .1 .0) (first .result) (c .or4 .result) (c .before .before .before .before .before .before .before .before .before .before .before .before .before .before .before .before .before .before .before .before .before .pre .0)
-    (closed-adds _ _ (c .before .before .before .before .before .before .before .before .before .before .before .before .before .before .tables .ensures) (c .before .before .before .before .before .before .before .before .before .before .before .before .before .before .before .table .ensures) lines (now (a .out)) (k .last .1 .1 .1 .1 .0) 0 (saidUnder (a .profile) (now (a .line)) (a .state .held)) (k .result) (k .ensures) (first .result) (first .ensures))
+    finished-adds (a .profile) (a .state) (now (a .line)) (c .before .before .before .before .before .before .before .before .before .before .before .before .before .if1 .left) false (sym (c .before .before .before .before .before .before .if2 .left) ∙ k .ensures .loaded)
+    (now (a .out)) (k .last .1 .1 .1 .1 .0) (p .last .1 .1 .1 .0) (first .result) (c .or4 .result) (c .before .before .before .before .before .before .before .before .before .before .before .before .before .before .before .before .before .pre .0)
+    (closed-adds lines (now (a .out)) (k .last .1 .1 .1 .1 .0) 0 (saidUnder (a .profile) (now (a .line)) (a .state .held)) (k .result) (k .ensures) (first .result) (first .ensures))
     (adds-or (k .last .1 .1 .1 .1 .0) (first .result) (lastRow lines (a .state .loaded) (a .state .refused + 1)) (p .last .1 .1 .1 .0) (p .result) (c .or4 .result) (p .ensures) (c .or4 .ensures))
 
 pub last-rows-spec : {M : Type 1} → statement M
@@ -120,9 +111,6 @@ last-rows-spec =
     returns
     add-lines
     add-lines-2
-    table-requires
-    tables-requires
-    slice-aggregate-close
     close-requires
     or-requires-2
     add-last-2

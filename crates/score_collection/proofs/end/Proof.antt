@@ -1,4 +1,4 @@
--- `score_collection::end` meets its contract: the tables that it lends are 01's and 02's. Assumes nothing.
+-- `score_collection::end` meets its contract: the table that it lends is 02's. Assumes nothing.
 use mathlib.Core.Path.{ap, _∙_}
 use mathlib.Core.Bool.{cond}
 use mathlib.Core.List.{[]}
@@ -18,15 +18,6 @@ returns c = let a = c .before .before .args in end-shape (a .gathered) (now (a .
 table-requires : tie.Need-table-requires
 table-requires c κs = search needs
 
-table-requires-2 : tie.Need-table-requires-2
-table-requires-2 c κs = search needs
-
-tables-requires : tie.Need-tables-requires
-tables-requires c κs = search needs
-
-slice-aggregate-counted : tie.Need-slice-aggregate-counted
-slice-aggregate-counted c = search needs
-
 counted-requires : tie.Need-counted-requires
 counted-requires c κs = search needs
 
@@ -35,15 +26,13 @@ outcome-requires c κs = search needs
 
 returns-2 : tie.Need-returns-2
 returns-2 c =
-    let a = c .before .before .before .before .before .before .before .before .before .before .before .args in
-    let x = c .before .before .before .before .before .before .tables in
-    let y = c .before .before .before .before .before .before .before .table2 in
-    let z = c .before .before .before .before .before .before .before .before .table in
+    let a = c .before .before .before .before .before .before .before .args in
+    let z = c .before .before .before .before .table in
     let k = c .before .counted in
-    end-sum (a .gathered) (now (a .line)) [] (c .before .before .before .before .before .before .before .before .before .if1 .left) (endedPaper (c .outcome .result))
+    end-sum (a .gathered) (now (a .line)) [] (c .before .before .before .before .before .if1 .left) (endedPaper (c .outcome .result))
     (c .outcome .ensures
     ∙ ap outcomeOf
-    (k .ensures ∙ ap (λ (s : Sum). cond (ltb 0 (a .gathered .begun .held)) s (a .gathered .sum)) (told-close (x .result) (y .result) (z .result) (x .ensures) (y .ensures) (z .ensures) (a .gathered .sum) (now (a .line)) (a .gathered .begun .held))))
+    (k .ensures ∙ ap (λ (s : Sum). cond (ltb 0 (a .gathered .begun .held)) s (a .gathered .sum)) (told-close (z .result) (z .ensures) (a .gathered .sum) (now (a .line)) (a .gathered .begun .held))))
 
 pub end-spec : {M : Type 1} → statement M
 end-spec =
@@ -51,9 +40,6 @@ end-spec =
     (tie.spec
     returns
     table-requires
-    table-requires-2
-    tables-requires
-    slice-aggregate-counted
     counted-requires
     outcome-requires
     returns-2)

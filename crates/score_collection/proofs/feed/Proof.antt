@@ -1,4 +1,4 @@
--- `score_collection::feed` meets its contract: the tables that it lends are 01's and 02's. Assumes nothing.
+-- `score_collection::feed` meets its contract: the table that it lends is 02's. Assumes nothing.
 use mathlib.Core.Path.{ap, _∙_}
 use borrow.Author.Needs.{needs}
 use denote.Ref.{now}
@@ -17,15 +17,6 @@ returns c = let a = c .before .before .before .args in feed-shape (a .gathered) 
 table-requires : tie.Need-table-requires
 table-requires c κs = search needs
 
-table-requires-2 : tie.Need-table-requires-2
-table-requires-2 c κs = search needs
-
-tables-requires : tie.Need-tables-requires
-tables-requires c κs = search needs
-
-slice-aggregate-take : tie.Need-slice-aggregate-take
-slice-aggregate-take c = search needs
-
 take-requires : tie.Need-take-requires
 take-requires c κs = search needs
 
@@ -34,14 +25,12 @@ same-length c = search needs
 
 returns-2 : tie.Need-returns-2
 returns-2 c =
-    let a = c .before .before .before .before .before .before .before .before .before .before .before .before .before .args in
-    let x = c .before .before .before .before .before .before .before .tables in
-    let y = c .before .before .before .before .before .before .before .before .table2 in
-    let z = c .before .before .before .before .before .before .before .before .before .table in
+    let a = c .before .before .before .before .before .before .before .before .before .args in
+    let z = c .before .before .before .before .before .table in
     let t = c .before .before .take in
-    let e = run-same (closeWith (x .result) (y .result) (z .result)) closeMore (told-close (x .result) (y .result) (z .result) (x .ensures) (y .ensures) (z .ensures))
+    let e = run-same (closeWith (z .result)) closeMore (told-close (z .result) (z .ensures))
     (opened (a .gathered .begun) (now (a .line))) (a .gathered .sum) (now (a .chunk)) in
-    feed-lines (a .gathered) (now (a .line)) (now (a .chunk)) (c .before .before .before .before .before .before .before .before .before .before .if1 .left) (t .result) (t .last .1 .0) (t .ensures .answer ∙ ap gatheredOf e)
+    feed-lines (a .gathered) (now (a .line)) (now (a .chunk)) (c .before .before .before .before .before .before .if1 .left) (t .result) (t .last .1 .0) (t .ensures .answer ∙ ap gatheredOf e)
     (t .ensures .kept ∙ ap (λ (r : CutSoFar Sum). r .left .line) e)
 
 pub feed-spec : {M : Type 1} → statement M
@@ -50,9 +39,6 @@ feed-spec =
     (tie.spec
     returns
     table-requires
-    table-requires-2
-    tables-requires
-    slice-aggregate-take
     take-requires
     same-length
     returns-2)

@@ -41,30 +41,17 @@ returns-4 c =
     (ap (λ (k : ℕ). ltb (a .state .loaded + a .state .refused + k) (2 ^ 64)) (sym (n .ends .ensures)) ∙ sym (c .before .before .countable .ensures) ∙ not-false _ (c .before .if3 .left))
     (omega (arith, c .if4 .taken, n .ends .ensures))
 
-table-requires : tie.Need-table-requires
-table-requires c κs = search needs
-
-tables-requires : tie.Need-tables-requires
-tables-requires c κs = search needs
-
-slice-aggregate-take : tie.Need-slice-aggregate-take
-slice-aggregate-take c = search needs
-
 take-requires : tie.Need-take-requires
 take-requires c κs =
-    let t = c .before .before .before .before in
-    let f = t .before .before in
+    let f = c .before .before in
     let g = f .before in
     let n = g .before .before in
     let d = n .before in
     let e = d .before .before in
-    let a = e .before .before .before .before .args in (
-      feed-ready (a .state) (now (a .piece)) (now (a .chunk)) (now (a .out)) (e .if1 .left) (d .if2 .left)
-          (ap (λ (k : ℕ). ltb (a .state .loaded + a .state .refused + k) (2 ^ 64)) (sym (n .ends .ensures)) ∙ sym (g .before .countable .ensures) ∙ not-false _ (g .if3 .left))
-          (omega (arith, f .if4 .left, n .ends .ensures)),
-      t .tables .ensures,
-      t .before .table .ensures,
-    )
+    let a = e .before .before .before .before .args in
+    feed-ready (a .state) (now (a .piece)) (now (a .chunk)) (now (a .out)) (e .if1 .left) (d .if2 .left)
+    (ap (λ (k : ℕ). ltb (a .state .loaded + a .state .refused + k) (2 ^ 64)) (sym (n .ends .ensures)) ∙ sym (g .before .countable .ensures) ∙ not-false _ (g .if3 .left))
+    (omega (arith, f .if4 .left, n .ends .ensures))
 
 same-length : tie.Need-same-length
 same-length c = search needs
@@ -75,8 +62,7 @@ same-length-2 c = search needs
 returns-5 : tie.Need-returns-5
 returns-5 c =
     let k = c .before .before .before .before in
-    let t = k .before .before .before .before .before in
-    let f = t .before .before in
+    let f = k .before .before .before in
     let g = f .before in
     let n = g .before .before in
     let d = n .before in
@@ -96,9 +82,6 @@ feed-spec =
     countable-requires
     returns-3
     returns-4
-    table-requires
-    tables-requires
-    slice-aggregate-take
     take-requires
     same-length
     same-length-2

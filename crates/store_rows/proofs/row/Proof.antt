@@ -1,7 +1,6 @@
 -- `store_rows::row` meets its contract: the row of what was read is the row of what the piece says. Assumes nothing.
 use denote.Ref.{now}
 use borrow.Author.Needs.{needs}
-use Rattle.ledger_row.specs.Promises.{scoreWith}
 use Rattle.ledger_row.proofs.Rows.{row-read}
 use Rattle.store_record.specs.Record.{pieceSays}
 use Rattle.store_rows.proofs.row.Statement.{statement}
@@ -26,7 +25,7 @@ returns c =
     let a = d .before .before .before .args in
     let k = d .read in
     let p = w .row in
-    row-read (scoreWith (now (a .tables)) (now (a .pst))) (a .number) (pieceSays (now (a .piece))) (now (a .out)) (p .last .1 .1 .1 .0) (a .at) (k .result .answer) (k .result .bitboards)
+    row-read (a .number) (pieceSays (now (a .piece))) (now (a .out)) (p .last .1 .1 .1 .0) (a .at) (k .result .answer) (k .result .bitboards)
     (p .result) (k .ensures .answer) (k .ensures .boards) (p .ensures)
 
 pub row-spec : {M : Type 1} → statement M

@@ -16,16 +16,16 @@ use Rattle.store_rows.proofs.take.Statement.{statement}
 use Rattle.store_rows.proofs.take.Tie as tie
 
 abbrev Inv-loop : tie.InvT-loop
-Inv-loop piece₀ chunk out₀ pst tables held₀ loaded₀ refused₀ wrote₀ at₀ piece out held loaded refused wrote at =
+Inv-loop piece₀ chunk out₀ held₀ loaded₀ refused₀ wrote₀ at₀ piece out held loaded refused wrote at =
     Turn (runStore (storeIn held₀ loaded₀ refused₀) piece₀ chunk) chunk out₀ piece out held loaded refused wrote at
 
 abbrev μ-loop : tie.MeasureT-loop
-μ-loop piece₀ chunk out₀ pst tables held₀ loaded₀ refused₀ wrote₀ at₀ piece out held loaded refused wrote at = length chunk - at
+μ-loop piece₀ chunk out₀ held₀ loaded₀ refused₀ wrote₀ at₀ piece out held loaded refused wrote at = length chunk - at
 
 loop-holds : tie.Need-loop-holds Inv-loop μ-loop
 loop-holds c =
     let a = c .before .before .before .args in
-    turn-none (a .state) (now (a .piece)) (now (a .chunk)) (now (a .out)) (c .before .before .before .pre .0)
+    turn-none (a .state) (now (a .piece)) (now (a .chunk)) (now (a .out)) (c .before .before .before .pre)
 
 next-requires : tie.Need-next-requires Inv-loop μ-loop
 next-requires c κs = search needs
@@ -109,7 +109,7 @@ loop-again c =
     let k = c .before .before .before .row in
     turn-close (runStore (a .state) (now (a .piece)) (now (a .chunk))) (now (a .chunk)) (now (a .out)) (l .piece) (l .out) (l .held) (l .loaded) (l .refused) (l .wrote) (l .at) (d .before .before .loop-test .taken) (l .inv) (n .result) (n .last .1 .0) (n .ensures)
     (t .if1 .taken) (k .last .1 .1 .0) (c .or .result)
-    (closed-adds (now (a .tables)) (now (a .pst)) (s .pre .1) (s .pre .2) (l .loaded + l .refused + 1) (l .out) (k .last .1 .1 .0) (l .wrote) (pieceSays (n .last .1 .0)) (k .result) (k .ensures) (c .or .result) (c .or .ensures))
+    (closed-adds (l .loaded + l .refused + 1) (l .out) (k .last .1 .1 .0) (l .wrote) (pieceSays (n .last .1 .0)) (k .result) (k .ensures) (c .or .result) (c .or .ensures))
     (k .result .loaded) (k .ensures .loaded) (l .loaded + boolByte (k .result .loaded)) (l .refused + boolByte (not (k .result .loaded)))
     (tally-number (k .result .loaded) (l .loaded)) (tally-number (not (k .result .loaded)) (l .refused))
 
@@ -136,7 +136,7 @@ made-requires : tie.Need-made-requires Inv-loop μ-loop
 made-requires c κs = search needs
 
 same-length : tie.Need-same-length Inv-loop μ-loop
-same-length c = c .before .before .loop .inv .pieces .long ∙ sym (c .before .before .before .before .before .before .pre .0 .size)
+same-length c = c .before .before .loop .inv .pieces .long ∙ sym (c .before .before .before .before .before .before .pre .size)
 
 same-length-2 : tie.Need-same-length-2 Inv-loop μ-loop
 same-length-2 c = c .before .before .loop .inv .kept

@@ -1,9 +1,6 @@
 -- `ledger_row::inner::row` meets its contract. Assumes nothing.
 use denote.Ref.{now}
-use Rattle.attack.specs.PrivateLent.{attacksWith}
-use Rattle.score_pst.specs.Pst.{weightIn}
 use Rattle.score.specs.Answers.{scored}
-use Rattle.ledger_row.specs.Promises.{scoreWith}
 use Rattle.ledger_row.proofs.Rows.{scored-short, row-refused, row-loaded}
 use borrow.Author.Needs.{needs}
 use Rattle.ledger_row.proofs.inner.row.Statement.{statement}
@@ -23,8 +20,7 @@ eval-requires c κs = search needs
 
 loaded-requires : tie.Need-loaded-requires
 loaded-requires c κs =
-    let a = c .before .before .before .before .before .before .before .args in
-    scored-short (attacksWith (now (a .tables))) (weightIn (now (a .pst))) _ _ (c .before .eval .result) (c .before .eval .ensures)
+    scored-short _ _ (c .before .eval .result) (c .before .eval .ensures)
 
 same-length : tie.Need-same-length
 same-length c = search needs
@@ -34,7 +30,7 @@ returns c =
     let a = c .before .before .before .before .before .before .before .before .before .args in
     let p = c .before .before .refused in
     let k = c .before .before .before .before .before .read in
-    row-refused (scoreWith (now (a .tables)) (now (a .pst))) (a .line) (now (a .bitboards)) (now (a .out)) (p .last .1 .1 .0) (a .at) (a .read) (k .given .0 .0) (k .given .1) (p .result) (p .ensures)
+    row-refused (a .line) (now (a .bitboards)) (now (a .out)) (p .last .1 .1 .0) (a .at) (a .read) (k .given .0 .0) (k .given .1) (p .result) (p .ensures)
 
 same-length-2 : tie.Need-same-length-2
 same-length-2 c = search needs
@@ -44,7 +40,7 @@ returns-2 c =
     let a = c .before .before .before .before .before .before .before .before .before .before .args in
     let p = c .before .before .loaded in
     let k = c .before .before .before .before .before .before .read2 in
-    row-loaded (scoreWith (now (a .tables)) (now (a .pst))) (a .line) (now (a .bitboards)) (now (a .out)) (p .last .1 .1 .1 .0) (a .at) (a .read) (k .given .0 .0) (k .given .0 .1 .0) (k .given .1)
+    row-loaded (a .line) (now (a .bitboards)) (now (a .out)) (p .last .1 .1 .1 .0) (a .at) (a .read) (k .given .0 .0) (k .given .0 .1 .0) (k .given .1)
     (scored (c .before .before .before .before .eval .result)) (c .before .before .before .before .eval .ensures) (p .result) (p .ensures)
 
 pub row-spec : {M : Type 1} → statement M

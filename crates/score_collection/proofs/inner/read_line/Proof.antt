@@ -3,7 +3,6 @@ use mathlib.Core.Path.{ap, _∙_}
 use borrow.Author.Needs.{needs}
 use denote.Ref.{now}
 use Rattle.score.specs.Answers.{scored}
-use Rattle.ledger_row.specs.Promises.{scoreWith}
 use Rattle.score_collection.specs.Gather.{noted}
 use Rattle.score_collection.proofs.Lines.{line-refused, line-loaded}
 use Rattle.score_collection.proofs.inner.read_line.Statement.{statement}
@@ -38,7 +37,7 @@ returns c =
     let a = c .before .before .before .before .before .args in
     let r = c .before .before .before .read in
     c .refused .ensures
-    ∙ line-refused (scoreWith (now (a .tables)) (now (a .pst))) (now (a .expected)) (a .sum) (now (a .line)) (a .size) (r .result) (r .ensures) (c .before .enum-told .given .0 .0) (c .before .enum-told .given .1)
+    ∙ line-refused (now (a .expected)) (a .sum) (now (a .line)) (a .size) (r .result) (r .ensures) (c .before .enum-told .given .0 .0) (c .before .enum-told .given .1)
 
 returns-2 : tie.Need-returns-2
 returns-2 c =
@@ -47,7 +46,7 @@ returns-2 c =
     let r = c .before .before .before .before .before .before .before .before .before .read in
     c .note .ensures
     ∙ ap (noted (a .sum)) (c .before .add .ensures)
-    ∙ line-loaded (scoreWith (now (a .tables)) (now (a .pst))) (now (a .expected)) (a .sum) (now (a .line)) (a .size) (r .result) (r .ensures) (k .0 .0) (k .0 .1 .0) (k .1)
+    ∙ line-loaded (now (a .expected)) (a .sum) (now (a .line)) (a .size) (r .result) (r .ensures) (k .0 .0) (k .0 .1 .0) (k .1)
     (scored (c .before .before .before .eval .result)) (c .before .before .before .eval .ensures)
 
 pub read-line-spec : {M : Type 1} → statement M

@@ -1,0 +1,3 @@
+pub mod Attacked
+pub mod PrivateWalked
+pub mod Promises

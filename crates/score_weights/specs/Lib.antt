@@ -1,0 +1,2 @@
+pub mod PrivatePacked
+pub mod Promises

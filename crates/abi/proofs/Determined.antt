@@ -44,8 +44,10 @@ pub is-check : (bitboards board : List ℕ) (state : Stated) (colour : ℕ) (che
 is-check bitboards board state colour check r s v w = door
 
 -- ---- exchanges
-pub lvp : (kinds bitboards board : List ℕ) (state : Stated) (colour attacks occupied : ℕ) (found : Bool) (square kind : ℕ) (r s : Code) (v w : Bool) (y z k l : ℕ)
-    → Lvp kinds bitboards board state colour attacks occupied found square kind r v y k → Lvp kinds bitboards board state colour attacks occupied found square kind s w z l
+pub lvp : (kinds bitboards board : List ℕ) (state : Stated) (colour attacks occupied : ℕ) (found : Bool) (square kind : ℕ) (r s : Code) (v w : Bool)
+    (y z k l : ℕ)
+    → Lvp kinds bitboards board state colour attacks occupied found square kind r v y k
+    → Lvp kinds bitboards board state colour attacks occupied found square kind s w z l
     → (r ≡ s) × (v ≡ w) × (y ≡ z) × (k ≡ l)
 lvp kinds bitboards board state colour attacks occupied found square kind r s v w y z k l p q =
     (one (p .code) (q .code), one (p .lent) (q .lent), one (p .lent2) (q .lent2), one (p .lent3) (q .lent3))
@@ -55,7 +57,8 @@ pub see : (number : ℕ) (kinds bitboards board : List ℕ) (state : Stated) (fr
 see number kinds bitboards board state from to worth r s v w = door
 
 -- ---- lines
-pub read-line : (line bitboards board : List ℕ) (r s : Line) (b b′ y y′ : List ℕ) → ReadsLine line bitboards board r b y → ReadsLine line bitboards board s b′ y′
+pub read-line : (line bitboards board : List ℕ) (r s : Line) (b b′ y y′ : List ℕ) → ReadsLine line bitboards board r b y
+    → ReadsLine line bitboards board s b′ y′
     → (r ≡ s) × (b ≡ b′) × (y ≡ y′)
 read-line line bitboards board r s b b′ y y′ p q = (one (p .said) (q .said), one (p .boards) (q .boards), one (p .bytes) (q .bytes))
 

@@ -14,11 +14,13 @@ use Rattle.abi_states.specs.declared.State.{State as Stated}
 use Rattle.abi.specs.Doors.{anyone, squareOr, kindOr}
 use Rattle.abi.specs.Promises.{Lvp}
 
-pub least-passed : {kinds bitboards board : List ℕ} {state : Stated} {taken : State} {colour attacks occupied : ℕ} {found : Bool} {square kind : ℕ} {x : Answer Attacker} {n : Code} {found′ : Bool} {square′ kind′ : ℕ}
+pub least-passed : {kinds bitboards board : List ℕ} {state : Stated} {taken : State} {colour attacks occupied : ℕ} {found : Bool} {square kind : ℕ}
+    {x : Answer Attacker} {n : Code} {found′ : Bool} {square′ kind′ : ℕ}
     → taken ≡ stateTaken state → x ≡ lvpOf kinds bitboards board taken colour attacks occupied → n ≡ answerNumber x
     → found′ ≡ lentAfter anyone found x → square′ ≡ lentAfter squareOr square x → kind′ ≡ lentAfter kindOr kind x
     → Lvp kinds bitboards board state colour attacks occupied found square kind n found′ square′ kind′
-least-passed {kinds} {bitboards} {board} {colour = colour} {attacks = attacks} {occupied = occupied} {found = found} {square = square} {kind = kind} t q h f s k =
+least-passed {kinds} {bitboards} {board} {colour = colour} {attacks = attacks} {occupied = occupied} {found = found} {square = square} {kind = kind} t
+    q h f s k =
     let e = q ∙ ap (λ (y : State). lvpOf kinds bitboards board y colour attacks occupied) t in
     record {
       code = h ∙ ap answerNumber e;

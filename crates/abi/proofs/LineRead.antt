@@ -20,7 +20,8 @@ use Rattle.abi.specs.Promises.{lineRecord, GivesLine, ReadsSaid}
 use Rattle.abi.specs.declared.lines.Line.{Line as Told}
 
 -- ---- by value
-pub turned-line : {read : Read} {q : Refusal} → read ≡ Refused q → (n : Code) → n ≡ refusalCode q → (s : State) → s ≡ ofSide white → (t : Stated) → t ≡ stateTold s
+pub turned-line : {read : Read} {q : Refusal} → read ≡ Refused q → (n : Code) → n ≡ refusalCode q → (s : State) → s ≡ ofSide white → (t : Stated)
+    → t ≡ stateTold s
     → GivesLine read (record { code = n; state = t; half = 0 })
 turned-line {q = q} m n h s o t g =
     (λ i. record { code = h i; state = (g ∙ ap stateTold o) i; half = 0 }) ∙ ap (λ (x : Read). lineRecord (paper x)) (sym m)

@@ -47,16 +47,19 @@ abbrev pub PieceAttacks : ℕ → ℕ → ℕ → ℕ → Code → ℕ → Type 
 PieceAttacks piece square occupied squares r squares′ = Door (pieceAttacksOf piece square occupied) asItIs squares r squares′
 
 abbrev pub AttacksTo : List ℕ → List ℕ → Stated → ℕ → ℕ → ℕ → Code → ℕ → Type 0
-AttacksTo bitboards board state square occupied squares r squares′ = Door (attacksToOf bitboards board (stateTaken state) square occupied) asItIs squares r squares′
+AttacksTo bitboards board state square occupied squares r squares′ = Door (attacksToOf bitboards board (stateTaken state) square occupied) asItIs
+    squares r squares′
 
 abbrev pub IsAttacked : List ℕ → List ℕ → Stated → ℕ → ℕ → Bool → Code → Bool → Type 0
-IsAttacked bitboards board state square colour attacked r attacked′ = Door (isAttackedOf bitboards board (stateTaken state) square colour) asItIs attacked r attacked′
+IsAttacked bitboards board state square colour attacked r attacked′ =
+    Door (isAttackedOf bitboards board (stateTaken state) square colour) asItIs attacked r attacked′
 
 abbrev pub IsCheck : List ℕ → List ℕ → Stated → ℕ → Bool → Code → Bool → Type 0
 IsCheck bitboards board state colour check r check′ = Door (isCheckOf bitboards board (stateTaken state) colour) asItIs check r check′
 
 -- ---- exchanges
-pub record Lvp (kinds bitboards board : List ℕ) (state : Stated) (colour attacks occupied : ℕ) (found : Bool) (square kind : ℕ) (r : Code) (found′ : Bool) (square′ kind′ : ℕ) : Type 0 where
+pub record Lvp (kinds bitboards board : List ℕ) (state : Stated) (colour attacks occupied : ℕ) (found : Bool) (square kind : ℕ) (r : Code)
+    (found′ : Bool) (square′ kind′ : ℕ) : Type 0 where
   pub code : r ≡ answerNumber (lvpOf kinds bitboards board (stateTaken state) colour attacks occupied)
   pub lent : found′ ≡ lentAfter anyone found (lvpOf kinds bitboards board (stateTaken state) colour attacks occupied)
   pub lent2 : square′ ≡ lentAfter squareOr square (lvpOf kinds bitboards board (stateTaken state) colour attacks occupied)

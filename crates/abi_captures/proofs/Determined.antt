@@ -7,7 +7,8 @@ use Rattle.abi_captures.specs.Promises.{TellsCaptures}
 use Rattle.abi_codes.specs.declared.Code.{Code}
 use Rattle.abi_states.specs.declared.State.{State as Stated}
 
-pub captures : (number : ℕ) (kinds bitboards board : List ℕ) (state : Stated) (from to : ℕ) (squares by taken : List ℕ) (count stop : ℕ) (r s : Code) (a b : List ℕ) (c d : List ℕ) (e f : List ℕ) (g h i j : ℕ)
+pub captures : (number : ℕ) (kinds bitboards board : List ℕ) (state : Stated) (from to : ℕ) (squares by taken : List ℕ) (count stop : ℕ) (r s : Code)
+    (a b : List ℕ) (c d : List ℕ) (e f : List ℕ) (g h i j : ℕ)
     → TellsCaptures number kinds bitboards board state from to squares by taken count stop r a c e g i
     → TellsCaptures number kinds bitboards board state from to squares by taken count stop s b d f h j
     → (r ≡ s) × (a ≡ b) × (c ≡ d) × (e ≡ f) × (g ≡ h) × (i ≡ j)

@@ -28,7 +28,8 @@ use Rattle.abi_codes.specs.Codes.{answerNumber, lentAfter}
 use Rattle.abi_codes.specs.declared.Code.{Code}
 use Rattle.abi_captures.specs.Promises.{stopNumber, stopIn, TellsSaid}
 
-module _ (mode : Mode) (kinds bbs bytes : List ℕ) (state : Stated) (from to : ℕ) (squares by taken : List ℕ) (count stop : ℕ) (t : Told) (s : State) (is : s ≡ stateTaken state)
+module _ (mode : Mode) (kinds bbs bytes : List ℕ) (state : Stated) (from to : ℕ) (squares by taken : List ℕ) (count stop : ℕ) (t : Told) (s : State)
+    (is : s ≡ stateTaken state)
     (told-so : Captures mode kinds bbs bytes s from to t) where
   promise : Captures mode kinds bbs bytes (stateTaken state) from to t
   promise = subst (λ (y : State). Captures mode kinds bbs bytes y from to t) is told-so
@@ -42,7 +43,8 @@ module _ (mode : Mode) (kinds bbs bytes : List ℕ) (state : Stated) (from to : 
   pub passed-refused : (q : Refusal) → t .checked ≡ Refused q → (r : Code) → r ≡ answerNumber (refusalOf {A = List Capture} q)
       → TellsSaid told squares by taken count stop r squares by taken count stop
   passed-refused q e r h =
-      let p : refusalOf q ≡ told = passes-on mode kinds bbs bytes (stateTaken state) from to (t .checked) (promise .0) cs q e ∙ sym (told-is mode kinds bbs bytes (stateTaken state) from to) in
+      let p : refusalOf q ≡ told = passes-on mode kinds bbs bytes (stateTaken state) from to (t .checked) (promise .0) cs q e
+      ∙ sym (told-is mode kinds bbs bytes (stateTaken state) from to) in
       record {
         code = h ∙ ap answerNumber p;
         made-from = ap (lentAfter (column 32 (λ c. c .from)) squares) p;
@@ -55,7 +57,8 @@ module _ (mode : Mode) (kinds bbs bytes : List ℕ) (state : Stated) (from to : 
   pub passed-told : t .checked ≡ Fit → (r : Code) (n point : ℕ) → r ≡ answerNumber (given cs) → n ≡ t .listed .count → point ≡ stopNumber (stopped (t .stop)) n
       → TellsSaid told squares by taken count stop r (t .listed .from) (t .listed .kind) (t .listed .taken) n point
   passed-told e r n point h en ep =
-      let p : given cs ≡ told = tells mode kinds bbs bytes (stateTaken state) from to (t .checked) (promise .0) cs e ∙ sym (told-is mode kinds bbs bytes (stateTaken state) from to) in
+      let p : given cs ≡ told = tells mode kinds bbs bytes (stateTaken state) from to (t .checked) (promise .0) cs e
+      ∙ sym (told-is mode kinds bbs bytes (stateTaken state) from to) in
       let c : theCaptures told ≡ cs = sym (ap theCaptures p) in
       let holds : HoldsCaptures cs (t .listed) = subst (λ (l : List Capture). HoldsCaptures l (t .listed)) c (promise .1) in
       let counts : n ≡ length cs = en ∙ holds .0 in

@@ -69,9 +69,9 @@ fn captures(
     GIVEN
 }
 
-// The captures of the exchange that a capture starts, in the first mode, 0, or the second, 1, each by its square, its kind and the value that it takes, zeros after
-// them; how many there are; and before which of them the exchange stops, or their number where it is played out: SHAPE, OVERLAP, UNION, BYTEBOARD, RIGHTS, PASSANT,
-// COUNTER, SQUARE, ORDER, MOVE, CROWD.
+// The captures of the exchange that a capture starts, in the first mode, 0, or the second, 1, each by its square, its kind and the value that it
+// takes, zeros after them; how many there are; and before which of them the exchange stops, or their number where it is played out: SHAPE, OVERLAP,
+// UNION, BYTEBOARD, RIGHTS, PASSANT, COUNTER, SQUARE, ORDER, MOVE, CROWD.
 #[no_mangle]
 pub extern "C" fn chess_captures(
     bitboards: &[u64],

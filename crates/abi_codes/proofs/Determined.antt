@@ -16,7 +16,8 @@ pub flag : (holds : Bool) (r s : ℕ) → GivesFlag holds r → GivesFlag holds 
 flag holds r s p q = one p q
 
 -- ---- a door that lends one number, and one that lends two
-pub door : {A B : Type 0} {a : Answer A} {part : A → B} {old : B} {r s : Code} {new new′ : B} → Door a part old r new → Door a part old s new′ → (r ≡ s) × (new ≡ new′)
+pub door : {A B : Type 0} {a : Answer A} {part : A → B} {old : B} {r s : Code} {new new′ : B} → Door a part old r new → Door a part old s new′
+    → (r ≡ s) × (new ≡ new′)
 door p q = (one (p .code) (q .code), one (p .lent) (q .lent))
 
 pub doors : {A B C : Type 0} {a : Answer A} {first : A → B} {second : A → C} {old : B} {old2 : C} {r s : Code} {new new′ : B} {new2 new2′ : C}

@@ -38,7 +38,8 @@ pub add-passed : (totals : List ℕ) (side : ℕ) (t : Bool) (z : ℤ) (half : �
     → u ≡ totalsFrom totals → scored a ≡ answerFrom t z → AddsLine u side a half r → r ≡ x → n ≡ answerNumber (addedPaper x)
     → totals′ ≡ lentAfter totalNumbers totals (addedPaper x) → AddsError totals side t z half n totals′
 add-passed totals side t z half a e f p m h g =
-    door-passed (met addedPaper (p ∙ ap (λ (v : Totals). totalsWith v side (scored a) half) e ∙ ap (λ (o : Answer Outcome). totalsWith (totalsFrom totals) side o half) f) m) h g
+    door-passed (met addedPaper (p ∙ ap (λ (v : Totals). totalsWith v side (scored a) half) e
+    ∙ ap (λ (o : Answer Outcome). totalsWith (totalsFrom totals) side o half) f) m) h g
 
 -- ---- what was gathered as numbers, by its two flags
 pub numbers-made : (g : Gathered) {x y : ℕ} → x ≡ flagOf (g .begun .cr) → y ≡ flagOf (g .sum .full)
@@ -51,7 +52,8 @@ value-code : (a : Answer (CutSoFar Sum)) → answerNumber (gatheredIn a) ≡ ans
 value-code (given m) = refl
 value-code (refused n l) = refl
 
-state-after : (old : List ℕ) (a : Answer (CutSoFar Sum)) → lentAfter gatheredNumbers old (gatheredIn a) ≡ lentAfter (λ (m : CutSoFar Sum). gatheredNumbers (gatheredOf m)) old a
+state-after : (old : List ℕ) (a : Answer (CutSoFar Sum)) → lentAfter gatheredNumbers old (gatheredIn a)
+    ≡ lentAfter (λ (m : CutSoFar Sum). gatheredNumbers (gatheredOf m)) old a
 state-after old (given m) = refl
 state-after old (refused n l) = refl
 

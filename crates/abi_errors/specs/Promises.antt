@@ -1,4 +1,5 @@
--- What each door of expected scores and of the sum over a collection promises, for all inputs: what comes back and every lent number afterwards. Definitions only.
+-- What each door of expected scores and of the sum over a collection promises, for all inputs: what comes back and every lent number afterwards.
+-- Definitions only.
 use mathlib.Core.Path.{_≡_}
 use mathlib.Core.Bool.{Bool}
 use mathlib.Core.List.{List}

@@ -26,7 +26,8 @@ sums-after (given g) old = refl
 sums-after (refused n l) old = refl
 
 -- the trace that the call was handed is that of the lent numbers
-pub line-passed : {t u : Trace} {entries : List ℤ} {c : Float} {old new : List Float} {r x : Added} {n : Code} → G.AddsTrace t entries c old r new → t ≡ u → r ≡ x
+pub line-passed : {t u : Trace} {entries : List ℤ} {c : Float} {old new : List Float} {r x : Added} {n : Code} → G.AddsTrace t entries c old r new
+    → t ≡ u → r ≡ x
     → n ≡ answerNumber (G.paper x) → Door (G.addedOf u entries c old) (λ (g : List Float). g) old n new
 line-passed {u = u} {entries = entries} {c = c} {old = old} {new = new} {r = r} p e m h =
     let q : G.AddsTrace u entries c old r new = subst (λ (t : Trace). G.AddsTrace t entries c old r new) e p in
@@ -41,4 +42,8 @@ fit-code (refused n l) = refl
 pub step-passed : {g m v w m′ v′ w′ : List Float} {i : ℕ} {rate : Float} {r x : Stepped} {n : Code} → A.StepsFit g m v w i rate r m′ v′ w′ → r ≡ x
     → n ≡ answerNumber (A.paper x) → StepsAdam g m v w i rate n m′ v′ w′
 step-passed {g = g} {m = m} {v = v} {w = w} {i = i} {rate = rate} p e h =
-    record { code = h ∙ ap (λ (y : Stepped). answerNumber (A.paper y)) (sym e) ∙ ap answerNumber (p .answer) ∙ fit-code (A.fitStep g (A.fitFrom m v w) i rate); lent = p .lent }
+    record {
+      code = h ∙ ap (λ (y : Stepped). answerNumber (A.paper y)) (sym e) ∙ ap answerNumber (p .answer)
+          ∙ fit-code (A.fitStep g (A.fitFrom m v w) i rate);
+      lent = p .lent;
+    }

@@ -19,7 +19,8 @@ use Rattle.abi_codes.specs.declared.Code.{Code}
 
 pub traced : (bbs bytes : List ℕ) (state : Stated) {taken : State} {counts mobility : List ℤ} {sign pieces : ℤ} {entries : List ℤ}
     {x : Answer Trace} {n : Code} {counts′ mobility′ : List ℤ} {sign′ pieces′ : ℤ} {entries′ : List ℤ}
-    → taken ≡ stateTaken state → x ≡ tracedOf bbs bytes taken entries → n ≡ answerNumber x → counts′ ≡ lentAfter countsOf counts x → mobility′ ≡ lentAfter (λ (t : Trace). t .mobility) mobility x
+    → taken ≡ stateTaken state → x ≡ tracedOf bbs bytes taken entries → n ≡ answerNumber x → counts′ ≡ lentAfter countsOf counts x
+    → mobility′ ≡ lentAfter (λ (t : Trace). t .mobility) mobility x
     → sign′ ≡ lentAfter (λ (t : Trace). t .side) sign x → pieces′ ≡ lentAfter (λ (t : Trace). t .«piece_count») pieces x
     → entries′ ≡ entriesAfter (tracedOf bbs bytes taken entries) bbs entries
     → ComputesTrace bbs bytes state counts mobility sign pieces entries n counts′ mobility′ sign′ pieces′ entries′

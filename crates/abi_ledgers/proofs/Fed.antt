@@ -29,7 +29,8 @@ state-after old (turned n l) = refl
 state-after old many = refl
 state-after old full = refl
 
-wrote-after : (old : ℕ) (a : Came Machine) → lentAfterCame (λ (p : SoFar × ℕ). p .1) old (Rows.cameByValue a) ≡ lentAfterCame (λ (m : Machine). length (m .text)) old a
+wrote-after : (old : ℕ) (a : Came Machine) → lentAfterCame (λ (p : SoFar × ℕ). p .1) old (Rows.cameByValue a)
+    ≡ lentAfterCame (λ (m : Machine). length (m .text)) old a
 wrote-after old (came m) = refl
 wrote-after old (turned n l) = refl
 wrote-after old many = refl
@@ -65,7 +66,8 @@ length-after old many = refl
 length-after old full = refl
 
 pub finished-through : (state line out : List ℕ) (wrote : ℕ) {s : SoFar} {r x : Finished} {n : Code} {out′ : List ℕ} {wrote′ : ℕ}
-    → s ≡ stateFrom state → Finishes P.Any s line out r out′ → r ≡ x → n ≡ cameNumber (finishPaper x) → wrote′ ≡ lentAfterCame (λ (n : ℕ). n) wrote (finishPaper x)
+    → s ≡ stateFrom state → Finishes P.Any s line out r out′ → r ≡ x → n ≡ cameNumber (finishPaper x)
+    → wrote′ ≡ lentAfterCame (λ (n : ℕ). n) wrote (finishPaper x)
     → FinishesLedger state line out wrote n out′ wrote′
 finished-through state line out wrote {r = r} {out′ = out′} q f m h k =
     let a : Came (List ℕ) = finishOf P.Any (stateFrom state) line out in

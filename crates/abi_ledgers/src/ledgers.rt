@@ -52,7 +52,8 @@ pub fn numbers_of(state: SoFar) -> [u64; NUMBERS]
     ]
 }
 
-// A row for each line that ends in the chunk, and how many bytes they are: SHAPE (not 256 bytes for the line), the ledger's own MANY, FULL (not 32 bytes of room for each).
+// A row for each line that ends in the chunk, and how many bytes they are: SHAPE (not 256 bytes for the line), the ledger's own MANY, FULL (not 32
+// bytes of room for each).
 #[no_mangle]
 pub extern "C" fn chess_ledger_feed(
     state: &mut [u64; NUMBERS],

@@ -16,7 +16,8 @@ pub list-eval : (counts mobility : List ℤ) (sign total : ℤ) (used : ℕ) (li
 list-eval counts mobility sign total used list weights squares value r s v w = door
 
 pub list-of : (counts mobility : List ℤ) (sign total : ℤ) (entries : List ℤ) (used : ℕ) (list : List ℕ) (r s : Code) (m n : ℕ) (k l : List ℕ)
-    → ListsTrace counts mobility sign total entries used list r m k → ListsTrace counts mobility sign total entries used list s n l → (r ≡ s) × (m ≡ n) × (k ≡ l)
+    → ListsTrace counts mobility sign total entries used list r m k → ListsTrace counts mobility sign total entries used list s n l → (r ≡ s) × (m ≡ n)
+    × (k ≡ l)
 list-of counts mobility sign total entries used list r s m n k l p q = (one (p .code) (q .code), one (p .many) (q .many), one (p .lent) (q .lent))
 
 pub flat-of : (counts mobility : List ℤ) (sign total : ℤ) (used : ℕ) (list : List ℕ) (entries : List ℤ) (r s : Code) (v w : List ℤ)

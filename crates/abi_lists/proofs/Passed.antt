@@ -25,7 +25,8 @@ use Rattle.abi_codes.specs.declared.Code.{Code}
 
 -- ---- from flat to list
 pub list-passed : (counts mobility : List ℤ) (sign total : ℤ) {t : Trace} {entries : List ℤ} {used used′ : ℕ} {list list′ : List ℕ} {r x : Listed} {n : Code}
-    → T.ListsTrace t entries list r list′ → t ≡ traceOfNumbers counts mobility sign total → r ≡ x → n ≡ answerNumber (T.listedPaper x) → used′ ≡ lentAfter asItIs used (T.listedPaper x)
+    → T.ListsTrace t entries list r list′ → t ≡ traceOfNumbers counts mobility sign total → r ≡ x → n ≡ answerNumber (T.listedPaper x)
+    → used′ ≡ lentAfter asItIs used (T.listedPaper x)
     → ListsTrace counts mobility sign total entries used list n used′ list′
 list-passed counts mobility sign total {entries = entries} {used = used} {list = list} {list′ = list′} {r = r} p e m h g =
     let q : T.ListsTrace (traceOfNumbers counts mobility sign total) entries list r list′ = subst (λ (t : Trace). T.ListsTrace t entries list r list′) e p in
@@ -48,7 +49,8 @@ flat-passed {u = u} {used = used} {list = list} {old = old} {new = new} {r = r} 
     record { code = h ∙ ap (λ (y : Flattened). answerNumber (T.flattenedPaper y new)) (sym m) ∙ flat-code r new (q .answer); lent = q .lent ∙ flat-after a old }
 
 -- ---- the gradient
-pub line-passed : {t u : Trace} {used : ℕ} {list : List ℕ} {c : Float} {old new : List Float} {r x : Added} {n : Code} → L.AddsList t used list c old r new → t ≡ u → r ≡ x
+pub line-passed : {t u : Trace} {used : ℕ} {list : List ℕ} {c : Float} {old new : List Float} {r x : Added} {n : Code}
+    → L.AddsList t used list c old r new → t ≡ u → r ≡ x
     → n ≡ answerNumber (G.paper x) → Door (L.listAddedOf u used list c old) asItIs old n new
 line-passed {u = u} {used = used} {list = list} {c = c} {old = old} {new = new} {r = r} p e m h =
     let q : L.AddsList u used list c old r new = subst (λ (t : Trace). L.AddsList t used list c old r new) e p in
@@ -56,13 +58,15 @@ line-passed {u = u} {used = used} {list = list} {c = c} {old = old} {new = new} 
     record { code = h ∙ ap (λ (y : Added). answerNumber (G.paper y)) (sym m) ∙ ap answerNumber (q .answer) ∙ sums-code a; lent = q .lent ∙ sums-after a old }
 
 -- ---- a position's list
-many-after : (a : Answer Trace) (bbs : List ℕ) (used used′ n : ℕ) → n ≡ usedAfter a bbs → used′ ≡ lentAfter (λ (t : Trace). n) used a → used′ ≡ lentAfter (λ (t : Trace). pieces bbs) used a
+many-after : (a : Answer Trace) (bbs : List ℕ) (used used′ n : ℕ) → n ≡ usedAfter a bbs → used′ ≡ lentAfter (λ (t : Trace). n) used a
+    → used′ ≡ lentAfter (λ (t : Trace). pieces bbs) used a
 many-after (given t) bbs used used′ n e h = h ∙ e
 many-after (refused m l) bbs used used′ n e h = h
 
 pub traced : (bbs bytes : List ℕ) (state : Stated) {taken : State} {counts mobility : List ℤ} {sign total : ℤ} {used : ℕ} {list : List ℕ}
     {x : Answer Trace} {n : Code} {counts′ mobility′ : List ℤ} {sign′ total′ : ℤ} {used′ : ℕ} {list′ : List ℕ} (m : ℕ)
-    → taken ≡ stateTaken state → x ≡ listTracedOf bbs bytes taken → n ≡ answerNumber x → counts′ ≡ lentAfter countsOf counts x → mobility′ ≡ lentAfter (λ (t : Trace). t .mobility) mobility x
+    → taken ≡ stateTaken state → x ≡ listTracedOf bbs bytes taken → n ≡ answerNumber x → counts′ ≡ lentAfter countsOf counts x
+    → mobility′ ≡ lentAfter (λ (t : Trace). t .mobility) mobility x
     → sign′ ≡ lentAfter (λ (t : Trace). t .side) sign x → total′ ≡ lentAfter (λ (t : Trace). t .«piece_count») total x
     → used′ ≡ lentAfter (λ (t : Trace). m) used x → m ≡ usedAfter (listTracedOf bbs bytes taken) bbs
     → list′ ≡ listAfter (listTracedOf bbs bytes taken) bbs list
@@ -75,6 +79,7 @@ traced bbs bytes state {counts = counts} {mobility = mobility} {sign = sign} {to
       moved = o ∙ ap (lentAfter (λ (t : Trace). t .mobility) mobility) e;
       turn = s ∙ ap (lentAfter (λ (t : Trace). t .side) sign) e;
       whole = p ∙ ap (lentAfter (λ (t : Trace). t .«piece_count») total) e;
-      many = many-after (listTracedOf bbs bytes (stateTaken state)) bbs used used′ m (v ∙ ap (λ (y : State). usedAfter (listTracedOf bbs bytes y) bbs) t) (u ∙ ap (lentAfter (λ (t : Trace). m) used) e);
+      many = many-after (listTracedOf bbs bytes (stateTaken state)) bbs used used′ m
+          (v ∙ ap (λ (y : State). usedAfter (listTracedOf bbs bytes y) bbs) t) (u ∙ ap (lentAfter (λ (t : Trace). m) used) e);
       lent = k ∙ ap (λ (y : State). listAfter (listTracedOf bbs bytes y) bbs list) t;
     }

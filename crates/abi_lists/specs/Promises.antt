@@ -20,7 +20,8 @@ abbrev pub EvalsList : List ℤ → List ℤ → ℤ → ℤ → ℕ → List �
 EvalsList counts mobility sign total used list weights squares value r value′ =
     Door (listDoubleOf (traceOfNumbers counts mobility sign total) used list (weightsOf weights) squares) asItIs value r value′
 
-pub record ListsTrace (counts mobility : List ℤ) (sign total : ℤ) (entries : List ℤ) (used : ℕ) (list : List ℕ) (r : Code) (used′ : ℕ) (list′ : List ℕ) : Type 0 where
+pub record ListsTrace (counts mobility : List ℤ) (sign total : ℤ) (entries : List ℤ) (used : ℕ) (list : List ℕ) (r : Code) (used′ : ℕ)
+    (list′ : List ℕ) : Type 0 where
   pub code : r ≡ answerNumber (listedOf (traceOfNumbers counts mobility sign total) entries)
   pub many : used′ ≡ lentAfter asItIs used (listedOf (traceOfNumbers counts mobility sign total) entries)
   pub lent : list′ ≡ bytesAfter (listedOf (traceOfNumbers counts mobility sign total) entries) entries list

@@ -33,7 +33,8 @@ module _ {A : Type 0} (n : ℕ) (r : Named) (promise : NamesMode n r) (rest : Mo
   pub in-mode : (mode : Mode) → r ≡ N.In mode → rest mode ≡ inMode n rest
   in-mode mode e = go (eqb n 0) (eqb n 1) (sym (ap modeNamed e) ∙ promise)
     where
-      go : (z o : Bool) → given mode ≡ cond z (given First) (cond o (given Second) (refusalOf R.Shape)) → rest mode ≡ cond z (rest First) (cond o (rest Second) (refusalOf R.Shape))
+      go : (z o : Bool) → given mode ≡ cond z (given First) (cond o (given Second) (refusalOf R.Shape))
+          → rest mode ≡ cond z (rest First) (cond o (rest Second) (refusalOf R.Shape))
       go true o q = ap rest (same-mode q)
       go false true q = ap rest (same-mode q)
       go false false q = given-not q
@@ -42,7 +43,8 @@ module _ {A : Type 0} (n : ℕ) (r : Named) (promise : NamesMode n r) (rest : Mo
   pub not-named : (q : Refusal) → r ≡ N.Refused q → refusalOf q ≡ inMode n rest
   not-named q e = go (eqb n 0) (eqb n 1) (sym (ap modeNamed e) ∙ promise)
     where
-      go : (z o : Bool) → refusalOf q ≡ cond z (given First) (cond o (given Second) (refusalOf R.Shape)) → refusalOf q ≡ cond z (rest First) (cond o (rest Second) (refusalOf R.Shape))
+      go : (z o : Bool) → refusalOf q ≡ cond z (given First) (cond o (given Second) (refusalOf R.Shape))
+          → refusalOf q ≡ cond z (rest First) (cond o (rest Second) (refusalOf R.Shape))
       go true o p = given-not (sym p)
       go false true p = given-not (sym p)
       go false false p = cc

@@ -21,7 +21,8 @@ pub extern "C" fn chess_profile(bitboards: &[u64], board: &[u8], state: State) -
     }
 }
 
-// The position of a line from real play, its state and the half points: SHAPE, LONG, BYTE, FIELD, PLACE, SIDE, RIGHTS, PASSANT, COUNTER, RESULT, KINGS, PAWNS, PIECES, RANK, CHECK.
+// The position of a line from real play, its state and the half points: SHAPE, LONG, BYTE, FIELD, PLACE, SIDE, RIGHTS, PASSANT, COUNTER, RESULT,
+// KINGS, PAWNS, PIECES, RANK, CHECK.
 #[no_mangle]
 pub extern "C" fn chess_read_profile(line: &[u8], bitboards: &mut [u64], board: &mut [u8]) -> Line
     ensures { λ r. ⌜ ReadsDoor (now (line .entry)) (now (bitboards .entry)) (now (board .entry)) r (now (bitboards .exit)) (now (board .exit)) ⌝ }

@@ -11,7 +11,8 @@ use Rattle.abi_records.specs.Promises.{GivesCounts, GivesTrace, GivesNam
 pub counts-of : (t : Trace) (r s : List ℤ) → GivesCounts t r → GivesCounts t s → r ≡ s
 counts-of t r s p q = one p q
 
-pub trace-of : (counts mobility : List ℤ) (sign pieces : ℤ) (r s : Trace) → GivesTrace counts mobility sign pieces r → GivesTrace counts mobility sign pieces s → r ≡ s
+pub trace-of : (counts mobility : List ℤ) (sign pieces : ℤ) (r s : Trace) → GivesTrace counts mobility sign pieces r
+    → GivesTrace counts mobility sign pieces s → r ≡ s
 trace-of counts mobility sign pieces r s p q = one p q
 
 pub named-of : (w : Weights) (r s : List Float) → GivesNamed w r → GivesNamed w s → r ≡ s

@@ -24,7 +24,8 @@ value-code many = refl
 value-code full = refl
 
 value-part : {B : Type 0} (part : SoFar × ℕ × ℕ → B) (old : B) (a : Came (CutSoFar Sifting))
-    → lentAfterCame part old (siftedByValue a) ≡ lentAfterCame (λ (m : CutSoFar Sifting). part (soFarIn m, length (m .kept .made), length (m .kept .rows))) old a
+    → lentAfterCame part old (siftedByValue a) ≡ lentAfterCame (λ (m : CutSoFar Sifting). part
+    (soFarIn m, length (m .kept .made), length (m .kept .rows))) old a
 value-part part old (came m) = refl
 value-part part old (turned n l) = refl
 value-part part old many = refl
@@ -33,14 +34,16 @@ value-part part old full = refl
 abbrev Part : Type 0
 Part = SoFar × ℕ × ℕ
 
-pub sifted-through : (state line chunk samples rows : List ℕ) (sampled wrote : ℕ) {s : SoFar} {r x : Sifted} {n : Code} {state′ line′ samples′ rows′ : List ℕ} {sampled′ wrote′ : ℕ}
+pub sifted-through : (state line chunk samples rows : List ℕ) (sampled wrote : ℕ) {s : SoFar} {r x : Sifted} {n : Code}
+    {state′ line′ samples′ rows′ : List ℕ} {sampled′ wrote′ : ℕ}
     → s ≡ stateFrom state → Sifts s M.Sample line chunk samples rows r line′ samples′ rows′ → r ≡ x → n ≡ cameNumber (sifted x)
     → state′ ≡ lentAfterCame (λ (p : Part). stateNumbers (p .0)) state (sifted x) → sampled′ ≡ lentAfterCame (λ (p : Part). p .1) sampled (sifted x)
     → wrote′ ≡ lentAfterCame (λ (p : Part). p .2) wrote (sifted x)
     → FeedsSamples state line chunk samples rows sampled wrote n state′ line′ samples′ rows′ sampled′ wrote′
 sifted-through state line chunk samples rows sampled wrote {r = r} {line′ = line′} {samples′ = samples′} {rows′ = rows′} q f m h g k w =
     let a : Came (CutSoFar Sifting) = samplesOf state line chunk samples rows in
-    let p : Sifts (stateFrom state) M.Sample line chunk samples rows r line′ samples′ rows′ = subst (λ (t : SoFar). Sifts t M.Sample line chunk samples rows r line′ samples′ rows′) q f in
+    let p : Sifts (stateFrom state) M.Sample line chunk samples rows r line′ samples′ rows′ =
+    subst (λ (t : SoFar). Sifts t M.Sample line chunk samples rows r line′ samples′ rows′) q f in
     let e = sym (ap sifted m) ∙ p .answer in
     record {
       code = h ∙ ap cameNumber e ∙ value-code a;
@@ -59,19 +62,22 @@ end-code (turned n l) = refl
 end-code many = refl
 end-code full = refl
 
-end-part : (part : ℕ × ℕ → ℕ) (old : ℕ) (a : Came Sifting) → lentAfterCame part old (lastLengths a) ≡ lentAfterCame (λ (s : Sifting). part (length (s .made), length (allRows s))) old a
+end-part : (part : ℕ × ℕ → ℕ) (old : ℕ) (a : Came Sifting) → lentAfterCame part old (lastLengths a)
+    ≡ lentAfterCame (λ (s : Sifting). part (length (s .made), length (allRows s))) old a
 end-part part old (came s) = refl
 end-part part old (turned n l) = refl
 end-part part old many = refl
 end-part part old full = refl
 
-pub ended-through : (state line samples rows : List ℕ) (sampled wrote : ℕ) {s : SoFar} {r x : Finished} {n : Code} {samples′ rows′ : List ℕ} {sampled′ wrote′ : ℕ}
+pub ended-through : (state line samples rows : List ℕ) (sampled wrote : ℕ) {s : SoFar} {r x : Finished} {n : Code} {samples′ rows′ : List ℕ}
+    {sampled′ wrote′ : ℕ}
     → s ≡ stateFrom state → FinishesSifted s M.Sample line samples rows r samples′ rows′ → r ≡ x → n ≡ cameNumber (lastPaper x)
     → sampled′ ≡ lentAfterCame (λ (p : ℕ × ℕ). p .0) sampled (lastPaper x) → wrote′ ≡ lentAfterCame (λ (p : ℕ × ℕ). p .1) wrote (lastPaper x)
     → FinishesSamples state line samples rows sampled wrote n samples′ rows′ sampled′ wrote′
 ended-through state line samples rows sampled wrote {r = r} {samples′ = samples′} {rows′ = rows′} q f m h k w =
     let a : Came Sifting = samplesLast state line samples rows in
-    let p : FinishesSifted (stateFrom state) M.Sample line samples rows r samples′ rows′ = subst (λ (t : SoFar). FinishesSifted t M.Sample line samples rows r samples′ rows′) q f in
+    let p : FinishesSifted (stateFrom state) M.Sample line samples rows r samples′ rows′ =
+    subst (λ (t : SoFar). FinishesSifted t M.Sample line samples rows r samples′ rows′) q f in
     let e = sym (ap lastPaper m) ∙ p .answer in
     record {
       code = h ∙ ap cameNumber e ∙ end-code a;

@@ -20,7 +20,8 @@ samplesOf state line chunk samples rows = siftOf (stateFrom state) M.Sample line
 abbrev pub samplesLast : List ℕ → List ℕ → List ℕ → List ℕ → Came Sifting
 samplesLast state line samples rows = siftedLast (stateFrom state) M.Sample line samples rows
 
-pub record FeedsSamples (state line chunk samples rows : List ℕ) (sampled wrote : ℕ) (r : Code) (state′ line′ samples′ rows′ : List ℕ) (sampled′ wrote′ : ℕ) : Type 0 where
+pub record FeedsSamples (state line chunk samples rows : List ℕ) (sampled wrote : ℕ) (r : Code) (state′ line′ samples′ rows′ : List ℕ)
+    (sampled′ wrote′ : ℕ) : Type 0 where
   pub code : r ≡ cameNumber (samplesOf state line chunk samples rows)
   pub lent : state′ ≡ lentAfterCame (λ (m : CutSoFar Sifting). stateNumbers (soFarIn m)) state (samplesOf state line chunk samples rows)
   pub kept : line′ ≡ lineSifted (samplesOf state line chunk samples rows) line

@@ -1,4 +1,5 @@
-// The doors for C and Rust to the samples of a collection for a fit, fed in pieces of any size: the ledger's state, two buffers, and nothing told of loaded lines but their samples.
+// The doors for C and Rust to the samples of a collection for a fit, fed in pieces of any size: the ledger's state, two buffers, and nothing told of
+// loaded lines but their samples.
 ghost use Rattle.abi_samples.specs.Promises.{FeedsSamples, FinishesSamples};
 use abi_codes::Code;
 use abi_codes::GIVEN;
@@ -12,8 +13,8 @@ use sift_feed::Sifted;
 use sift_finish::Finished;
 use sift_form::Form;
 
-// A sample for each loaded line that ends in the chunk, and the row of each refused one: SHAPE (not 256 bytes for the line), the ledger's own MANY, FULL (not 300 bytes of
-// room for samples and 32 for rows for each).
+// A sample for each loaded line that ends in the chunk, and the row of each refused one: SHAPE (not 256 bytes for the line), the ledger's own MANY,
+// FULL (not 300 bytes of room for samples and 32 for rows for each).
 #[no_mangle]
 pub extern "C" fn chess_samples_feed(
     state: &mut [u64; NUMBERS],
@@ -40,7 +41,8 @@ pub extern "C" fn chess_samples_feed(
     }
 }
 
-// The sample of a last line with no LF, or its row, and the ledger's last row: SHAPE, MANY, FULL (not 300 bytes for samples if a line is unfinished, not 116 for rows).
+// The sample of a last line with no LF, or its row, and the ledger's last row: SHAPE, MANY, FULL (not 300 bytes for samples if a line is unfinished,
+// not 116 for rows).
 #[no_mangle]
 pub extern "C" fn chess_samples_finish(
     state: &[u64; NUMBERS],

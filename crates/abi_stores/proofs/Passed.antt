@@ -18,7 +18,13 @@ stored-code (given bytes) = refl
 stored-code (refused n v) = refl
 
 pub record-written : {bitboards board : List ℕ} {state : Stated} {taken : State} {half : ℕ} {place : List ℕ} {r x : Stored} {n : Code} {place′ : List ℕ}
-    → taken ≡ stateTaken state → WritesRecord bitboards board taken half place r place′ → r ≡ x → n ≡ answerNumber (storedPaper x) → RecordWritten bitboards board state half place n place′
+    → taken ≡ stateTaken state → WritesRecord bitboards board taken half place r place′ → r ≡ x → n ≡ answerNumber (storedPaper x)
+    → RecordWritten bitboards board state half place n place′
 record-written {bitboards = bitboards} {board = board} {state = state} {half = half} {place = place} {r = r} {place′ = place′} t w m h =
-    let p : WritesRecord bitboards board (stateTaken state) half place r place′ = subst (λ (y : State). WritesRecord bitboards board y half place r place′) t w in
-    record { code = h ∙ ap answerNumber (met storedPaper (p .answer) m) ∙ stored-code (storeOf bitboards board (stateTaken state) half place); bytes = p .bytes }
+    let p : WritesRecord bitboards board (stateTaken state) half place r place′ =
+    subst (λ (y : State). WritesRecord bitboards board y half place r place′) t w in
+    record {
+      code = h ∙ ap answerNumber (met storedPaper (p .answer) m) ∙ stored-code (storeOf bitboards board (stateTaken state) half place);
+      bytes =
+          p .bytes;
+    }

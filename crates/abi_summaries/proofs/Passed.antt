@@ -18,10 +18,12 @@ kept-code : (a : Answer Store) → answerNumber (isKept a) ≡ answerNumber a
 kept-code (given s) = refl
 kept-code (refused n v) = refl
 
-pub record-added : {bitboards board : List ℕ} {state : Stated} {taken : State} {half : ℕ} {run summary : List ℕ} {r x : Stored} {n : Code} {run′ summary′ : List ℕ}
+pub record-added : {bitboards board : List ℕ} {state : Stated} {taken : State} {half : ℕ} {run summary : List ℕ} {r x : Stored} {n : Code}
+    {run′ summary′ : List ℕ}
     → taken ≡ stateTaken state → AddsRecord bitboards board taken half run summary r run′ summary′ → r ≡ x → n ≡ answerNumber (storedPaper x)
     → RecordAdded bitboards board state half run summary n run′ summary′
-record-added {bitboards = bitboards} {board = board} {state = state} {half = half} {run = run} {summary = summary} {r = r} {run′ = run′} {summary′ = summary′} t w m h =
+record-added {bitboards = bitboards} {board = board} {state = state} {half = half} {run = run} {summary = summary} {r = r} {run′ = run′}
+    {summary′ = summary′} t w m h =
     let p : AddsRecord bitboards board (stateTaken state) half run summary r run′ summary′ =
     subst (λ (y : State). AddsRecord bitboards board y half run summary r run′ summary′) t w in
     record {
@@ -30,10 +32,12 @@ record-added {bitboards = bitboards} {board = board} {state = state} {half = hal
       counts = p .summary;
     }
 
-pub record-replaced : {bitboards board : List ℕ} {state : Stated} {taken : State} {half number : ℕ} {run summary : List ℕ} {r x : Stored} {n : Code} {run′ summary′ : List ℕ}
+pub record-replaced : {bitboards board : List ℕ} {state : Stated} {taken : State} {half number : ℕ} {run summary : List ℕ} {r x : Stored} {n : Code}
+    {run′ summary′ : List ℕ}
     → taken ≡ stateTaken state → ReplacesRecord bitboards board taken half number run summary r run′ summary′ → r ≡ x → n ≡ answerNumber (storedPaper x)
     → RecordReplaced bitboards board state half number run summary n run′ summary′
-record-replaced {bitboards = bitboards} {board = board} {state = state} {half = half} {number = number} {run = run} {summary = summary} {r = r} {run′ = run′} {summary′ = summary′} t w m h =
+record-replaced {bitboards = bitboards} {board = board} {state = state} {half = half} {number = number} {run = run} {summary = summary} {r = r}
+    {run′ = run′} {summary′ = summary′} t w m h =
     let p : ReplacesRecord bitboards board (stateTaken state) half number run summary r run′ summary′ =
     subst (λ (y : State). ReplacesRecord bitboards board y half number run summary r run′ summary′) t w in
     record {

@@ -13,7 +13,8 @@ pub record RecordAdded (bitboards board : List ℕ) (state : Stated) (half : ℕ
   pub bytes : run′ ≡ storeAfter (addOf bitboards board (stateTaken state) half (beside run summary)) (beside run summary) .run
   pub counts : summary′ ≡ storeAfter (addOf bitboards board (stateTaken state) half (beside run summary)) (beside run summary) .summary
 
-pub record RecordReplaced (bitboards board : List ℕ) (state : Stated) (half number : ℕ) (run summary : List ℕ) (r : Code) (run′ summary′ : List ℕ) : Type 0 where
+pub record RecordReplaced (bitboards board : List ℕ) (state : Stated) (half number : ℕ) (run summary : List ℕ) (r : Code)
+    (run′ summary′ : List ℕ) : Type 0 where
   pub code : r ≡ answerNumber (replaceOf bitboards board (stateTaken state) half number (beside run summary))
   pub bytes : run′ ≡ storeAfter (replaceOf bitboards board (stateTaken state) half number (beside run summary)) (beside run summary) .run
   pub counts : summary′ ≡ storeAfter (replaceOf bitboards board (stateTaken state) half number (beside run summary)) (beside run summary) .summary

@@ -16,7 +16,9 @@ use Rattle.abi_states.specs.declared.State.{State as Stated}
 abbrev pub wantedOf : ℕ → ℕ → Wanted
 wantedOf request half = cond (eqb request 0) Nothing (Half half)
 
-pub record WritesPosition (bitboards board : List ℕ) (state : Stated) (request half : ℕ) (out : List ℕ) (bytes : ℕ) (r : Code) (out′ : List ℕ) (bytes′ : ℕ) : Type 0 where
+pub record WritesPosition (bitboards board : List ℕ) (state : Stated) (request half : ℕ) (out : List ℕ) (bytes : ℕ) (r : Code) (out′ : List ℕ)
+    (bytes′ : ℕ) : Type 0 where
   pub code : r ≡ answerNumber (writeOf bitboards board (stateTaken state) (wantedOf request half) out)
-  pub buffer : out′ ≡ bufferAfter (writeOf bitboards board (stateTaken state) (wantedOf request half) out) (wantedText board (stateTaken state) (wantedOf request half)) out
+  pub buffer : out′ ≡ bufferAfter (writeOf bitboards board (stateTaken state) (wantedOf request half) out)
+      (wantedText board (stateTaken state) (wantedOf request half)) out
   pub used : bytes′ ≡ lentAfter asItIs bytes (writeOf bitboards board (stateTaken state) (wantedOf request half) out)

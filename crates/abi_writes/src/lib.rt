@@ -19,8 +19,8 @@ fn wanted(request: u8, half: u8) -> Wanted
     Wanted::Half(half)
 }
 
-// The text of a position at the front of `out`, with `;` and a result where `request` is not 0; how many bytes it has: SHAPE, OVERLAP, UNION, BYTEBOARD, RIGHTS, PASSANT, COUNTER,
-// RESULT, ROOM.
+// The text of a position at the front of `out`, with `;` and a result where `request` is not 0; how many bytes it has: SHAPE, OVERLAP, UNION,
+// BYTEBOARD, RIGHTS, PASSANT, COUNTER, RESULT, ROOM.
 #[no_mangle]
 pub extern "C" fn chess_write_line(
     bitboards: &[u64],

@@ -59,7 +59,8 @@ module _ (tables : List (List ℕ)) (kind colour s occ b : ℕ) where
   unfolding attacksWith
   queens = slides (stepIn tables (pawnRow colour) s) (stepIn tables 2 s) (stepIn tables 3 s) colour s occ kind 4 b
 
-  pub others : (row : ℕ) → (kind ≡ 2 → ⊥) → (kind ≡ 3 → ⊥) → (kind ≡ 4 → ⊥) → row ≡ stepRow kind colour → b ≡ stepIn tables row s → b ≡ attacksWith tables kind colour s occ
+  pub others : (row : ℕ) → (kind ≡ 2 → ⊥) → (kind ≡ 3 → ⊥) → (kind ≡ 4 → ⊥) → row ≡ stepRow kind colour → b ≡ stepIn tables row s
+      → b ≡ attacksWith tables kind colour s occ
   unfolding attacksWith
   others row hb hr hq e h =
       h ∙ ap (λ (x : ℕ). stepIn tables x s) e
@@ -80,7 +81,8 @@ module _ (kind colour s occ b : ℕ) where
   unfolding attacks
   queen = slides (reached (pawnSteps colour) s) (reached knightSteps s) (reached kingSteps s) colour s occ kind 4 b
 
-  pub other-kind : (row : ℕ) → (kind ≡ 2 → ⊥) → (kind ≡ 3 → ⊥) → (kind ≡ 4 → ⊥) → row ≡ stepRow kind colour → b ≡ reached (stepsOf row) s → b ≡ attacks kind colour s occ
+  pub other-kind : (row : ℕ) → (kind ≡ 2 → ⊥) → (kind ≡ 3 → ⊥) → (kind ≡ 4 → ⊥) → row ≡ stepRow kind colour → b ≡ reached (stepsOf row) s
+      → b ≡ attacks kind colour s occ
   unfolding attacks
   other-kind row hb hr hq e h =
       h ∙ ap (λ (x : ℕ). reached (stepsOf x) s) e

@@ -30,7 +30,8 @@ inner-standing bbs kind colour r s = one
 pub inner-occupied : (bbs : List ℕ) (r s : ℕ) → Occupied bbs r → Occupied bbs s → r ≡ s
 inner-occupied bbs r s = one
 
-pub inner-attacks : (tables : List (List ℕ)) (kind colour square occ r s : ℕ) → AttacksWith tables kind colour square occ r → AttacksWith tables kind colour square occ s → r ≡ s
+pub inner-attacks : (tables : List (List ℕ)) (kind colour square occ r s : ℕ) → AttacksWith tables kind colour square occ r
+    → AttacksWith tables kind colour square occ s → r ≡ s
 inner-attacks tables kind colour square occ r s = one
 
 pub inner-attacks-from : (kind colour square occ r s : ℕ) → AttacksFrom kind colour square occ r → AttacksFrom kind colour square occ s → r ≡ s

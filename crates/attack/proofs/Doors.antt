@@ -44,6 +44,7 @@ module _ (code s occ : ℕ) where
   pub piece-off : 2 ≤ code → code ≤ 13 → 64 ≤ s → refusalOf R.Square ≡ pieceAttacksOf code s occ
   piece-off l h q = off-board s (attacks (kindOf code) (colourOf code) s occ) q ∙ a-piece l h
 
-  pub piece-on : (kind b : ℕ) → 2 ≤ code → code ≤ 13 → s < 64 → kind ≡ kindOf code → b ≡ attacks kind (colourOf code) s occ → given b ≡ pieceAttacksOf code s occ
+  pub piece-on : (kind b : ℕ) → 2 ≤ code → code ≤ 13 → s < 64 → kind ≡ kindOf code → b ≡ attacks kind (colourOf code) s occ
+      → given b ≡ pieceAttacksOf code s occ
   piece-on kind b l h q e a =
       on-board s (attacks (kindOf code) (colourOf code) s occ) b q (a ∙ ap (λ (k : ℕ). attacks k (colourOf code) s occ) e) ∙ a-piece l h

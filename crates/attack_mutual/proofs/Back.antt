@@ -62,7 +62,8 @@ codes-agree code p w b n k d l =
     (both-at (λ y. both (λ x. both (one code w b n y x)))
     (both-at (λ z. both (λ y. both (λ x. both (one code w b z y x))))
     (both-at (λ v. both (λ z. both (λ y. both (λ x. both (one code w v z y x)))))
-    (both-at (λ u. both (λ v. both (λ z. both (λ y. both (λ x. both (one code u v z y x)))))) (all-at 14 every tt code (omega (arith, code-to code p))) w) b) n) k) d) l)
+    (both-at (λ u. both (λ v. both (λ z. both (λ y. both (λ x. both (one code u v z y x)))))) (all-at 14 every tt code (omega (arith, code-to code p)))
+    w) b) n) k) d) l)
   where
     pick : (t : Bool) → T t → T (cond t (Bool·beq (joined w b n k d l code) (chosen w b n k d l code)) true) → joined w b n k d l code ≡ chosen w b n k d l code
     pick true q h = is-beq (joined w b n k d l code) (chosen w b n k d l code) h
@@ -119,14 +120,17 @@ module _ (s t occ : ℕ) where
       || (((on bbs 10 s || on bbs 11 s) || (on bbs 12 s || on bbs 13 s)) && lines))))))
   unfolding attackers
   attackers-has bbs hs ht =
-      has-those 64 (attacking bbs (reached blackPawnSteps t) (reached whitePawnSteps t) (reached knightSteps t) (reached kingSteps t) (board (seen slanted t occ)) (board (seen straight t occ))) s hs
-      ∙ turned (sym (pawn-back s t hs ht)) (pawn-back t s ht hs) (knight-back t s ht hs) (king-back t s ht hs) (slanted-back t s occ ht hs) (straight-back t s occ ht hs)
+      has-those 64 (attacking bbs (reached blackPawnSteps t) (reached whitePawnSteps t) (reached knightSteps t) (reached kingSteps t)
+      (board (seen slanted t occ)) (board (seen straight t occ))) s hs
+      ∙ turned (sym (pawn-back s t hs ht)) (pawn-back t s ht hs) (knight-back t s ht hs) (king-back t s ht hs) (slanted-back t s occ ht hs)
+      (straight-back t s occ ht hs)
     where
       turned : {p q r u v w p′ q′ r′ u′ v′ w′ : Bool} → p ≡ p′ → q ≡ q′ → r ≡ r′ → u ≡ u′ → v ≡ v′ → w ≡ w′
           → ((on bbs 2 s && p) || ((on bbs 3 s && q) || (((on bbs 4 s || on bbs 5 s) && r) || (((on bbs 6 s || on bbs 7 s) && u)
           || ((((on bbs 8 s || on bbs 9 s) || (on bbs 12 s || on bbs 13 s)) && v) || (((on bbs 10 s || on bbs 11 s) || (on bbs 12 s || on bbs 13 s)) && w))))))
           ≡ ((on bbs 2 s && p′) || ((on bbs 3 s && q′) || (((on bbs 4 s || on bbs 5 s) && r′) || (((on bbs 6 s || on bbs 7 s) && u′)
-          || ((((on bbs 8 s || on bbs 9 s) || (on bbs 12 s || on bbs 13 s)) && v′) || (((on bbs 10 s || on bbs 11 s) || (on bbs 12 s || on bbs 13 s)) && w′))))))
+          || ((((on bbs 8 s || on bbs 9 s) || (on bbs 12 s || on bbs 13 s)) && v′)
+          || (((on bbs 10 s || on bbs 11 s) || (on bbs 12 s || on bbs 13 s)) && w′))))))
       turned h₁ h₂ h₃ h₄ h₅ h₆ = cc
 
 -- ---- a piece of this code stands on s, and no other
@@ -138,12 +142,15 @@ pub back : (bbs : List ℕ) (code s t occ : ℕ) → Alone bbs code s → s < 64
     → has (attackers bbs t occ) s ≡ has (attacks (kindOf code) (colourOf code) s occ) t
 back bbs code s t occ a hs ht =
     attackers-has s t occ bbs hs ht
-    ∙ known (a .there 2 tt) (a .there 3 tt) (a .there 4 tt) (a .there 5 tt) (a .there 6 tt) (a .there 7 tt) (a .there 8 tt) (a .there 9 tt) (a .there 10 tt) (a .there 11 tt) (a .there 12 tt) (a .there 13 tt)
+    ∙ known (a .there 2 tt) (a .there 3 tt) (a .there 4 tt) (a .there 5 tt) (a .there 6 tt) (a .there 7 tt) (a .there 8 tt) (a .there 9 tt)
+    (a .there 10 tt) (a .there 11 tt) (a .there 12 tt) (a .there 13 tt)
     ∙ codes-agree code (a .piece) (whites s t occ) (blacks s t occ) (knights s t occ) (kings s t occ) (slants s t occ) (lines s t occ)
     ∙ sym (piece-has s t occ code)
   where
-    known : on bbs 2 s ≡ eqb code 2 → on bbs 3 s ≡ eqb code 3 → on bbs 4 s ≡ eqb code 4 → on bbs 5 s ≡ eqb code 5 → on bbs 6 s ≡ eqb code 6 → on bbs 7 s ≡ eqb code 7
-        → on bbs 8 s ≡ eqb code 8 → on bbs 9 s ≡ eqb code 9 → on bbs 10 s ≡ eqb code 10 → on bbs 11 s ≡ eqb code 11 → on bbs 12 s ≡ eqb code 12 → on bbs 13 s ≡ eqb code 13
+    known : on bbs 2 s ≡ eqb code 2 → on bbs 3 s ≡ eqb code 3 → on bbs 4 s ≡ eqb code 4 → on bbs 5 s ≡ eqb code 5 → on bbs 6 s ≡ eqb code 6
+        → on bbs 7 s ≡ eqb code 7
+        → on bbs 8 s ≡ eqb code 8 → on bbs 9 s ≡ eqb code 9 → on bbs 10 s ≡ eqb code 10 → on bbs 11 s ≡ eqb code 11 → on bbs 12 s ≡ eqb code 12
+        → on bbs 13 s ≡ eqb code 13
         → ((on bbs 2 s && whites s t occ)
         || ((on bbs 3 s && blacks s t occ)
         || (((on bbs 4 s || on bbs 5 s) && knights s t occ)

@@ -52,7 +52,8 @@ there d s k occ hd hs e =
     let e′ : T (isIn k l && clear occ (before k l)) = subst T (sees k occ l) e in
     let t = all-in l (leadsBack d s) (returns d s hd hs) k (and-l (isIn k l) (clear occ (before k l)) e′) in
     let back : T (isIn s m) = and-l (isIn s m) (same (reverseOnto (before k l) []) (before s m)) t in
-    let q : reverseOnto (before k l) [] ≡ before s m = is-same (reverseOnto (before k l) []) (before s m) (and-r (isIn s m) (same (reverseOnto (before k l) []) (before s m)) t) in
+    let q : reverseOnto (before k l) [] ≡ before s m = is-same (reverseOnto (before k l) []) (before s m)
+    (and-r (isIn s m) (same (reverseOnto (before k l) []) (before s m)) t) in
     let free : clear occ (before k l) ≡ clear occ (before s m) = sym (clear-back occ (before k l)) ∙ ap (clear occ) q in
     subst T (sym (sees s occ m)) (and-i (isIn s m) (clear occ (before s m)) back (subst T free (and-r (isIn k l) (clear occ (before k l)) e′)))
 
@@ -66,7 +67,8 @@ ray-back d e s k occ hd he de ed hs hk =
 
 -- ---- a slider on four directions, a opposite to c and b to d
 four-in : (a b c d : Step) (s k occ : ℕ) → isIn k (seen (a ∷ b ∷ c ∷ d ∷ []) s occ)
-    ≡ (isIn k (through occ (path a (onward a s))) || (isIn k (through occ (path b (onward b s))) || (isIn k (through occ (path c (onward c s))) || (isIn k (through occ (path d (onward d s))) || false))))
+    ≡ (isIn k (through occ (path a (onward a s))) || (isIn k (through occ (path b (onward b s)))
+    || (isIn k (through occ (path c (onward c s))) || (isIn k (through occ (path d (onward d s))) || false))))
 unfolding seen isIn
 four-in a b c d s k occ = simp in-append
 
@@ -82,7 +84,8 @@ turn false false true false = refl
 turn false false false true = refl
 turn false false false false = refl
 
-slider-back : (a b c d : ℕ) → a < 8 → b < 8 → c < 8 → d < 8 → opposite a ≡ c → opposite c ≡ a → opposite b ≡ d → opposite d ≡ b → (s k occ : ℕ) → s < 64 → k < 64
+slider-back : (a b c d : ℕ) → a < 8 → b < 8 → c < 8 → d < 8 → opposite a ≡ c → opposite c ≡ a → opposite b ≡ d → opposite d ≡ b → (s k occ : ℕ)
+    → s < 64 → k < 64
     → has (board (seen (dirOf a ∷ dirOf b ∷ dirOf c ∷ dirOf d ∷ []) s occ)) k ≡ has (board (seen (dirOf a ∷ dirOf b ∷ dirOf c ∷ dirOf d ∷ []) k occ)) s
 slider-back a b c d ha hb hc hd ac ca bd db s k occ hs hk =
     has-board (seen (dirOf a ∷ dirOf b ∷ dirOf c ∷ dirOf d ∷ []) s occ) k hk

@@ -30,7 +30,8 @@ unfolding isIn through before clear
 sees k occ [] = refl
 sees k occ (q ∷ l) = go (eqb k q) (sees k occ l)
   where
-    on : (o : Bool) → isIn k (through occ l) ≡ (isIn k l && clear occ (before k l)) → isIn k (cond o [] (through occ l)) ≡ (isIn k l && (not o && clear occ (before k l)))
+    on : (o : Bool) → isIn k (through occ l) ≡ (isIn k l && clear occ (before k l))
+        → isIn k (cond o [] (through occ l)) ≡ (isIn k l && (not o && clear occ (before k l)))
     on true h = sym (Bool.and-false (isIn k l))
     on false h = h
 

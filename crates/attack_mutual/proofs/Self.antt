@@ -18,6 +18,8 @@ nothing bbs p q r t u w s h₁ h₂ h₃ h₄ h₅ h₆ = simp (h₁, h₂, h₃
 pub not-self : (bbs : List ℕ) (s occ : ℕ) → s < 64 → has (attackers bbs s occ) s ≡ false
 unfolding attackers
 not-self bbs s occ h =
-    has-those 64 (attacking bbs (reached blackPawnSteps s) (reached whitePawnSteps s) (reached knightSteps s) (reached kingSteps s) (board (seen slanted s occ)) (board (seen straight s occ))) s h
-    ∙ nothing bbs (reached blackPawnSteps s) (reached whitePawnSteps s) (reached knightSteps s) (reached kingSteps s) (board (seen slanted s occ)) (board (seen straight s occ)) s
+    has-those 64 (attacking bbs (reached blackPawnSteps s) (reached whitePawnSteps s) (reached knightSteps s) (reached kingSteps s)
+    (board (seen slanted s occ)) (board (seen straight s occ))) s h
+    ∙ nothing bbs (reached blackPawnSteps s) (reached whitePawnSteps s) (reached knightSteps s) (reached kingSteps s) (board (seen slanted s occ))
+    (board (seen straight s occ)) s
     (black-pawn-leaves s h) (white-pawn-leaves s h) (knight-leaves s h) (king-leaves s h) (slanted-leaves s occ h) (straight-leaves s occ h)

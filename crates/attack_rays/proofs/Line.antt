@@ -31,14 +31,16 @@ clear-at (suc j) h (suc i) t l = has-half h i ∙ clear-at j (h / 2) i (and-r (n
 is-clear : (j h : ℕ) → ((i : ℕ) → i < j → has h i ≡ false) → T (clearTo j h)
 is-clear zero h f = tt
 is-clear (suc j) h f =
-    and-i (not (has h 0)) (clearTo j (h / 2)) (not-i (has h 0) (f 0 (omega arith))) (is-clear j (h / 2) (λ i l. sym (has-half h i) ∙ f (suc i) (Prim.Native.Nat.suc-le-suc l)))
+    and-i (not (has h 0)) (clearTo j (h / 2)) (not-i (has h 0) (f 0 (omega arith)))
+    (is-clear j (h / 2) (λ i l. sym (has-half h i) ∙ f (suc i) (Prim.Native.Nat.suc-le-suc l)))
 
 -- the wrapped difference of o and p, which is at most 2 ^ 64, as a difference of numbers
 unwrap : (o w p : ℕ) → o < 2 ^ 64 → w < 2 ^ 64 → p ≤ 2 ^ 64 → (w + p % 2 ^ 64) % 2 ^ 64 ≡ o → w ≡ (o + 2 ^ 64 - p) % 2 ^ 64
 unwrap o w p ho hw hp e = omega arith
 
 -- o has the occupied squares of the way among those above s; what else it has, at s or below, changes nothing
-module _ (occ s : ℕ) (l : List ℕ) (hs : s < 64) (r : T (rises s l)) (o : ℕ) (ho : o < 2 ^ 64) (above-s : (j : ℕ) → s < j → j < 64 → has o j ≡ (has occ j && isIn j l))
+module _ (occ s : ℕ) (l : List ℕ) (hs : s < 64) (r : T (rises s l)) (o : ℕ) (ho : o < 2 ^ 64)
+    (above-s : (j : ℕ) → s < j → j < 64 → has o j ≡ (has occ j && isIn j l))
     (w : ℕ) (hw : w < 2 ^ 64) (ew : (w + 2 * 2 ^ s % 2 ^ 64) % 2 ^ 64 ≡ o) where
   big : ℕ
   big = o + 2 ^ 64
@@ -86,7 +88,8 @@ module _ (occ s : ℕ) (l : List ℕ) (hs : s < 64) (r : T (rises s l)) (o : ℕ
           let sq : s < q = above s q l r iq in
           let e : suc s + (q - suc s) ≡ q = omega arith in
           no-left (has occ q) (isIn q l)
-          (sym (at q sq (omega arith)) ∙ ap (has big) (sym e) ∙ sym (has-shr big (suc s) (q - suc s)) ∙ clear-at (k - suc s) (big / 2 ^ suc s) (q - suc s) c (omega arith))
+          (sym (at q sq (omega arith)) ∙ ap (has big) (sym e) ∙ sym (has-shr big (suc s) (q - suc s))
+          ∙ clear-at (k - suc s) (big / 2 ^ suc s) (q - suc s) c (omega arith))
           iq)
 
       from : (k : ℕ) → k < 64 → T (isIn k (through occ l)) → T (lhs k)

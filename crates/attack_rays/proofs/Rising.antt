@@ -22,7 +22,8 @@ unfolding isIn
 above s q [] r i = absurd i
 above s q (p ∷ ps) r i =
     let h : s < p = ltb→lt s p (and-l (ltb s p) (rises p ps) r) in
-    ⊎-elim (λ e. subst (λ (x : ℕ). s < x) (sym (eqb→eq q p e)) h) (λ t. lt-trans h (above p q ps (and-r (ltb s p) (rises p ps) r) t)) (or-case (eqb q p) (isIn q ps) i)
+    ⊎-elim (λ e. subst (λ (x : ℕ). s < x) (sym (eqb→eq q p e)) h) (λ t. lt-trans h (above p q ps (and-r (ltb s p) (rises p ps) r) t))
+    (or-case (eqb q p) (isIn q ps) i)
 
 -- no square of the list before k is occupied
 abbrev pub Free : ℕ → ℕ → List ℕ → Type 0
@@ -32,15 +33,18 @@ Free occ k l = (q : ℕ) → T (isIn q l) → q < k → has occ q ≡ false
 pub seen-is : (occ s k : ℕ) (l : List ℕ) → T (rises s l) → T (isIn k (through occ l)) → T (isIn k l) × Free occ k l
 unfolding isIn through
 seen-is occ s k [] r i = absurd i
-seen-is occ s k (p ∷ ps) r i = go (has occ p) refl (or-case (eqb k p) (isIn k (cond (has occ p) [] (through occ ps))) i) (λ t. seen-is occ p k ps (and-r (ltb s p) (rises p ps) r) t)
+seen-is occ s k (p ∷ ps) r i = go (has occ p) refl (or-case (eqb k p) (isIn k (cond (has occ p) [] (through occ ps))) i)
+    (λ t. seen-is occ p k ps (and-r (ltb s p) (rises p ps) r) t)
   where
     rr : T (rises p ps)
     rr = and-r (ltb s p) (rises p ps) r
 
-    go : (b : Bool) → has occ p ≡ b → T (eqb k p) ⊎ T (isIn k (cond (has occ p) [] (through occ ps))) → (T (isIn k (through occ ps)) → T (isIn k ps) × Free occ k ps) → T (isIn k (p ∷ ps)) × Free occ k (p ∷ ps)
+    go : (b : Bool) → has occ p ≡ b → T (eqb k p) ⊎ T (isIn k (cond (has occ p) [] (through occ ps)))
+        → (T (isIn k (through occ ps)) → T (isIn k ps) × Free occ k ps) → T (isIn k (p ∷ ps)) × Free occ k (p ∷ ps)
     go b e (inl t) ih = (
       or-l (eqb k p) (isIn k ps) t,
-      λ q iq l. ⊎-elim (λ u. absurd (omega (arith, eqb→eq q p u, eqb→eq k p t))) (λ u. absurd (omega (arith, above p q ps rr u, eqb→eq k p t))) (or-case (eqb q p) (isIn q ps) iq),
+      λ q iq l. ⊎-elim (λ u. absurd (omega (arith, eqb→eq q p u, eqb→eq k p t))) (λ u. absurd (omega (arith, above p q ps rr u, eqb→eq k p t)))
+          (or-case (eqb q p) (isIn q ps) iq),
     )
     go true e (inr t) ih = absurd (subst (λ (b : Bool). T (isIn k (cond b [] (through occ ps)))) e t)
     go false e (inr t) ih =

@@ -36,7 +36,8 @@ ahead-on = all2-at 4 64 (λ d s. allOn (ahead d s)) tt
 
 pub ahead-turned : (d s : ℕ) → d < 4 → s < 64 → ahead (d + 4) s ≡ turned (ahead d (63 - s))
 unfolding ahead allBelow2
-ahead-turned d s hd hs = is-same (ahead (d + 4) s) (turned (ahead d (63 - s))) (all2-at 4 64 (λ e t. same (ahead (e + 4) t) (turned (ahead e (63 - t)))) tt d s hd hs)
+ahead-turned d s hd hs = is-same (ahead (d + 4) s) (turned (ahead d (63 - s)))
+    (all2-at 4 64 (λ e t. same (ahead (e + 4) t) (turned (ahead e (63 - t)))) tt d s hd hs)
 
 -- ---- what is seen on a turned way
 pub has-mirrored : (x k : ℕ) → k < 64 → has (mirrored x) k ≡ has x (63 - k)
@@ -63,7 +64,8 @@ through-turned occ (q ∷ qs) t =
 through-on : (occ : ℕ) (l : List ℕ) → T (allOn l) → T (allOn (through occ l))
 unfolding through
 through-on occ [] t = tt
-through-on occ (q ∷ qs) t = and-i (ltb q 64) (allOn (cond (has occ q) [] (through occ qs))) (and-l (ltb q 64) (allOn qs) t) (pick (has occ q) (through-on occ qs (and-r (ltb q 64) (allOn qs) t)))
+through-on occ (q ∷ qs) t = and-i (ltb q 64) (allOn (cond (has occ q) [] (through occ qs))) (and-l (ltb q 64) (allOn qs) t)
+    (pick (has occ q) (through-on occ qs (and-r (ltb q 64) (allOn qs) t)))
   where
     pick : (b : Bool) → T (allOn (through occ qs)) → T (allOn (cond b [] (through occ qs)))
     pick true u = tt
@@ -81,7 +83,8 @@ is-in-turned k (q ∷ qs) h t =
     (is-in-turned k qs h (and-r (ltb q 64) (allOn qs) t))
 
 board-turned : (l : List ℕ) → T (allOn l) → mirrored (board l) ≡ board (turned l)
-board-turned l t = is-board (mirrored (board l)) (turned l) (mirrored-lt (board l)) (λ k h. has-mirrored (board l) k h ∙ has-board l (63 - k) (omega arith) ∙ is-in-turned k l h t)
+board-turned l t = is-board (mirrored (board l)) (turned l) (mirrored-lt (board l))
+    (λ k h. has-mirrored (board l) k h ∙ has-board l (63 - k) (omega arith) ∙ is-in-turned k l h t)
 
 -- a falling ray is the rising ray of the turned board, turned back
 pub ray-ahead : (d s occ : ℕ) → board (through occ (ahead d s)) ≡ rayOf (dirOf d) s occ

@@ -30,7 +30,8 @@ together : (ds es : List Step) (s occ : ℕ) → seen ds s occ ++ seen es s occ 
 unfolding seen
 together [] es s occ = refl
 together (d ∷ ds) es s occ =
-    append-assoc (through occ (path d (onward d s))) (seen ds s occ) (seen es s occ) ∙ ap (λ (l : List ℕ). through occ (path d (onward d s)) ++ l) (together ds es s occ)
+    append-assoc (through occ (path d (onward d s))) (seen ds s occ) (seen es s occ)
+    ∙ ap (λ (l : List ℕ). through occ (path d (onward d s)) ++ l) (together ds es s occ)
 
 pub seen-append : (ds es : List Step) (s occ : ℕ) → bitOr (board (seen ds s occ)) (board (seen es s occ)) ≡ board (seen (ds ++ es) s occ)
 seen-append ds es s occ = sym (board-append (seen ds s occ) (seen es s occ)) ∙ ap board (together ds es s occ)

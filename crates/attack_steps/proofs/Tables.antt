@@ -10,7 +10,8 @@ use borrow.Author.Tests.{lt-ltb, le-ltb, ltb-true, ltb-false}
 use Rattle.laws.proofs.Tables.{entry}
 use Rattle.bits.specs.Bitboard.{has, those}
 use Rattle.bits.proofs.Those.{those-lt, has-those}
-use Rattle.attack_steps.specs.Steps.{Step, oneLeads, reached, stepTable, stepTables, stepIn, stepsOf, whitePawnSteps, blackPawnSteps, knightSteps, kingSteps}
+use Rattle.attack_steps.specs.Steps.{Step, oneLeads, reached, stepTable, stepTables, stepIn, stepsOf, whitePawnSteps, blackPawnSteps}
+use Rattle.attack_steps.specs.Steps.{knightSteps, kingSteps}
 
 -- ---- the rule
 pub reached-on : (ds : List Step) (s : ℕ) → s < 64 → reached ds s ≡ those 64 (λ t. oneLeads ds s t)

@@ -21,10 +21,12 @@ pub told-one : (r s : Told) → told r ≡ told s → r ≡ s
 told-one = retract told (readBack W.Is W.Refused) told-back
 
 -- ---- the doors
-pub attacks-to : (bbs bytes : List ℕ) (state : State) (square occ : ℕ) (r s : Found) → AttacksTo bbs bytes state square occ r → AttacksTo bbs bytes state square occ s → r ≡ s
+pub attacks-to : (bbs bytes : List ℕ) (state : State) (square occ : ℕ) (r s : Found) → AttacksTo bbs bytes state square occ r
+    → AttacksTo bbs bytes state square occ s → r ≡ s
 attacks-to bbs bytes state square occ r s p q = found-one r s (one p q)
 
-pub is-attacked : (bbs bytes : List ℕ) (state : State) (square colour : ℕ) (r s : Told) → IsAttacked bbs bytes state square colour r → IsAttacked bbs bytes state square colour s → r ≡ s
+pub is-attacked : (bbs bytes : List ℕ) (state : State) (square colour : ℕ) (r s : Told) → IsAttacked bbs bytes state square colour r
+    → IsAttacked bbs bytes state square colour s → r ≡ s
 is-attacked bbs bytes state square colour r s p q = told-one r s (one p q)
 
 pub is-check : (bbs bytes : List ℕ) (state : State) (colour : ℕ) (r s : Told) → IsCheck bbs bytes state colour r → IsCheck bbs bytes state colour s → r ≡ s

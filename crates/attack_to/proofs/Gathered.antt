@@ -53,7 +53,8 @@ module _ (bbs : List ℕ) (s occ : ℕ) where
   pub gathered : (a b c d e f q p₁ p₂ p₃ p₄ p₅ p₆ : ℕ)
       → p₁ < 2 ^ 64 → p₂ < 2 ^ 64 → p₃ < 2 ^ 64 → p₄ < 2 ^ 64
       → a ≡ standing bbs 0 0 → p₁ ≡ reached (stepsOf 1) s → b ≡ standing bbs 0 1 → p₂ ≡ reached (stepsOf 0) s → c ≡ bothOf bbs 1 → p₃ ≡ reached (stepsOf 2) s
-      → d ≡ bothOf bbs 5 → p₄ ≡ reached (stepsOf 3) s → q ≡ bothOf bbs 4 → e ≡ bothOf bbs 2 → p₅ ≡ board (seen slanted s occ) → f ≡ bothOf bbs 3 → p₆ ≡ board (seen straight s occ)
+      → d ≡ bothOf bbs 5 → p₄ ≡ reached (stepsOf 3) s → q ≡ bothOf bbs 4 → e ≡ bothOf bbs 2 → p₅ ≡ board (seen slanted s occ) → f ≡ bothOf bbs 3
+      → p₆ ≡ board (seen straight s occ)
       → six a b c d (bitOr e q) (bitOr f q) p₁ p₂ p₃ p₄ p₅ p₆ ≡ attackers bbs s occ
   gathered a b c d e f q p₁ p₂ p₃ p₄ p₅ p₆ l₁ l₂ l₃ l₄ h₁ h₂ h₃ h₄ h₅ h₆ h₇ h₈ h₉ h₁₀ h₁₁ h₁₂ h₁₃ =
       rw (h₁, h₂, h₃, h₄, h₅, h₆, h₇, h₈, h₉, h₁₀, h₁₁, h₁₂, h₁₃)

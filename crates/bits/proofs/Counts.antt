@@ -124,7 +124,8 @@ many-less (suc n) s f h e =
     kept k ne = ap (λ (t : Bool). f k && not t) (ne-eqb k s ne) ∙ and-true (f k)
 
     top : s ≡ n → digit (f n) ≡ suc (digit (f n && not (eqb n s)))
-    top q = ap digit (ap f (sym q) ∙ e) ∙ sym (ap (λ (t : Bool). suc (digit (f n && not t))) (eq-eqb n s (sym q)) ∙ ap (λ (t : Bool). suc (digit t)) (and-false (f n)))
+    top q = ap digit (ap f (sym q) ∙ e) ∙ sym (ap (λ (t : Bool). suc (digit (f n && not t))) (eq-eqb n s (sym q))
+        ∙ ap (λ (t : Bool). suc (digit t)) (and-false (f n)))
 
 -- of either test no more pass than of both together
 pub many-or : (n : ℕ) (f g : ℕ → Bool) → howMany n (λ k. f k || g k) ≤ howMany n f + howMany n g

@@ -2,7 +2,8 @@
 use mathlib.Core.Path.{_≡_, refl, sym, ap, ap₂, _∙_}
 use mathlib.Core.Bool.{Bool, true, false, true≢false, false≢true, not, _||_, _&&_, Bool·beq}
 use Prim.Native.Nat.{ℕ, zero, suc, _+_, _*_, _-_, _/_, _%_, _^_, _≤_, _<_, suc-le-suc}
-use native.Mathlib.Nat.{sub-zero, suc-sub-suc, mul-one, le-of-suc-le-suc, not-suc-le-zero, mod-lt, mod-eq-of-lt, div-eq-of-lt, lt-of-lt-of-le, mul-mod-left, zero-div, pow-suc, mul-div-cancel, div-one}
+use native.Mathlib.Nat.{sub-zero, suc-sub-suc, mul-one, le-of-suc-le-suc, not-suc-le-zero, mod-lt, mod-eq-of-lt, div-eq-of-lt, lt-of-lt-of-le}
+use native.Mathlib.Nat.{mul-mod-left, zero-div, pow-suc, mul-div-cancel, div-one}
 use native.Mathlib.Numerals.{add-one, one-add}
 use native.Mathlib.Omega.{arith}
 use lib.Dec.{leb·zero, leb·suc-zero, leb·suc-suc, eqb·zero-suc, eqb·suc-zero, eqb·suc-suc, eqb, leb}
@@ -44,7 +45,8 @@ pub has-and : (a b k : ℕ) → has (bitAnd a b) k ≡ (has a k && has b k)
 has-and = has-op bitAnd (λ x y. x && y) and-shr and-mod (digits2 (λ p q. isSet (bitAnd p q) ≡ (isSet p && isSet q)) refl refl refl refl)
 
 pub has-xor : (a b k : ℕ) → has (bitXor a b) k ≡ not (Bool·beq (has a k) (has b k))
-has-xor = has-op bitXor (λ x y. not (Bool·beq x y)) xor-shr xor-mod (digits2 (λ p q. isSet (bitXor p q) ≡ not (Bool·beq (isSet p) (isSet q))) refl refl refl refl)
+has-xor = has-op bitXor (λ x y. not (Bool·beq x y)) xor-shr xor-mod (digits2 (λ p q. isSet (bitXor p q) ≡ not (Bool·beq (isSet p) (isSet q))) refl refl
+    refl refl)
 
 -- ---- `!`: every digit below 64 the other way
 pub has-full : (k : ℕ) → k < 64 → has (2 ^ 64 - 1) k ≡ true
@@ -94,7 +96,8 @@ has-0 a = ap (λ (x : ℕ). isSet (x % 2)) (div-one a)
 pub ext : (n a b : ℕ) → a < 2 ^ n → b < 2 ^ n → ((k : ℕ) → k < n → has a k ≡ has b k) → a ≡ b
 ext zero a b ha hb e = omega arith
 ext (suc n) a b ha hb e =
-    let h : a / 2 ≡ b / 2 = ext n (a / 2) (b / 2) (shr-lt n 1 (rw add-one ha)) (shr-lt n 1 (rw add-one hb)) (λ k l. sym (has-half a k) ∙ e (suc k) (suc-le-suc l) ∙ has-half b k) in
+    let h : a / 2 ≡ b / 2 = ext n (a / 2) (b / 2) (shr-lt n 1 (rw add-one ha)) (shr-lt n 1 (rw add-one hb))
+    (λ k l. sym (has-half a k) ∙ e (suc k) (suc-le-suc l) ∙ has-half b k) in
     let d : a % 2 ≡ b % 2 = same-digit (a % 2) (b % 2) (mod-lt a two-pos) (mod-lt b two-pos) (sym (has-0 a) ∙ e 0 (omega arith) ∙ has-0 b) in
     omega arith
 

@@ -33,10 +33,17 @@ taken b h ne =
       where
         go : (t : Bool) → eqb k (lowestOf b) ≡ t → (has b k && not (eqb k (lowestOf b))) ≡ false
         go true q = ap (λ (t : Bool). has b k && not t) q ∙ and-false (has b k)
-        go false q = ap (λ (t : Bool). t && not (eqb k (lowestOf b))) (scanned-lowest 64 b .clear k (subst (λ (x : ℕ). k < x) (sym (scan-is b)) (omega (arith, eqb-false k (lowestOf b) q))))
+        go false q = ap (λ (t : Bool). t && not (eqb k (lowestOf b)))
+            (scanned-lowest 64 b .clear k (subst (λ (x : ℕ). k < x) (sym (scan-is b)) (omega (arith, eqb-false k (lowestOf b) q))))
 
     kept : (k : ℕ) → lowestOf b < k → has (those 64 (λ j. has b j && not (eqb j (lowestOf b)))) k ≡ has b k
-    kept k l = elim (decLt k 64) [ yes p ↦ has-those 64 (λ j. has b j && not (eqb j (lowestOf b))) k p ∙ ap (λ (t : Bool). has b k && not t) (ne-eqb k (lowestOf b) (λ q. omega arith)) ∙ and-true (has b k) | no p ↦ has-high (those 64 (λ j. has b j && not (eqb j (lowestOf b)))) 64 k (those-lt 64 (λ j. has b j && not (eqb j (lowestOf b)))) (omega arith) ∙ sym (has-high b 64 k h (omega arith)) ]
+    kept k l = elim (decLt k 64) [
+      | yes p ↦ has-those 64 (λ j. has b j && not (eqb j (lowestOf b))) k p
+          ∙ ap (λ (t : Bool). has b k && not t) (ne-eqb k (lowestOf b) (λ q. omega arith))
+          ∙ and-true (has b k)
+      | no p ↦ has-high (those 64 (λ j. has b j && not (eqb j (lowestOf b)))) 64 k
+          (those-lt 64 (λ j. has b j && not (eqb j (lowestOf b)))) (omega arith) ∙ sym (has-high b 64 k h (omega arith))
+    ]
 
 split : (t : Bool) (x y s r : ℕ) → s ∷ r ∷ [] ≡ cond t [] (x ∷ y ∷ []) → (t ≡ false) × (x ≡ s) × (y ≡ r)
 split true x y s r e = absurd (let z : _≡_ {A = ℕ} 0 1 = cc in omega arith)

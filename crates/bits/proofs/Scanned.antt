@@ -39,7 +39,13 @@ lowest-step n b (suc d) t e l = record {
 
 pub scanned-lowest : (n b : ℕ) → Lowest n b (trailingZeros n b)
 unfolding trailingZeros
-scanned-lowest zero b = record { inside = omega arith; clear = λ k h. absurd (not-suc-le-zero h); found = λ h. absurd (not-suc-le-zero h); empty = λ h q. lt-one h }
+scanned-lowest zero b = record {
+  inside = omega arith;
+  clear = λ k h. absurd (not-suc-le-zero h);
+  found = λ h. absurd (not-suc-le-zero h);
+  empty =
+      λ h q. lt-one h;
+}
 scanned-lowest (suc n) b = lowest-step n b (b % 2) (trailingZeros n (b / 2)) refl (scanned-lowest n (b / 2))
 
 -- a bitboard that is not empty has its lowest square on the board
@@ -49,7 +55,8 @@ scan-lt b h ne = ⊎-elim (λ e. absurd (ne (scanned-lowest 64 b .empty h e))) (
 first-is : (j n k : ℕ) (f : ℕ → Bool) → ((i : ℕ) → i < j → f (k + i) ≡ false) → (0 < n → f (k + j) ≡ true) → firstFrom (j + n) k f ≡ k + j
 unfolding firstFrom
 first-is zero zero k f e t = sym (add-zero k)
-first-is zero (suc n) k f e t = ap (λ (x : ℕ). firstFrom x k f) (zero-add (suc n)) ∙ ap (λ (b : Bool). cond b k (firstFrom n (suc k) f)) (ap f (sym (add-zero k)) ∙ t (omega arith)) ∙ sym (add-zero k)
+first-is zero (suc n) k f e t = ap (λ (x : ℕ). firstFrom x k f) (zero-add (suc n))
+    ∙ ap (λ (b : Bool). cond b k (firstFrom n (suc k) f)) (ap f (sym (add-zero k)) ∙ t (omega arith)) ∙ sym (add-zero k)
 first-is (suc j) n k f e t =
     ap (λ (x : ℕ). firstFrom x k f) (suc-add j n)
     ∙ ap (λ (b : Bool). cond b k (firstFrom (j + n) (suc k) f)) (ap f (sym (add-zero k)) ∙ e 0 (omega arith))

@@ -14,7 +14,8 @@ counted-from f g zero k b a e = refl
 counted-from f g (suc n) k b a e = pick (has b k) (λ z. counted-from f g n (suc k) b z (λ s h. e s (omega arith)))
   where
     pick : (t : Bool) → ((z : ℕ) → counted f z (squaresFrom n (suc k) b) ≡ counted g z (squaresFrom n (suc k) b))
-        → counted f a (cond t (k ∷ squaresFrom n (suc k) b) (squaresFrom n (suc k) b)) ≡ counted g a (cond t (k ∷ squaresFrom n (suc k) b) (squaresFrom n (suc k) b))
+        → counted f a (cond t (k ∷ squaresFrom n (suc k) b) (squaresFrom n (suc k) b))
+        ≡ counted g a (cond t (k ∷ squaresFrom n (suc k) b) (squaresFrom n (suc k) b))
     pick true rest = ap (λ (x : ℕ). counted f (a + x) (squaresFrom n (suc k) b)) (e k (omega arith)) ∙ rest (a + g k)
     pick false rest = rest a
 
@@ -28,7 +29,8 @@ added-from f g zero k b a e = refl
 added-from f g (suc n) k b a e = pick (has b k) (λ z. added-from f g n (suc k) b z (λ s h. e s (omega arith)))
   where
     pick : (t : Bool) → ((z : ℤ) → added f z (squaresFrom n (suc k) b) ≡ added g z (squaresFrom n (suc k) b))
-        → added f a (cond t (k ∷ squaresFrom n (suc k) b) (squaresFrom n (suc k) b)) ≡ added g a (cond t (k ∷ squaresFrom n (suc k) b) (squaresFrom n (suc k) b))
+        → added f a (cond t (k ∷ squaresFrom n (suc k) b) (squaresFrom n (suc k) b))
+        ≡ added g a (cond t (k ∷ squaresFrom n (suc k) b) (squaresFrom n (suc k) b))
     pick true rest = ap (λ (x : ℤ). added f (a +ℤ x) (squaresFrom n (suc k) b)) (e k (omega arith)) ∙ rest (a +ℤ g k)
     pick false rest = rest a
 

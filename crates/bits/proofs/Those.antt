@@ -68,12 +68,14 @@ and-is a b ha hb = is-those (bitAnd a b) (λ k. has a k && has b k) (and-lt 64 a
 pub those-or : (f g : ℕ → Bool) → bitOr (those 64 f) (those 64 g) ≡ those 64 (λ k. f k || g k)
 those-or f g =
     or-is (those 64 f) (those 64 g) (those-lt 64 f) (those-lt 64 g)
-    ∙ those-same (λ k. has (those 64 f) k || has (those 64 g) k) (λ k. f k || g k) (λ k h. ap₂ (λ (s t : Bool). s || t) (has-those 64 f k h) (has-those 64 g k h))
+    ∙ those-same (λ k. has (those 64 f) k || has (those 64 g) k) (λ k. f k || g k)
+    (λ k h. ap₂ (λ (s t : Bool). s || t) (has-those 64 f k h) (has-those 64 g k h))
 
 pub those-and : (f g : ℕ → Bool) → bitAnd (those 64 f) (those 64 g) ≡ those 64 (λ k. f k && g k)
 those-and f g =
     and-is (those 64 f) (those 64 g) (those-lt 64 f) (those-lt 64 g)
-    ∙ those-same (λ k. has (those 64 f) k && has (those 64 g) k) (λ k. f k && g k) (λ k h. ap₂ (λ (s t : Bool). s && t) (has-those 64 f k h) (has-those 64 g k h))
+    ∙ those-same (λ k. has (those 64 f) k && has (those 64 g) k) (λ k. f k && g k)
+    (λ k h. ap₂ (λ (s t : Bool). s && t) (has-those 64 f k h) (has-those 64 g k h))
 
 -- ---- a number is the bitboard of a test exactly where each of its squares says so
 pub is-those-test : (a : ℕ) (f : ℕ → Bool) → a < 2 ^ 64 → eqb a (those 64 f) ≡ allBelow 64 (λ k. Bool·beq (has a k) (f k))

@@ -45,10 +45,13 @@ added-from (suc n) k b f a =
     one (λ z. added-from n (suc k) b f z) (has b k)
     ∙ ap (λ (x : ℤ). a +ℤ x)
     (ap₂ _+ℤ_ (ap (λ (s : ℕ). gated (has b s) (f s)) (sym (add-zero k)))
-    (whole-same n (λ i. gated (has b (suc k + i)) (f (suc k + i))) (λ i. gated (has b (k + suc i)) (f (k + suc i))) (λ i l. ap (λ (s : ℕ). gated (has b s) (f s)) (suc-add k i ∙ sym (add-suc k i))))
+    (whole-same n (λ i. gated (has b (suc k + i)) (f (suc k + i))) (λ i. gated (has b (k + suc i)) (f (k + suc i)))
+    (λ i l. ap (λ (s : ℕ). gated (has b s) (f s)) (suc-add k i ∙ sym (add-suc k i))))
     ∙ sym (sum-front n (λ i. gated (has b (k + i)) (f (k + i)))))
   where
-    one : ((z : ℤ) → added f z (squaresFrom n (suc k) b) ≡ z +ℤ sumZ n (λ i. gated (has b (suc k + i)) (f (suc k + i)))) → (t : Bool) → added f a (cond t (k ∷ squaresFrom n (suc k) b) (squaresFrom n (suc k) b)) ≡ a +ℤ (gated t (f k) +ℤ sumZ n (λ i. gated (has b (suc k + i)) (f (suc k + i))))
+    one : ((z : ℤ) → added f z (squaresFrom n (suc k) b) ≡ z +ℤ sumZ n (λ i. gated (has b (suc k + i)) (f (suc k + i)))) → (t : Bool)
+        → added f a (cond t (k ∷ squaresFrom n (suc k) b) (squaresFrom n (suc k) b))
+        ≡ a +ℤ (gated t (f k) +ℤ sumZ n (λ i. gated (has b (suc k + i)) (f (suc k + i))))
     one rest true = rest (a +ℤ f k) ∙ +ℤ-assoc a (f k) (sumZ n (λ i. gated (has b (suc k + i)) (f (suc k + i))))
     one rest false = rest a ∙ ap (λ (x : ℤ). a +ℤ x) (sym (+ℤ-idl (sumZ n (λ i. gated (has b (suc k + i)) (f (suc k + i))))))
 
@@ -57,4 +60,5 @@ pub added-is : (b : ℕ) (f : ℕ → ℤ) (a : ℤ) → added f a (squares b) �
 unfolding squares
 added-is b f a =
     added-from 64 0 b f a
-    ∙ ap (λ (x : ℤ). a +ℤ x) (whole-same 64 (λ i. gated (has b (0 + i)) (f (0 + i))) (λ s. gated (has b s) (f s)) (λ i l. ap (λ (s : ℕ). gated (has b s) (f s)) (zero-add i)))
+    ∙ ap (λ (x : ℤ). a +ℤ x) (whole-same 64 (λ i. gated (has b (0 + i)) (f (0 + i))) (λ s. gated (has b s) (f s))
+    (λ i l. ap (λ (s : ℕ). gated (has b s) (f s)) (zero-add i)))

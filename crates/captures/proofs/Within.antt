@@ -17,5 +17,6 @@ pub fed-within : {mode : Mode} {state : SoFar} {line chunk out : List ℕ} {r : 
     → (next : SoFar) (n : ℕ) → r ≡ F.Rows next n → n ≤ length out
 fed-within {out = out} f next n told = subst (λ (q : Fed). wrote (fed q) ≤ length out) told (f .within)
 
-pub last-within : {mode : Mode} {state : SoFar} {line out : List ℕ} {r : Finished} {out′ : List ℕ} → TellsLast mode state line out r out′ → (n : ℕ) → r ≡ E.Rows n → n ≤ length out
+pub last-within : {mode : Mode} {state : SoFar} {line out : List ℕ} {r : Finished} {out′ : List ℕ} → TellsLast mode state line out r out′ → (n : ℕ)
+    → r ≡ E.Rows n → n ≤ length out
 last-within {out = out} f n told = subst (λ (q : Finished). lastWrote (finishPaper q) ≤ length out) told (f .within)

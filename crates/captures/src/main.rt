@@ -1,8 +1,9 @@
-// Reads questions about exchanges on standard input and writes the captures of each, where it stops and what it is worth: reads, feeds, writes, and nothing else.
-// With `--second` in the second mode.
+// Reads questions about exchanges on standard input and writes the captures of each, where it stops and what it is worth: reads, feeds, writes, and
+// nothing else. With `--second` in the second mode.
 //
-// What a call asks for stands in captures_asked, what a read, a write and an error number mean in crate stream, what a question's rows are in captures_feed. Where a read or a write fails, or a loop
-// comes to its bound, the rows so far stay, no last row follows them, and the reason goes to standard error; that all is written is said on descriptor 3, last of all.
+// What a call asks for stands in captures_asked, what a read, a write and an error number mean in crate stream, what a question's rows are in
+// captures_feed. Where a read or a write fails, or a loop comes to its bound, the rows so far stay, no last row follows them, and the reason goes to
+// standard error; that all is written is said on descriptor 3, last of all.
 use captures_asked::Asked;
 use exchange_start::Mode;
 use ledger_feed::Fed;

@@ -25,7 +25,12 @@ unfolding rowsUpTo
 length-rows zero number from kind taken = omega arith
 length-rows (suc i) number from kind taken =
     let row = captureRow number (getD from i 0) (getD kind i 0) (getD taken i 0) in
-    omega (arith, length-append (rowsUpTo i number from kind taken) row, length-rows i number from kind taken, fits-capture number (getD from i 0) (getD kind i 0) (getD taken i 0))
+    omega (
+      arith,
+      length-append (rowsUpTo i number from kind taken) row,
+      length-rows i number from kind taken,
+      fits-capture number (getD from i 0) (getD kind i 0) (getD taken i 0),
+    )
 
 pub fits-listed : (number : ℕ) (l : Listed) (stop : Stopped) → l .count ≤ 32 → 0 + length (listedRows number l stop) ≤ 2048
 fits-listed number l stop few =
@@ -49,7 +54,8 @@ none-yet number from kind taken old n = record {
   most = omega arith;
 }
 
-module _ (number : ℕ) (from kind taken old new : List ℕ) (n i at : ℕ) (few : n ≤ 32) (room : 2048 ≤ length old) (s : SoMany number from kind taken old new n i at) where
+module _ (number : ℕ) (from kind taken old new : List ℕ) (n i at : ℕ) (few : n ≤ 32) (room : 2048 ≤ length old)
+    (s : SoMany number from kind taken old new n i at) where
   rows : List ℕ
   rows = rowsUpTo i number from kind taken
 
@@ -79,7 +85,11 @@ pub then-stop : (number : ℕ) (l : Listed) (stop : Stopped) (old mid new : List
     → Adds old 0 (rowsUpTo (l .count) number (l .from) (l .kind) (l .taken)) mid a
     → Adds mid a (stopRow number (stopped stop) (settled (take (l .count) (l .taken)))) new b → Adds old 0 (listedRows number l stop) new b
 then-stop number l stop old mid new a b room few p q =
-    adds-then p q (omega (arith, length-rows (l .count) number (l .from) (l .kind) (l .taken), fits-stop number (stopped stop) (settled (take (l .count) (l .taken)))))
+    adds-then p q (omega (
+      arith,
+      length-rows (l .count) number (l .from) (l .kind) (l .taken),
+      fits-stop number (stopped stop) (settled (take (l .count) (l .taken))),
+    ))
 
 -- ---- by the captures
 abbrev rowOf : ℕ → Capture → List ℕ
@@ -87,14 +97,16 @@ rowOf number c = captureRow number (c .from) (c .kind) (c .taken)
 
 at-place : (m number k : ℕ) (cs : List Capture) → k < length cs → length cs ≤ m
     → captureRows number (take (suc k) cs)
-    ≡ captureRows number (take k cs) ++ captureRow number (getD (column m (λ c. c .from) cs) k 0) (getD (column m (λ c. c .kind) cs) k 0) (getD (column m (λ c. c .taken) cs) k 0)
+    ≡ captureRows number (take k cs) ++ captureRow number (getD (column m (λ c. c .from) cs) k 0) (getD (column m (λ c. c .kind) cs) k 0)
+    (getD (column m (λ c. c .taken) cs) k 0)
 unfolding captureRows column
 at-place m number k [] h g = absurd (omega arith)
 at-place zero number k (c ∷ cs) h g = absurd (omega arith)
 at-place (suc m) number zero (c ∷ cs) h g = append-nil (rowOf number c)
 at-place (suc m) number (suc k) (c ∷ cs) h g =
     let later = captureRow number (getD (column m (λ c. c .from) cs) k 0) (getD (column m (λ c. c .kind) cs) k 0) (getD (column m (λ c. c .taken) cs) k 0) in
-    ap (λ (t : List ℕ). rowOf number c ++ t) (at-place m number k cs (omega arith) (omega arith)) ∙ sym (append-assoc (rowOf number c) (captureRows number (take k cs)) later)
+    ap (λ (t : List ℕ). rowOf number c ++ t) (at-place m number k cs (omega arith) (omega arith))
+    ∙ sym (append-assoc (rowOf number c) (captureRows number (take k cs)) later)
 
 up-to : (m number k : ℕ) (cs : List Capture) → k ≤ length cs → length cs ≤ m
     → rowsUpTo k number (column m (λ c. c .from) cs) (column m (λ c. c .kind) cs) (column m (λ c. c .taken) cs) ≡ captureRows number (take k cs)
@@ -102,7 +114,8 @@ unfolding rowsUpTo captureRows
 up-to m number zero [] h g = refl
 up-to m number zero (c ∷ cs) h g = refl
 up-to m number (suc k) cs h g =
-    ap (λ (t : List ℕ). t ++ captureRow number (getD (column m (λ c. c .from) cs) k 0) (getD (column m (λ c. c .kind) cs) k 0) (getD (column m (λ c. c .taken) cs) k 0))
+    ap (λ (t : List ℕ). t ++ captureRow number (getD (column m (λ c. c .from) cs) k 0) (getD (column m (λ c. c .kind) cs) k 0)
+    (getD (column m (λ c. c .taken) cs) k 0))
     (up-to m number k cs (omega arith) g) ∙ sym (at-place m number k cs (omega arith) g)
 
 whole : (cs : List Capture) → take (length cs) cs ≡ cs

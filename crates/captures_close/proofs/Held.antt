@@ -57,13 +57,15 @@ pub put-fit : (old new : List ℕ) (at number : ℕ) (checked : Checked) (l : Li
     → Puts old new at (listedRows number l stop) p
     → PutsRow old new at (Position.paper checked) (checkedRows number checked l stop) (record { placed = p; loaded = true })
 put-fit old new at number checked l stop p e h =
-    subst (λ (x : Checked). PutsRow old new at (Position.paper x) (checkedRows number x l stop) (record { placed = p; loaded = true })) (sym e) (record { puts = h; loaded = refl })
+    subst (λ (x : Checked). PutsRow old new at (Position.paper x) (checkedRows number x l stop) (record { placed = p; loaded = true })) (sym e)
+    (record { puts = h; loaded = refl })
 
 pub put-refused : (old new : List ℕ) (at number : ℕ) (checked : Checked) (l : Listed) (stop : Stopped) (p : Placed) (q : Refusal) → checked ≡ C.Refused q
     → Puts old new at (refusedRow number (numberOf q)) p
     → PutsRow old new at (Position.paper checked) (checkedRows number checked l stop) (record { placed = p; loaded = false })
 put-refused old new at number checked l stop p q e h =
-    subst (λ (x : Checked). PutsRow old new at (Position.paper x) (checkedRows number x l stop) (record { placed = p; loaded = false })) (sym e) (record { puts = h; loaded = refl })
+    subst (λ (x : Checked). PutsRow old new at (Position.paper x) (checkedRows number x l stop) (record { placed = p; loaded = false })) (sym e)
+    (record { puts = h; loaded = refl })
 
 -- ---- what the door tells
 module _ (mode : Mode) (kinds bbs bytes : List ℕ) (state : State) (from to : ℕ) (r : Told) (promise : Captures mode kinds bbs bytes state from to r) where
@@ -85,7 +87,8 @@ module _ (mode : Mode) (kinds bbs bytes : List ℕ) (state : State) (from to : �
   unfolding cs
   short e =
       let b = knows mode kinds bbs bytes state from to (r .checked) (promise .0) e in
-      subst (λ (l : List Capture). length l ≤ 32) (all-listed mode kinds bbs bytes state from to (from-on b) (a-side b) (b .may) (b .few)) (at-most-32 mode kinds bbs bytes state from to)
+      subst (λ (l : List Capture). length l ≤ 32) (all-listed mode kinds bbs bytes state from to (from-on b) (a-side b) (b .may) (b .few))
+      (at-most-32 mode kinds bbs bytes state from to)
 
   holds : (l : List Capture) → theCaptures a ≡ l → HoldsCaptures l (r .listed)
   unfolding a
@@ -142,7 +145,8 @@ asked mode q said = answerTo mode (kindsIn (orderField q)) (nthSquare (moveField
 asked-held : (mode : Mode) (line : List ℕ) (size : ℕ) → asked mode (take size line) (saidOf line size) ≡ heldAnswer mode line size
 asked-held mode line size = go (ltb (length line) size)
   where
-    go : (t : Bool) → asked mode (take size line) (cond t (refusalOf R.Long) (lineOf (take size line))) ≡ cond t (refusalOf R.Long) (questionOf mode (take size line))
+    go : (t : Bool) → asked mode (take size line) (cond t (refusalOf R.Long) (lineOf (take size line)))
+        ≡ cond t (refusalOf R.Long) (questionOf mode (take size line))
     go true = refl
     go false = refl
 
@@ -153,7 +157,8 @@ module _ (mode : Mode) (line : List ℕ) (size : ℕ) (read : Loaded) (reads : R
   pub line-refused : (q : Refusal) → read .answer ≡ Refused q → (old new : List ℕ) (at number : ℕ) (p : Placed)
       → Puts old new at (refusedRow number (numberOf q)) p → AnswersHeld mode old new at number line size (record { placed = p; loaded = false })
   line-refused q told old new at number p h =
-      subst (λ (x : Answer (List Capture)). Row-of old new at number x (record { placed = p; loaded = false })) (go (saidOf line size) (sym (ap paper told) ∙ reads .answer) ∙ asked-held mode line size)
+      subst (λ (x : Answer (List Capture)). Row-of old new at number x (record { placed = p; loaded = false }))
+      (go (saidOf line size) (sym (ap paper told) ∙ reads .answer) ∙ asked-held mode line size)
       (record { puts = h; loaded = refl })
     where
       go : (s : Answer Line) → refusalOf q ≡ byValue s → refusalOf q ≡ asked mode (take size line) s
@@ -173,9 +178,11 @@ module _ (mode : Mode) (line : List ℕ) (size : ℕ) (read : Loaded) (reads : R
 
   pub line-asked : (state : State) (half : ℕ) → read .answer ≡ Position state half → (question : Asked) → Asks (take size line) question
       → toldOf mode (question .order) (read .bitboards) (read .board) state (question .from) (question .to) ≡ heldAnswer mode line size
-  line-asked state half told question asks = go (saidOf line size) (sym (ap paper told) ∙ reads .answer) (reads .boards) (reads .bytes) ∙ asked-held mode line size
+  line-asked state half told question asks = go (saidOf line size) (sym (ap paper told) ∙ reads .answer) (reads .boards) (reads .bytes)
+      ∙ asked-held mode line size
     where
-      go : (s : Answer Line) → given (state, half) ≡ byValue s → read .bitboards ≡ bitboardsAfter s (bitboardsOf emptyBoard) → read .board ≡ boardAfter s emptyBoard
+      go : (s : Answer Line) → given (state, half) ≡ byValue s → read .bitboards ≡ bitboardsAfter s (bitboardsOf emptyBoard)
+          → read .board ≡ boardAfter s emptyBoard
           → toldOf mode (question .order) (read .bitboards) (read .board) state (question .from) (question .to) ≡ asked mode (take size line) s
       go (refused n v) e f g = given-not e
       go (given l) e f g =
@@ -191,12 +198,14 @@ module _ (mode : Mode) (line : List ℕ) (size : ℕ) (read : Loaded) (reads : R
   pub line-told : (state : State) (half : ℕ) → read .answer ≡ Position state half → (question : Asked) → Asks (take size line) question → (r : Told)
       → Captures mode (question .order) (read .bitboards) (read .board) state (question .from) (question .to) r
       → (old new : List ℕ) (at number : ℕ) (row : Row)
-      → PutsRow old new at (Position.paper (r .checked)) (checkedRows number (r .checked) (r .listed) (r .stop)) row → AnswersHeld mode old new at number line size row
+      → PutsRow old new at (Position.paper (r .checked)) (checkedRows number (r .checked) (r .listed) (r .stop)) row
+      → AnswersHeld mode old new at number line size row
   line-told state half told question asks r promise old new at number row h =
       let e = line-asked state half told question asks in
       record {
         puts =
             subst (λ (t : List ℕ). Puts old new at t (row .placed))
-            (rows-told mode (question .order) (read .bitboards) (read .board) state (question .from) (question .to) r promise number ∙ ap (answerRows number) e) (h .puts);
+            (rows-told mode (question .order) (read .bitboards) (read .board) state (question .from) (question .to) r promise number
+            ∙ ap (answerRows number) e) (h .puts);
         loaded = h .loaded ∙ is-told mode (question .order) (read .bitboards) (read .board) state (question .from) (question .to) r promise ∙ ap isLoaded e;
       }

@@ -1,4 +1,5 @@
-// The rows of a question that ends, by a buffer that holds its line's first bytes: the line is read, then the move and the order behind it, and the exchange is told.
+// The rows of a question that ends, by a buffer that holds its line's first bytes: the line is read, then the move and the order behind it, and the
+// exchange is told.
 ghost use Prim.Native.Nat.{_≤_};
 ghost use lib.ListN.{length};
 ghost use Rattle.position.specs.Promises.{paper};

@@ -39,7 +39,8 @@ module _ (mode : Mode) (state : SoFar) (line chunk out : List ℕ) where
   m = runTold mode (at state line []) chunk
 
   -- an answer of its own, with nothing changed
-  unchanged : (r : Fed) (a : Came Machine) → tellOf mode state line chunk out ≡ a → fed r ≡ cameByValue a → lineAfter a line ≡ line → textAfter a ≡ [] → wrote (fed r) ≡ 0
+  unchanged : (r : Fed) (a : Came Machine) → tellOf mode state line chunk out ≡ a → fed r ≡ cameByValue a → lineAfter a line ≡ line → textAfter a ≡ []
+      → wrote (fed r) ≡ 0
       → TellsQuestions mode state line chunk out r line out
   unchanged r a e f k t z = record {
     answer = f ∙ sym (ap cameByValue e);
@@ -65,7 +66,8 @@ module _ (mode : Mode) (state : SoFar) (line chunk out : List ℕ) where
       pub feed-ready : ends chunk ≤ length out / 2048 → ReadyChunk state line chunk out
       feed-ready h = record { size = size; counts = ltb-true (state .loaded + state .refused + ends chunk) (2 ^ 64) counts; room = omega arith }
 
-      pub feed-rows : ends chunk ≤ length out / 2048 → (r : Fed) (line′ out′ : List ℕ) → TakesChunk mode state line chunk out r line′ out′ → TellsQuestions mode state line chunk out r line′ out′
+      pub feed-rows : ends chunk ≤ length out / 2048 → (r : Fed) (line′ out′ : List ℕ) → TakesChunk mode state line chunk out r line′ out′
+          → TellsQuestions mode state line chunk out r line′ out′
       unfolding lines room m
       feed-rows h r line′ out′ t =
           let e : tellOf mode state line chunk out ≡ came m = fit-came line lines room m size counts (le-leb (2048 * ends chunk) (length out) (omega arith)) in
@@ -98,7 +100,8 @@ module _ (mode : Mode) (state : SoFar) (line out : List ℕ) where
     unfolding text
     finish-many n = silent E.Many many (fit-many line (lastLines state) (roomFor out 0 text) text size n) refl refl refl out refl
 
-    module _ (counts : ltb (lastLines state) (2 ^ 64) ≡ true) (made : List ℕ) (is : made ≡ finishedTold mode (at state line [])) (out′ : List ℕ) (p : Placed) (put : Puts out out′ 0 made p) where
+    module _ (counts : ltb (lastLines state) (2 ^ 64) ≡ true) (made : List ℕ) (is : made ≡ finishedTold mode (at state line [])) (out′ : List ℕ)
+        (p : Placed) (put : Puts out out′ 0 made p) where
       puts : Puts out out′ 0 (finishedTold mode (at state line [])) p
       puts = subst (λ (t : List ℕ). Puts out out′ 0 t p) is put
 
@@ -106,7 +109,8 @@ module _ (mode : Mode) (state : SoFar) (line out : List ℕ) where
       unfolding text
       finish-full told =
           let none = placed-full out 0 text (sym (ap place told) ∙ puts .0) in
-          silent E.Full full (fit-full line (lastLines state) (roomFor out 0 text) text size counts none) refl refl refl out′ (puts .1 ∙ unwritten out 0 text none)
+          silent E.Full full (fit-full line (lastLines state) (roomFor out 0 text) text size counts none) refl refl refl out′
+          (puts .1 ∙ unwritten out 0 text none)
 
       pub finish-rows : (n : ℕ) → p ≡ At n → TellsLast mode state line out (E.Rows n) out′
       unfolding text

@@ -1,4 +1,5 @@
--- What a line's end does to what is written, and one turn of the loop over a chunk's lines: that of every consumer of lines (line_cut's `Turn`), with room for the
+-- What a line's end does to what is written, and one turn of the loop over a chunk's lines: that of every consumer of lines (line_cut's `Turn`), with
+-- room for the
 -- rows. Assumes nothing.
 use mathlib.Core.Path.{_≡_, refl, sym, ap, ap₂, subst, _∙_}
 use mathlib.Core.Bool.{Bool, true, false, cond, not}
@@ -51,7 +52,8 @@ pub ready-count : {w : Written} {ended : Bool} {out : List ℕ} → ReadyLine w 
 ready-count {w} r e = subst (λ (t : Bool). w .loaded + w .refused + cond t 1 0 < 2 ^ 64) e (r .counts)
 
 -- ---- a line ended
-pub count-line : (mode : Mode) (w : Written) (line : List ℕ) (ended : Bool) (size : ℕ) (out : List ℕ) → ReadyLine w ended out → ended ≡ true → (out′ : List ℕ) (w′ : ℕ)
+pub count-line : (mode : Mode) (w : Written) (line : List ℕ) (ended : Bool) (size : ℕ) (out : List ℕ) → ReadyLine w ended out → ended ≡ true
+    → (out′ : List ℕ) (w′ : ℕ)
     → Adds out (w .wrote) (answerRows (w .loaded + w .refused + 1) (heldAnswer mode line size)) out′ w′
     → (is : Bool) → is ≡ isLoaded (heldAnswer mode line size) → (loaded refused : ℕ) → loaded ≡ tally (w .loaded) is → refused ≡ tally (w .refused) (not is)
     → CountsQuestion mode w line ended size out (record { loaded = loaded; refused = refused; wrote = w′ }) out′
@@ -76,7 +78,8 @@ count-line mode w line ended size out ready e out′ w′ a is il loaded refused
 as-written : (out out′ : List ℕ) (w : ℕ) → w ≤ length out → length out′ ≡ length out → drop w out′ ≡ drop w out → out′ ≡ writtenOf out 0 (take w out′)
 as-written out out′ w within size rest =
     let long : length (take w out′) ≡ w = length-take-le w out′ (omega arith) in
-    sym (take-append-drop w out′) ∙ ap (λ (l : List ℕ). take w out′ ++ l) (rest ∙ ap (λ (k : ℕ). drop k out) (let z : w ≡ 0 + length (take w out′) = omega arith in z))
+    sym (take-append-drop w out′) ∙ ap (λ (l : List ℕ). take w out′ ++ l)
+    (rest ∙ ap (λ (k : ℕ). drop k out) (let z : w ≡ 0 + length (take w out′) = omega arith in z))
     ∙ sym (written-is out 0 (take w out′) (omega arith))
 
 -- ---- the loop
@@ -105,7 +108,8 @@ module _ (mode : Mode) (whole : CutSoFar Kept) (chunk out₀ line out : List ℕ
     pub turn-less : i < r .at
     turn-less = Lines.turn-less (closeTold mode) whole 256 chunk line begun (keptIn w out) i (t .lines) h r line′ p
 
-    pub turn-next : (out′ : List ℕ) (w′ : Written) → CountsQuestion mode w line′ (r .ended) (r .size) out w′ out′ → Turn mode whole chunk out₀ line′ out′ (r .begun) w′ (r .at)
+    pub turn-next : (out′ : List ℕ) (w′ : Written) → CountsQuestion mode w line′ (r .ended) (r .size) out w′ out′
+        → Turn mode whole chunk out₀ line′ out′ (r .begun) w′ (r .at)
     turn-next out′ w′ k = record {
       lines = Lines.turn-next (closeTold mode) whole 256 chunk line begun (keptIn w out) i (t .lines) h r line′ p (keptIn w′ out′) (k .kept);
       kept = k .long ∙ t .kept;
@@ -125,7 +129,8 @@ writtenIn state = record { loaded = state .loaded; refused = state .refused; wro
 pub turn-none : (mode : Mode) (state : SoFar) (line chunk out : List ℕ) → ReadyChunk state line chunk out
     → Turn mode (ranOf mode state line chunk) chunk out line out (begunIn state) (writtenIn state) 0
 turn-none mode state line chunk out r = record {
-  lines = subst (λ (n : ℕ). Lines.Turn (closeTold mode) (ranOf mode state line chunk) n chunk line (begunIn state) (rows (state .loaded) (state .refused) []) 0) (r .size)
+  lines = subst (λ (n : ℕ). Lines.Turn (closeTold mode) (ranOf mode state line chunk) n chunk line (begunIn state)
+      (rows (state .loaded) (state .refused) []) 0) (r .size)
       (Lines.turn-none (closeTold mode) chunk line (begunIn state) (rows (state .loaded) (state .refused) []));
   kept = refl;
   room = omega (arith, r .room);
@@ -136,7 +141,8 @@ turn-none mode state line chunk out r = record {
 -- after the last
 pub turn-end : (mode : Mode) (state : SoFar) (line₀ chunk out₀ line out : List ℕ) (begun : Begun) (w : Written) (i : ℕ) → length chunk ≤ i
     → Turn mode (ranOf mode state line₀ chunk) chunk out₀ line out begun w i
-    → (next : SoFar) → MakesState (begun .held) (begun .cr) (w .loaded) (w .refused) next → TakesChunk mode state line₀ chunk out₀ (F.Rows next (w .wrote)) line out
+    → (next : SoFar) → MakesState (begun .held) (begun .cr) (w .loaded) (w .refused) next
+    → TakesChunk mode state line₀ chunk out₀ (F.Rows next (w .wrote)) line out
 turn-end mode state line₀ chunk out₀ line out begun w i h t next made =
     let ran = Lines.turn-end (closeTold mode) (ranOf mode state line₀ chunk) 256 chunk line begun (keptIn w out) i (t .lines) h in
     let m : runTold mode (at state line₀ []) chunk ≡ machineOf (record { left = opened begun line; kept = keptIn w out }) = ap machineOf ran in
@@ -162,7 +168,8 @@ pub last-adds : (mode : Mode) (state : SoFar) (line out mid new : List ℕ) (w :
     → Adds mid (w .wrote) (countsRow (w .loaded + w .refused) (w .loaded) (w .refused)) new b
     → Adds out 0 (finishedTold mode (at state line [])) new b
 last-adds mode state line out mid new w b room k a =
-    subst (λ (t : List ℕ). Adds out 0 t new b) (ap lastTold (k .kept)) (adds-then first a (omega (arith, long, wrote, fits-counts (w .loaded + w .refused) (w .loaded) (w .refused))))
+    subst (λ (t : List ℕ). Adds out 0 t new b) (ap lastTold (k .kept))
+    (adds-then first a (omega (arith, long, wrote, fits-counts (w .loaded + w .refused) (w .loaded) (w .refused))))
   where
     most : (t : Bool) → 0 + 2048 * cond t 1 0 ≤ 2048
     most true = omega arith
@@ -179,7 +186,8 @@ last-adds mode state line out mid new w b room k a =
 
     first : Adds out 0 (take (w .wrote) mid) mid (w .wrote)
     first = record {
-      place = sym (ap (λ (l : List ℕ). afterOf l 0) (place-is out 0 (take (w .wrote) mid) fits) ∙ (let z : 0 + length (take (w .wrote) mid) ≡ w .wrote = omega (arith, long) in z));
+      place = sym (ap (λ (l : List ℕ). afterOf l 0) (place-is out 0 (take (w .wrote) mid) fits)
+          ∙ (let z : 0 + length (take (w .wrote) mid) ≡ w .wrote = omega (arith, long) in z));
       buffer = as-written out mid (w .wrote) (omega (arith, wrote)) (k .long) (k .rest (w .wrote) (omega arith));
     }
 
@@ -195,7 +203,12 @@ finished-2132 mode state line = go (ltb 0 (state .held))
     go : (t : Bool) → 0 + length (lastTold (cond t n m)) ≤ 2132
     go true =
         let row : List ℕ = answerRows (m .loaded + m .refused + 1) (heldAnswer mode line (state .held)) in
-        omega (arith, length-append row (countsRow (n .loaded + n .refused) (n .loaded) (n .refused)), held-2048 mode (m .loaded + m .refused + 1) line (state .held), fits-counts (n .loaded + n .refused) (n .loaded) (n .refused))
+        omega (
+          arith,
+          length-append row (countsRow (n .loaded + n .refused) (n .loaded) (n .refused)),
+          held-2048 mode (m .loaded + m .refused + 1) line (state .held),
+          fits-counts (n .loaded + n .refused) (n .loaded) (n .refused),
+        )
     go false = omega (arith, fits-counts (m .loaded + m .refused) (m .loaded) (m .refused))
 
 pub one-unfinished : (mode : Mode) (state : SoFar) (w : Written) (line out mid : List ℕ) → lastLines state < 2 ^ 64

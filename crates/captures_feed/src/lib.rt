@@ -1,5 +1,5 @@
-// The tool that tells exchanges as a machine over bytes: any number of bytes at a time go in, whole rows come out. Its counts, its answers and what it refuses are
-// the ledger's.
+// The tool that tells exchanges as a machine over bytes: any number of bytes at a time go in, whole rows come out. Its counts, its answers and what
+// it refuses are the ledger's.
 ghost use mathlib.Core.Path.{_≡_};
 ghost use mathlib.Core.List.{[]};
 ghost use Prim.Native.Nat.{_+_, _^_, _≤_, _<_};

@@ -25,7 +25,12 @@ pub six-letters : (letter : ℕ) → kindOfLetter letter ≤ 6
 six-letters letter =
     let w = before-within letter (text "pnbrqk") in
     let e : length (text "pnbrqk") ≡ _ = ap length (w .is) in
-    omega (arith, length-append (w .front) (mathlib.Core.List._++_ (before letter (text "pnbrqk")) (w .back)), length-append (before letter (text "pnbrqk")) (w .back), e)
+    omega (
+      arith,
+      length-append (w .front) (mathlib.Core.List._++_ (before letter (text "pnbrqk")) (w .back)),
+      length-append (before letter (text "pnbrqk")) (w .back),
+      e,
+    )
 
 module _ (s : List ℕ) where
   pub not-six : (length s ≡ 6 → ⊥) → (6 ∷ 6 ∷ 6 ∷ 6 ∷ 6 ∷ 6 ∷ []) ≡ orderOf s

@@ -1,4 +1,5 @@
--- A question about an exchange (document 02, W-207): a line of a collection as it stands, then `;` and a move of two squares, then, if wanted, `;` and an order of
+-- A question about an exchange (document 02, W-207): a line of a collection as it stands, then `;` and a move of two squares, then, if wanted, `;`
+-- and an order of
 -- the kinds as six letters: `6k1/8/8/4p3/8/8/8/4R1K1 w;1-0;e1e5;pbnrqk`. Definitions only.
 use mathlib.Core.Bool.{cond}
 use mathlib.Core.List.{List, [], _∷_}

@@ -1,4 +1,5 @@
-// The move and the order that a question names, for the crates above: total, no door. What is no square is 64 and what is no kind 6, which the exchange refuses.
+// The move and the order that a question names, for the crates above: total, no door. What is no square is 64 and what is no kind 6, which the
+// exchange refuses.
 ghost use mathlib.Core.Path.{_≡_};
 ghost use Prim.Native.Nat.{_≤_};
 ghost use Rattle.captures_question.specs.Question.{nthSquare, kindOfLetter, orderOf, kindsIn};

@@ -10,7 +10,8 @@ use Rattle.captures_row.specs.Rows.{captureRow, stopRow, countsRow}
 -- a1 is 0, e1 is 4, h8 is 63
 captures :
     captureRow 1 4 3 100 ∷ captureRow 12 0 0 1013 ∷ captureRow 3 63 1 0 ∷ captureRow 4 7 2 304 ∷ captureRow 5 60 4 5 ∷ captureRow 6 59 5 10000 ∷ []
-    ≡ text "1 e1 rook 100\n" ∷ text "12 a1 pawn 1013\n" ∷ text "3 h8 knight 0\n" ∷ text "4 h1 bishop 304\n" ∷ text "5 e8 queen 5\n" ∷ text "6 d8 king 10000\n" ∷ []
+    ≡ text "1 e1 rook 100\n" ∷ text "12 a1 pawn 1013\n" ∷ text "3 h8 knight 0\n" ∷ text "4 h1 bishop 304\n" ∷ text "5 e8 queen 5\n"
+    ∷ text "6 d8 king 10000\n" ∷ []
 unfolding captureRow digitsUpTo
 captures = refl
 

@@ -57,18 +57,22 @@ finished-after mode t m = go (ltb 0 (m .held))
     r = closeTold mode (keptOf m) (m .line) (m .held)
 
     go : (x : Bool) → lastTold (cond x (closeTold mode (shift t (keptOf m)) (m .line) (m .held)) (shift t (keptOf m))) ≡ t ++ lastTold (cond x r (keptOf m))
-    go true = ap lastTold (close-shift mode t (keptOf m) (m .line) (m .held)) ∙ append-assoc t (r .text) (countsRow (r .loaded + r .refused) (r .loaded) (r .refused))
+    go true = ap lastTold (close-shift mode t (keptOf m) (m .line) (m .held))
+        ∙ append-assoc t (r .text) (countsRow (r .loaded + r .refused) (r .loaded) (r .refused))
     go false = append-assoc t (m .text) (countsRow (m .loaded + m .refused) (m .loaded) (m .refused))
 
 pieces : (mode : Mode) (m : Machine) (s t : List ℕ) → runTold mode m (s ++ t) ≡ afterText (runTold mode m s .text) (runTold mode (quiet (runTold mode m s)) t)
 pieces mode m s t =
-    ap machineOf (run-append (closeTold mode) (openOf m) (keptOf m) s t) ∙ ap (λ (x : Machine). runTold mode x t) (split (runTold mode m s)) ∙ run-after mode (runTold mode m s .text) (quiet (runTold mode m s)) t
+    ap machineOf (run-append (closeTold mode) (openOf m) (keptOf m) s t) ∙ ap (λ (x : Machine). runTold mode x t) (split (runTold mode m s))
+    ∙ run-after mode (runTold mode m s .text) (quiet (runTold mode m s)) t
 
 -- ---- how many lines were counted
-run-counts : (mode : Mode) (o : Open) (r : Kept) (s : List ℕ) → runBy (closeTold mode) o r s .kept .loaded + runBy (closeTold mode) o r s .kept .refused ≡ r .loaded + r .refused + ends s
+run-counts : (mode : Mode) (o : Open) (r : Kept) (s : List ℕ) → runBy (closeTold mode) o r s .kept .loaded
+    + runBy (closeTold mode) o r s .kept .refused ≡ r .loaded + r .refused + ends s
 unfolding runBy ends
 run-counts mode o r [] = sym (add-zero (r .loaded + r .refused))
-run-counts mode o r (b ∷ s) = go (eqb b lf) (run-counts mode (lineEmptied o) (closeTold mode r (o .line) (bareOf (o .held) (o .cr))) s) (run-counts mode (pushed o b) r s)
+run-counts mode o r (b ∷ s) = go (eqb b lf) (run-counts mode (lineEmptied o) (closeTold mode r (o .line) (bareOf (o .held) (o .cr))) s)
+    (run-counts mode (pushed o b) r s)
   where
     a : Answer (List Capture)
     a = heldAnswer mode (o .line) (bareOf (o .held) (o .cr))
@@ -88,7 +92,8 @@ run-counts mode o r (b ∷ s) = go (eqb b lf) (run-counts mode (lineEmptied o) (
 
 -- ---- a call with room
 feed-given : (mode : Mode) (state : SoFar) (line chunk out : List ℕ) (r : Fed) (line′ out′ : List ℕ) → TellsQuestions mode state line chunk out r line′ out′
-    → length line ≡ 256 → state .loaded + state .refused + ends chunk < 2 ^ 64 → 2048 * ends chunk ≤ length out → Given (runTold mode (at state line []) chunk) r line′ out′
+    → length line ≡ 256 → state .loaded + state .refused + ends chunk < 2 ^ 64 → 2048 * ends chunk ≤ length out
+    → Given (runTold mode (at state line []) chunk) r line′ out′
 feed-given mode state line chunk out r line′ out′ f size counts room =
     let m : Machine = runTold mode (at state line []) chunk in
     let e : tellOf mode state line chunk out ≡ came m =
@@ -124,20 +129,23 @@ all mode state line (c ∷ cs) last size room counts made =
     let m : Machine = runTold mode (at state line []) (c .chunk) in
     let s : List ℕ = input cs in
     let cut : runTold mode (at state line []) (c .chunk ++ s) ≡ afterText (m .text) (runTold mode (quiet m) s) = pieces mode (at state line []) (c .chunk) s in
-    let total = run-counts mode (openOf (at state line [])) (keptOf (at state line [])) (c .chunk ++ s) ∙ ap (λ (n : ℕ). state .loaded + state .refused + n) (ends-append (c .chunk) s) in
+    let total = run-counts mode (openOf (at state line [])) (keptOf (at state line [])) (c .chunk ++ s)
+    ∙ ap (λ (n : ℕ). state .loaded + state .refused + n) (ends-append (c .chunk) s) in
     let g = feed-given mode state line (c .chunk) (c .out) (c .fed) (c .line′) (c .out′) (made .0) size
     (part-counts _ (state .loaded + state .refused) (ends (c .chunk)) (ends s) _ total counts) (room .0) in
     let rest : TellsMade mode (stateOf m) (m .line) cs last =
     subst (λ (l : List ℕ). TellsMade mode (stateOf m) l cs last) (g .kept)
     (subst (λ (r : Fed). TellsMade mode (next r state) (c .line′) cs last) (g .answer) (made .1)) in
     ap₂ _++_ (g .rows)
-    (all mode (stateOf m) (m .line) cs last (run-size (closeTold mode) (openOf (at state line [])) (keptOf (at state line [])) (c .chunk) ∙ size) (room .1) (subst (λ (n : ℕ). n < 2 ^ 64) (ap linesIn cut) counts) rest)
+    (all mode (stateOf m) (m .line) cs last (run-size (closeTold mode) (openOf (at state line [])) (keptOf (at state line [])) (c .chunk) ∙ size)
+    (room .1) (subst (λ (n : ℕ). n < 2 ^ 64) (ap linesIn cut) counts) rest)
     ∙ sym (finished-after mode (m .text) (runTold mode (quiet m) s)) ∙ sym (ap (finishedTold mode) cut)
 
 -- the claim, for every line buffer and all calls
 pub rows-of-whole : (mode : Mode) (line : List ℕ) (calls : List Call) (last : Last) → WholeTold mode line calls last
 rows-of-whole mode line calls last = record {
-  rows = λ size room few made. all mode fresh line calls last size room (subst (λ (n : ℕ). n < 2 ^ 64) (sym (machine-lines mode line (input calls) size)) few) made
+  rows = λ size room few made. all mode fresh line calls last size room
+      (subst (λ (n : ℕ). n < 2 ^ 64) (sym (machine-lines mode line (input calls) size)) few) made
       ∙ machine-answers mode line (input calls) size;
 }
 

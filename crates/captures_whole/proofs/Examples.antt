@@ -32,7 +32,10 @@ use Rattle.captures_close.specs.Answered.{captureRows}
 use Rattle.captures_whole.specs.Questions.{answersFrom, toldIn, untoldIn, answersOf}
 
 unfoldable rowsIn : Mode → String → List ℕ
-unfolding answersOf answersFrom toldIn untoldIn countsRow captureRows captureRow stopRow refusedRow digitsUpTo linesFrom endsInCR toldOf lineOf fieldsSay every holds before after without withoutLast trim placeIn areRanks stacked nthWord rightsFit passantFits countersFitFields stateSaid tabulate bitboardsOf those has some howMany allBelow boardsWith ofColour orOdds home atHome justPassed checked eachOnce mayCapture uncrowded capturesOf stopOf settled
+unfolding answersOf answersFrom toldIn untoldIn countsRow captureRows captureRow stopRow refusedRow digitsUpTo linesFrom endsInCR toldOf lineOf
+    fieldsSay every holds before after without withoutLast trim placeIn areRanks stacked nthWord rightsFit passantFits countersFitFields stateSaid
+    tabulate bitboardsOf those has some howMany allBelow boardsWith ofColour orOdds home atHome justPassed checked eachOnce mayCapture uncrowded
+    capturesOf stopOf settled
 rowsIn mode s = answersOf mode (text s)
 
 -- in the first mode

@@ -1,4 +1,5 @@
--- The machine over a whole input writes the rows of its questions, and counts them: the tool is one consumer of lines (line_cut/proofs/Folded). Assumes nothing.
+-- The machine over a whole input writes the rows of its questions, and counts them: the tool is one consumer of lines (line_cut/proofs/Folded).
+-- Assumes nothing.
 use mathlib.Core.Path.{_≡_, refl, sym, ap, _∙_}
 use mathlib.Core.Bool.{Bool, true, false, cond, not}
 use mathlib.Core.List.{List, [], _∷_, _++_, append-assoc}
@@ -49,7 +50,8 @@ rest mode text loaded refused ls =
 
 -- a question more, of which the answer is known
 rest-cons : (mode : Mode) (text : List ℕ) (loaded refused : ℕ) (a : Answer (List Capture)) (l : List ℕ) (ls : List (List ℕ)) → a ≡ questionOf mode l
-    → rest mode (text ++ answerRows (loaded + refused + 1) a) (tally loaded (isLoaded a)) (tally refused (not (isLoaded a))) ls ≡ rest mode text loaded refused (l ∷ ls)
+    → rest mode (text ++ answerRows (loaded + refused + 1) a) (tally loaded (isLoaded a)) (tally refused (not (isLoaded a))) ls
+    ≡ rest mode text loaded refused (l ∷ ls)
 unfolding answersFrom toldIn untoldIn
 rest-cons mode text loaded refused a l ls e =
     let t : Bool = isLoaded (questionOf mode l) in
@@ -102,5 +104,6 @@ fold-count mode r (l ∷ ls) =
 
 pub machine-lines : (mode : Mode) (line s : List ℕ) → length line ≡ 256 → linesIn (runTold mode (at fresh line []) s) ≡ length (linesOf s)
 machine-lines mode line s h =
-    lines-end mode (runBy (closeTold mode) (freshLine line) noRows s) ∙ ap allCounted (folded (closeTold mode) (rowLine mode) (follows-told mode) line noRows s h) ∙ fold-count mode noRows (linesOf s)
+    lines-end mode (runBy (closeTold mode) (freshLine line) noRows s)
+    ∙ ap allCounted (folded (closeTold mode) (rowLine mode) (follows-told mode) line noRows s h) ∙ fold-count mode noRows (linesOf s)
     ∙ zero-add (length (linesOf s))

@@ -36,4 +36,5 @@ turnedForBlack side z = cond (eqb side white) z (negℤ z)
 
 -- the square of a file's letter and a rank's digit; 64, which is none, for any other bytes
 abbrev pub squareOf : ℕ → ℕ → ℕ
-squareOf file rank = cond ((leb (code "a") file && leb file (code "h")) && (leb (code "1") rank && leb rank (code "8"))) (8 * (rank - code "1") + (file - code "a")) 64
+squareOf file rank = cond ((leb (code "a") file && leb file (code "h")) && (leb (code "1") rank && leb rank (code "8")))
+    (8 * (rank - code "1") + (file - code "a")) 64

@@ -35,7 +35,8 @@ valued (refused number beside) = refused number beside
 
 -- what the doors of the score and of the exchange, in document 01's mode and order, answer, refusals and all
 unfoldable pub answerOf : String → Question → Answer Outcome
-unfolding bytesOf bitboardsOf tabulate those has some howMany allBelow boardsWith ofColour orOdds home atHome justPassed checked evalOf eachOnce mayCapture uncrowded exchangeOf
+unfolding bytesOf bitboardsOf tabulate those has some howMany allBelow boardsWith ofColour orOdds home atHome justPassed checked evalOf eachOnce
+    mayCapture uncrowded exchangeOf
 answerOf ranks (scored side) = let bytes : List ℕ = bytesOf ranks in evalOf (bitboardsOf bytes) bytes (ofSide side)
 answerOf ranks (exchanged from to) =
     let bytes : List ℕ = bytesOf ranks in

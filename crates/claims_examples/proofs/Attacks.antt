@@ -27,7 +27,8 @@ abbrev taken : ℕ
 taken = 0x917d731812a4ff91
 
 -- ---- each kind there: pawns of d5 and h2, knight e5, bishop d2, rook h1, queen f3, king e8; a number past the kinds, and a square past h8
-kinds : attacks 0 0 35 taken ∷ attacks 0 1 15 taken ∷ attacks 1 0 36 taken ∷ attacks 2 0 11 taken ∷ attacks 3 0 7 taken ∷ attacks 4 0 21 taken ∷ attacks 5 1 60 taken ∷ []
+kinds : attacks 0 0 35 taken ∷ attacks 0 1 15 taken ∷ attacks 1 0 36 taken ∷ attacks 2 0 11 taken ∷ attacks 3 0 7 taken ∷ attacks 4 0 21 taken
+    ∷ attacks 5 1 60 taken ∷ []
     ≡ 0x140000000000 ∷ 0x40 ∷ 0x28440044280000 ∷ 0x804020140014 ∷ 0x8070 ∷ 0x20a070dc7000 ∷ 0x2838000000000000 ∷ []
 unfolding attacks
 kinds = refl
@@ -82,7 +83,8 @@ unfoldable bare : List ℕ
 unfolding tabulate
 bare = tabulate 64 (λ k. 0)
 
-position-refusals : attacksToOf (0 ∷ []) bare (ofSide 0) 64 0 ∷ attacksToOf none bare (ofSide 2) 64 0 ∷ attacksToOf none bare (ofSide 1) 64 0 ∷ attacksToOf none bare (ofSide 1) 63 0 ∷ []
+position-refusals : attacksToOf (0 ∷ []) bare (ofSide 0) 64 0 ∷ attacksToOf none bare (ofSide 2) 64 0 ∷ attacksToOf none bare (ofSide 1) 64 0
+    ∷ attacksToOf none bare (ofSide 1) 63 0 ∷ []
     ≡ refused 1 [] ∷ refused 1 [] ∷ refused 4 [] ∷ given 0 ∷ []
 unfolding checked orOdds home atHome justPassed boardsWith ofColour howMany some has allBelow bare attackers
 position-refusals = refl

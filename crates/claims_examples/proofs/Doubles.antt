@@ -104,7 +104,8 @@ entries-taken = refl
 
 -- ---- the double
 -- "worked in the source's order": a pawn more at 4 and a square each of the knights' at 1 give 4 + 0.1 − 0.1, one unit below 4
-in-order : named (traceOf (set (set (set empty 0 (pos 1)) 14 (pos 1)) 15 (pos 1))) (weightsOf (set (set noWeights 0 (dbl (pos 4))) 6 (dbl (pos 1)))) ≡ ofBits binary64 0x400f_ffff_ffff_ffff
+in-order : named (traceOf (set (set (set empty 0 (pos 1)) 14 (pos 1)) 15 (pos 1))) (weightsOf (set (set noWeights 0 (dbl (pos 4))) 6 (dbl (pos 1))))
+    ≡ ofBits binary64 0x400f_ffff_ffff_ffff
 unfolding empty noWeights tabulate add sub mul div ofInt ofBits
 in-order = refl
 

@@ -33,7 +33,8 @@ use Rattle.exchange.specs.Answers.{seeOf}
 
 -- the door's answer in a mode, refusals and all, for any six kinds and any state
 unfoldable pub answeredIn : Mode → List ℕ → State → String → String → String → Answer ℤ
-unfolding bytesOf bitboardsOf tabulate those has some howMany allBelow boardsWith ofColour orOdds home atHome justPassed checked eachOnce mayCapture uncrowded exchangeOf
+unfolding bytesOf bitboardsOf tabulate those has some howMany allBelow boardsWith ofColour orOdds home atHome justPassed checked eachOnce mayCapture
+    uncrowded exchangeOf
 answeredIn mode kinds state ranks from to =
     let bytes : List ℕ = bytesOf ranks in
     let bbs : List ℕ = bitboardsOf bytes in
@@ -97,7 +98,8 @@ bishops-first : queens bishopFirst ≡ capture "d1" queen 100 ∷ capture "b7" b
 unfolding queens
 bishops-first = refl
 
--- "Bishops before knights because 292 is under 304: the queen case gives −721". ORDER: bishop twice, before MOVE (nothing on e1) and CROWD (a second king on a1); a kind 6;
+-- "Bishops before knights because 292 is under 304: the queen case gives −721". ORDER: bishop twice, before MOVE (nothing on e1) and CROWD (a second
+-- king on a1); a kind 6;
 -- after SQUARE
 orders : answeredBy bishopFirst queenCase "d1" "d5" ∷ answeredBy bishopTwice queenCase "e1" "d5" ∷ answeredBy bishopTwice kingsCase "d1" "d5"
     ∷ answeredBy noKing queenCase "d1" "d5" ∷ answeredBy bishopTwice queenCase "d9" "d5" ∷ []
@@ -118,7 +120,8 @@ abbrev pub taken : List Capture → List ℕ
 taken cs = map (λ c. c .taken) cs
 
 -- at once after the first: pawn d4 takes knight e5, which queen e7 and rook e8 defend, rook e1 behind; 304, 100, 1013, 487: S(3) is 487, S(2) 526, S(1) -426
-pawnCase : told order "4r3/4q3/8/4n3/3P4/8/8/4R3" "d4" "e5" ≡ capture "d4" pawn 304 ∷ capture "e7" queen 100 ∷ capture "e1" rook 1013 ∷ capture "e8" rook 487 ∷ []
+pawnCase : told order "4r3/4q3/8/4n3/3P4/8/8/4R3" "d4" "e5" ≡ capture "d4" pawn 304 ∷ capture "e7" queen 100 ∷ capture "e1" rook 1013
+    ∷ capture "e8" rook 487 ∷ []
 unfolding told
 pawnCase = refl
 
@@ -151,7 +154,8 @@ two-orders = refl
 -- what the source folds back
 unfoldable queensBySource : ℤ
 unfolding bytesOf bitboardsOf tabulate those sourceSee
-queensBySource = let bytes : List ℕ = bytesOf queenCase in let bbs : List ℕ = bitboardsOf bytes in sourceSee order bbs bytes (ofSide white) (squareNamed "d1") (squareNamed "d5")
+queensBySource = let bytes : List ℕ = bytesOf queenCase in let bbs : List ℕ = bitboardsOf bytes in
+    sourceSee order bbs bytes (ofSide white) (squareNamed "d1") (squareNamed "d5")
 
 by-source : queensBySource ≡ negsuc 708
 unfolding queensBySource
@@ -206,7 +210,8 @@ squares = refl
 
 -- BYTEBOARD with a2 where a byte is not its board's, before SQUARE; SHAPE where the side is none, before BYTEBOARD
 unfoldable amiss : ℕ → String → Answer ℤ
-unfolding bytesOf bitboardsOf tabulate those has some howMany allBelow boardsWith ofColour orOdds lowestWrong firstFrom home atHome justPassed checked eachOnce mayCapture uncrowded exchangeOf
+unfolding bytesOf bitboardsOf tabulate those has some howMany allBelow boardsWith ofColour orOdds lowestWrong firstFrom home atHome justPassed checked
+    eachOnce mayCapture uncrowded exchangeOf
 amiss side from =
     let bbs : List ℕ = bitboardsOf (bytesOf queenCase) in
     seeOf First order bbs (bytesOf "6k1/1b6/5n2/3p4/4P3/8/P7/3Q2K1") (ofSide side) (squareNamed from) (squareNamed "d5")
@@ -217,7 +222,8 @@ amiss-is = refl
 
 -- ---- the least attacker of a colour on d5, where only some squares are still there: the queen's position with black knights on c7 and e7 too
 unfoldable leastOn : List ℕ → ℕ → List String → Answer Attacker
-unfolding bytesOf bitboardsOf tabulate those has some howMany allBelow boardsWith ofColour orOdds home atHome justPassed checked eachOnce attackers occupied board leastOf
+unfolding bytesOf bitboardsOf tabulate those has some howMany allBelow boardsWith ofColour orOdds home atHome justPassed checked eachOnce attackers
+    occupied board leastOf
 leastOn kinds colour still =
     let bytes : List ℕ = bytesOf "6k1/1bn1n3/5n2/3p4/4P3/8/8/3Q2K1" in
     let bbs : List ℕ = bitboardsOf bytes in

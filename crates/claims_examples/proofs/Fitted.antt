@@ -36,7 +36,8 @@ half-fitted = refl
 -- BQQQQQQQ/QQQQQQBQ/QQQRNkQQ/KQBBQQRR/RQQRNQQB/NQQBQQQQ/QQQQRQQQ/QBQQQQQQ b: 266/(30·2^37) above 1610702/30, some 6.45 hundred-billionths of a point
 abbrev full : List ℕ
 full =
-    0xffffdfffffffffff ∷ 0x200000000000 ∷ 0 ∷ 0 ∷ 0x100010010000 ∷ 0 ∷ 0x100000000 ∷ 0x200000000000 ∷ 0x140000c80080002 ∷ 0 ∷ 0x8c009001000 ∷ 0 ∷ 0xfebfc73266f6effd ∷ 0 ∷ []
+    0xffffdfffffffffff ∷ 0x200000000000 ∷ 0 ∷ 0 ∷ 0x100010010000 ∷ 0 ∷ 0x100000000 ∷ 0x200000000000 ∷ 0x140000c80080002 ∷ 0 ∷ 0x8c009001000 ∷ 0
+    ∷ 0xfebfc73266f6effd ∷ 0 ∷ []
 
 full-exact : exactBy shippedWhole (traceOf full 1) (λ i. pos (entryAt full i)) ≡ pos 1610702
 unfolding exactBy traceOf entryAt squareWeight

@@ -94,7 +94,8 @@ unfolding toldIn
 laterTold mode = toldIn mode order (ofSide white) laterCase "b1" "b8"
 
 later-told : laterTold Second ∷ laterTold First ∷ []
-    ≡ (capture "b1" queen 304 ∷ capture "d8" rook 1013 ∷ capture "a7" pawn 1400 ∷ []) ∷ (capture "b1" queen 304 ∷ capture "d8" rook 1013 ∷ capture "a7" pawn 487 ∷ []) ∷ []
+    ≡ (capture "b1" queen 304 ∷ capture "d8" rook 1013 ∷ capture "a7" pawn 1400 ∷ [])
+    ∷ (capture "b1" queen 304 ∷ capture "d8" rook 1013 ∷ capture "a7" pawn 487 ∷ []) ∷ []
 unfolding laterTold
 later-told = refl
 

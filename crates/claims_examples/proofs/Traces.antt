@@ -38,7 +38,8 @@ crowd-exact = refl
 abbrev pub pawnUp : List ℕ
 pawnUp = 0x1010 ∷ 0x1000000000000000 ∷ 0x1000 ∷ 0 ∷ 0 ∷ 0 ∷ 0x10 ∷ 0x1000000000000000 ∷ 0 ∷ 0 ∷ 0 ∷ 0 ∷ 0 ∷ 0 ∷ []
 
-pawn-entries : entryAt pawnUp 24 ∷ entryAt pawnUp 648 ∷ entryAt pawnUp 649 ∷ entryAt pawnUp 25 ∷ entryAt pawnUp 104 ∷ entryAt pawnUp 761 ∷ [] ≡ 1 ∷ 1 ∷ 1 ∷ 0 ∷ 0 ∷ 0 ∷ []
+pawn-entries : entryAt pawnUp 24 ∷ entryAt pawnUp 648 ∷ entryAt pawnUp 649 ∷ entryAt pawnUp 25 ∷ entryAt pawnUp 104 ∷ entryAt pawnUp 761 ∷ [] ≡ 1 ∷ 1
+    ∷ 1 ∷ 0 ∷ 0 ∷ 0 ∷ []
 unfolding entryAt
 pawn-entries = refl
 

@@ -43,7 +43,8 @@ module _ (side to : ℕ) where
 
 -- ---- what the first capture takes and leaves
 module _ (mode : Mode) (bbs bytes : List ℕ) (state : State) (from to : ℕ) where
-  pub passing-there : takesPassing mode bytes state from to ≡ true → emptied (occupied bbs) (passedPawn (state .side) to) ≡ firstThere mode bbs bytes state from to
+  pub passing-there : takesPassing mode bytes state from to ≡ true → emptied (occupied bbs) (passedPawn (state .side) to)
+      ≡ firstThere mode bbs bytes state from to
   unfolding firstThere
   passing-there e = sym (ap (λ (t : Bool). cond t (emptied (occupied bbs) (passedPawn (state .side) to)) (occupied bbs)) e)
 
@@ -62,7 +63,8 @@ module _ (mode : Mode) (bbs bytes : List ℕ) (state : State) (from to : ℕ) wh
 
   -- the parts of what was begun, each by the calls that gave it
   module _ (kind target all : ℕ) (p : Bool) (ek : kind ≡ kindOn bytes from) (ep : p ≡ promoted kind) (et : target ≡ firstTaken mode bytes state from to)
-      (ea : all ≡ firstThere mode bbs bytes state from to) (taken last there : ℕ) (ew : taken ≡ takenBy p (valueOf target)) (eb : last ≡ becomes p kind) (el : there ≡ emptied all from) where
+      (ea : all ≡ firstThere mode bbs bytes state from to) (taken last there : ℕ) (ew : taken ≡ takenBy p (valueOf target))
+      (eb : last ≡ becomes p kind) (el : there ≡ emptied all from) where
     pub begins : BeginsCaptures mode bbs bytes state from to (record { kind = kind; taken = taken; last = last; there = there })
     begins = record {
       by = ek;
@@ -77,6 +79,12 @@ pub all-followed : (mode : Mode) (kinds bbs bytes : List ℕ) (state : State) (f
 all-followed mode kinds bbs bytes state from to b h =
     let rest : ℕ → ℕ → List Capture = λ o k. recaptures kinds bbs (attackers bbs to) (promotes mode to) 31 o (other (state .side)) (valueOf k) in
     ap₂ (λ (k t : ℕ). record { from = from; kind = k; taken = t } ∷ rest (b .there) (b .last)) (h .by) (h .takes)
-    ∙ ap₂ (λ (o k : ℕ). record { from = from; kind = kindOn bytes from; taken = takenBy (promotes mode to (state .side) (kindOn bytes from)) (valueOf (firstTaken mode bytes state from to)) } ∷ rest o k)
+    ∙ ap₂ (λ (o k : ℕ). record {
+      from = from;
+      kind = kindOn bytes from;
+      taken =
+          takenBy (promotes mode to (state .side) (kindOn bytes from)) (valueOf (firstTaken mode bytes state from to));
+    } ∷ rest o k)
     (h .left) (h .stays)
-    ∙ sym (forced kinds bbs (attackers bbs to) (promotes mode to) 31 (firstThere mode bbs bytes state from to) (state .side) from (kindOn bytes from) (valueOf (firstTaken mode bytes state from to)))
+    ∙ sym (forced kinds bbs (attackers bbs to) (promotes mode to) 31 (firstThere mode bbs bytes state from to) (state .side) from (kindOn bytes from)
+    (valueOf (firstTaken mode bytes state from to)))

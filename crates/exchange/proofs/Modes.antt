@@ -27,22 +27,27 @@ module _ (kinds bbs : List ℕ) (afresh : ℕ → ℕ) (p q : ℕ → ℕ → Bo
       ⊎-elim
       (λ e. stops kinds bbs afresh p (suc n) occ colour value e ∙ sym (stops kinds bbs afresh q (suc n) occ colour value e))
       (λ w. goes kinds bbs afresh p n occ colour value (w .square) (w .kind) (w .is)
-      ∙ ap (λ (t : Bool). record { from = w .square; kind = w .kind; taken = takenBy t value } ∷ recaptures kinds bbs afresh p n (emptied occ (w .square)) (other colour) (valueOf (becomes t (w .kind))))
+      ∙ ap (λ (t : Bool). record { from = w .square; kind = w .kind; taken = takenBy t value }
+      ∷ recaptures kinds bbs afresh p n (emptied occ (w .square)) (other colour) (valueOf (becomes t (w .kind))))
       (same colour (w .kind))
       ∙ ap (λ (l : List Capture). made kinds bbs afresh q colour (w .square) (w .kind) value ∷ l)
       (same-later n (emptied occ (w .square)) (other colour) (stays kinds bbs afresh q colour (w .kind)))
       ∙ sym (goes kinds bbs afresh q n occ colour value (w .square) (w .kind) (w .is)))
       (which (next kinds bbs afresh p colour occ))
 
-  same-captures : (n occ colour from kind value : ℕ) → captures kinds bbs afresh p n occ colour from kind value ≡ captures kinds bbs afresh q n occ colour from kind value
+  same-captures : (n occ colour from kind value : ℕ) → captures kinds bbs afresh p n occ colour from kind value
+      ≡ captures kinds bbs afresh q n occ colour from kind value
   same-captures n occ colour from kind value =
       forced kinds bbs afresh p n occ colour from kind value
-      ∙ ap (λ (t : Bool). record { from = from; kind = kind; taken = takenBy t value } ∷ recaptures kinds bbs afresh p n (emptied occ from) (other colour) (valueOf (becomes t kind))) (same colour kind)
-      ∙ ap (λ (l : List Capture). made kinds bbs afresh q colour from kind value ∷ l) (same-later n (emptied occ from) (other colour) (stays kinds bbs afresh q colour kind))
+      ∙ ap (λ (t : Bool). record { from = from; kind = kind; taken = takenBy t value }
+      ∷ recaptures kinds bbs afresh p n (emptied occ from) (other colour) (valueOf (becomes t kind))) (same colour kind)
+      ∙ ap (λ (l : List Capture). made kinds bbs afresh q colour from kind value ∷ l)
+      (same-later n (emptied occ from) (other colour) (stays kinds bbs afresh q colour kind))
       ∙ sym (forced kinds bbs afresh q n occ colour from kind value)
 
 -- ---- both modes
-module _ (kinds bbs bytes : List ℕ) (state : State) (from to : ℕ) (not-8 : onRank 8 to ≡ false) (not-1 : onRank 1 to ≡ false) (not-passing : takesPassing Second bytes state from to ≡ false) where
+module _ (kinds bbs bytes : List ℕ) (state : State) (from to : ℕ) (not-8 : onRank 8 to ≡ false) (not-1 : onRank 1 to ≡ false)
+    (not-passing : takesPassing Second bytes state from to ≡ false) where
   none-promotes : (colour kind : ℕ) → promotes Second to colour kind ≡ promotes First to colour kind
   none-promotes colour kind = ap (λ (t : Bool). eqb kind 0 && t) (go (eqb colour 0)) ∙ and-false (eqb kind 0)
     where
@@ -53,9 +58,11 @@ module _ (kinds bbs bytes : List ℕ) (state : State) (from to : ℕ) (not-8 : o
   pub same-mode : capturesOf Second kinds bbs bytes state from to ≡ capturesOf First kinds bbs bytes state from to
   same-mode =
       captures-are Second kinds bbs bytes state from to
-      ∙ same-captures kinds bbs (attackers bbs to) (promotes Second to) (promotes First to) none-promotes 64 (firstThere Second bbs bytes state from to) (state .side) from (kindOn bytes from) _
+      ∙ same-captures kinds bbs (attackers bbs to) (promotes Second to) (promotes First to) none-promotes 64
+      (firstThere Second bbs bytes state from to) (state .side) from (kindOn bytes from) _
       ∙ ap₂ (λ (o k : ℕ). captures kinds bbs (attackers bbs to) (promotes First to) 64 o (state .side) from (kindOn bytes from) (valueOf k))
-      (sym (all-there Second bbs bytes state from to not-passing) ∙ all-there First bbs bytes state from to refl) (sym (target-taken Second bbs bytes state from to not-passing))
+      (sym (all-there Second bbs bytes state from to not-passing) ∙ all-there First bbs bytes state from to refl)
+      (sym (target-taken Second bbs bytes state from to not-passing))
       ∙ sym (captures-are First kinds bbs bytes state from to)
 
   pub same-worth : exchangeOf Second kinds bbs bytes state from to ≡ exchangeOf First kinds bbs bytes state from to

@@ -46,18 +46,25 @@ module _ (bbs bytes : List ℕ) (e : consistent bbs bytes ≡ true) where
       let there : s ≡ to = eqb-true s to i in
       let q = and-r (stands bytes s 0) (onRank 6 s && stands bytes (s - 8) 3) (true-T j) in
       let r : s / 8 + 1 ≡ 6 = eqb-true (s / 8 + 1) 6 (T-true (onRank 6 s) (and-l (onRank 6 s) (stands bytes (s - 8) 3) q)) in
-      let small : to - 8 < 64 = omega arith in
-      (small, of-byte (to - 8) 3 1 small (omega arith) refl (ap (λ (k : ℕ). stands bytes (k - 8) 3) (sym there) ∙ T-true (stands bytes (s - 8) 3) (and-r (onRank 6 s) (stands bytes (s - 8) 3) q)))
+      let small : to - 8 < 64 = omega arith in (
+        small,
+        of-byte (to - 8) 3 1 small (omega arith) refl (ap (λ (k : ℕ). stands bytes (k - 8) 3) (sym there)
+            ∙ T-true (stands bytes (s - 8) 3) (and-r (onRank 6 s) (stands bytes (s - 8) 3) q)),
+      )
   pawn-passed (suc zero) (On s) to h j i =
       let there : s ≡ to = eqb-true s to i in
       let q = and-r (stands bytes s 0) (onRank 3 s && stands bytes (s + 8) 2) (true-T j) in
       let r : s / 8 + 1 ≡ 3 = eqb-true (s / 8 + 1) 3 (T-true (onRank 3 s) (and-l (onRank 3 s) (stands bytes (s + 8) 2) q)) in
-      let small : to + 8 < 64 = omega arith in
-      (small, of-byte (to + 8) 2 0 small (omega arith) refl (ap (λ (k : ℕ). stands bytes (k + 8) 2) (sym there) ∙ T-true (stands bytes (s + 8) 2) (and-r (onRank 3 s) (stands bytes (s + 8) 2) q)))
+      let small : to + 8 < 64 = omega arith in (
+        small,
+        of-byte (to + 8) 2 0 small (omega arith) refl (ap (λ (k : ℕ). stands bytes (k + 8) 2) (sym there)
+            ∙ T-true (stands bytes (s + 8) 2) (and-r (onRank 3 s) (stands bytes (s + 8) 2) q)),
+      )
   pawn-passed (suc (suc side)) (On s) to h j i = absurd (omega arith)
 
 -- the target of a capture en passant is the position's square
-pub at-passant : (mode : Mode) (bytes : List ℕ) (state : State) (from to : ℕ) → takesPassing mode bytes state from to ≡ true → isPassant (state .passant) to ≡ true
+pub at-passant : (mode : Mode) (bytes : List ℕ) (state : State) (from to : ℕ) → takesPassing mode bytes state from to ≡ true
+    → isPassant (state .passant) to ≡ true
 at-passant First bytes state from to e = absurd (true≢false (sym e))
 at-passant Second bytes state from to e = T-true (isPassant (state .passant) to) (and-r (eqb (kindOn bytes from) 0) (isPassant (state .passant) to) (true-T e))
 
@@ -92,7 +99,8 @@ module _ (mode : Mode) (kinds bbs bytes : List ℕ) (state : State) (from to : �
       ))
 
   -- the passed pawn, which has left
-  passing-31 : justPassed bytes side (state .passant) ≡ true → takesPassing mode bytes state from to ≡ true → length (capturesOf mode kinds bbs bytes state from to) ≤ 31
+  passing-31 : justPassed bytes side (state .passant) ≡ true → takesPassing mode bytes state from to ≡ true
+      → length (capturesOf mode kinds bbs bytes state from to) ≤ 31
   passing-31 rule e =
       let s : ℕ = passedPawn side to in
       let w = pawn-passed bbs bytes sound side (state .passant) to hs rule (at-passant mode bytes state from to e) in
@@ -107,7 +115,8 @@ module _ (mode : Mode) (kinds bbs bytes : List ℕ) (state : State) (from to : �
         few-pieces bbs few,
         one-less (occupied bbs) s (w .0) (stands-there bbs (other side) s (w .0) (other-lt side) (w .1)),
         one-less (emptied (occupied bbs) s) from hf (kept (occupied bbs) s from hf there apart),
-        at-most-pieces kinds bbs (attackers bbs to) queening 64 (emptied (emptied (occupied bbs) s) from) (other side) (stays kinds bbs (attackers bbs to) queening side (kindOn bytes from)),
+        at-most-pieces kinds bbs (attackers bbs to) queening 64 (emptied (emptied (occupied bbs) s) from) (other side)
+            (stays kinds bbs (attackers bbs to) queening side (kindOn bytes from)),
       ))
 
   pub at-most-31 : justPassed bytes side (state .passant) ≡ true → length (capturesOf mode kinds bbs bytes state from to) ≤ 31

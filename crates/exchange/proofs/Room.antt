@@ -1,4 +1,5 @@
--- Where nothing is refused there are at most 32 pieces, one of them on the start, so that the code's room is enough: all the captures are listed. Assumes nothing.
+-- Where nothing is refused there are at most 32 pieces, one of them on the start, so that the code's room is enough: all the captures are listed.
+-- Assumes nothing.
 use mathlib.Core.Path.{_≡_, refl, sym, ap, _∙_}
 use mathlib.Core.Bool.{Bool, true, false, cond, _||_, or-true}
 use mathlib.Core.List.{List}
@@ -62,7 +63,8 @@ module _ (mode : Mode) (kinds bbs bytes : List ℕ) (state : State) (from to : �
   pub all-listed : from < 64 → state .side < 2 → mayCapture mode bbs bytes state from to ≡ true → uncrowded bbs ≡ true
       → capturesWith mode kinds bbs bytes state from to ≡ capturesOf mode kinds bbs bytes state from to
   all-listed h l m u =
-      let few = thirty-one mode bbs bytes state from to (few-pieces bbs u) h (stands-there bbs (state .side) from h l (own-there mode bbs bytes state from to m)) in
+      let few = thirty-one mode bbs bytes state from to (few-pieces bbs u) h
+      (stands-there bbs (state .side) from h l (own-there mode bbs bytes state from to m)) in
       never-out kinds bbs (attackers bbs to) (promotes mode to) 31 64 there (state .side) from first target few (omega (arith, few))
       ∙ sym captures-are
 

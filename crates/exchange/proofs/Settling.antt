@@ -62,7 +62,8 @@ module _ (mode : Mode) (kinds bbs bytes : List ℕ) (state : State) (from to : �
       rw (settled-up value (valuesTaken later))
       (abs-minus (pos value) (pos (aboveZero (settled (valuesTaken later)))) 10913 10913
       (le-trans (taken-le promoted target) (add-le target 913 (value-le (firstTaken mode bytes state from to))))
-      (le-trans (gains-at-most kinds bbs (attackers bbs to) (promotes mode to) 31 (emptied there from) (other (state .side)) (valueOf stands)) (add-le (valueOf stands) 913 (value-le stands))))
+      (le-trans (gains-at-most kinds bbs (attackers bbs to) (promotes mode to) 31 (emptied there from) (other (state .side)) (valueOf stands))
+      (add-le (valueOf stands) 913 (value-le stands))))
     where
       add-le : (v n : ℕ) → v ≤ 10000 → v + n ≤ 10000 + n
       add-le v n h = omega arith

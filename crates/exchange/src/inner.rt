@@ -187,7 +187,8 @@ fn follow(
     }
 }
 
-// The captures on `to` that the piece on `from` starts, by the kinds in the order given. With 32 pieces there are at most 31, and so they come to an end before MOST.
+// The captures on `to` that the piece on `from` starts, by the kinds in the order given. With 32 pieces there are at most 31, and so they come to an
+// end before MOST.
 pub fn list(
     mode: Mode,
     bitboards: &[u64],

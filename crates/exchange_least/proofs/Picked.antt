@@ -67,7 +67,8 @@ pub record Comes (bbs : List ℕ) (colour attacks occ s kind : ℕ) : Type 0 whe
 of-kind : (bbs : List ℕ) (kind colour attacks occ s : ℕ) → s < 64 → has (stillThere bbs kind colour attacks occ) s ≡ true → Comes bbs colour attacks occ s kind
 unfolding stillThere
 of-kind bbs kind colour attacks occ s h e =
-    let t : T (has attacks s && has occ s && has (standing bbs kind colour) s) = true-T (sym (has-those 64 (λ k. has attacks k && has occ k && has (standing bbs kind colour) k) s h) ∙ e) in
+    let t : T (has attacks s && has occ s && has (standing bbs kind colour) s) =
+    true-T (sym (has-those 64 (λ k. has attacks k && has occ k && has (standing bbs kind colour) k) s h) ∙ e) in
     let u : T (has attacks s && has occ s) = and-l (has attacks s && has occ s) (has (standing bbs kind colour) s) t in
     record {
       on-board = h;
@@ -76,7 +77,8 @@ of-kind bbs kind colour attacks occ s h e =
       its-kind = T-true (has (standing bbs kind colour) s) (and-r (has attacks s && has occ s) (has (standing bbs kind colour) s) t);
     }
 
-split : (t : Bool) (later : Attacker) (x kind s k : ℕ) → cond t later (attacker x kind) ≡ attacker s k → (later ≡ attacker s k) ⊎ ((t ≡ false) × (x ≡ s) × (kind ≡ k))
+split : (t : Bool) (later : Attacker) (x kind s k : ℕ) → cond t later (attacker x kind) ≡ attacker s k → (later ≡ attacker s k)
+    ⊎ ((t ≡ false) × (x ≡ s) × (kind ≡ k))
 split true later x kind s k e = inl e
 split false later x kind s k e = inr (refl, cc, cc)
 
@@ -91,9 +93,11 @@ comes (kind ∷ kinds) bbs colour attacks occ s k e =
     b : ℕ
     b = stillThere bbs kind colour attacks occ
 
-    here : eqb (stillThere bbs kind colour attacks occ) 0 ≡ false → lowestOf (stillThere bbs kind colour attacks occ) ≡ s → kind ≡ k → Comes bbs colour attacks occ s k
+    here : eqb (stillThere bbs kind colour attacks occ) 0 ≡ false → lowestOf (stillThere bbs kind colour attacks occ) ≡ s → kind ≡ k
+        → Comes bbs colour attacks occ s k
     here f x y =
         let ne : b ≡ 0 → ⊥ = eqb-false (stillThere bbs kind colour attacks occ) 0 f in
         subst (λ (q : ℕ). Comes bbs colour attacks occ s q) y
         (subst (λ (q : ℕ). Comes bbs colour attacks occ q kind) x
-        (of-kind bbs kind colour attacks occ (lowestOf b) (lowest-lt b (there-lt bbs kind colour attacks occ) ne) (lowest-in b (there-lt bbs kind colour attacks occ) ne)))
+        (of-kind bbs kind colour attacks occ (lowestOf b) (lowest-lt b (there-lt bbs kind colour attacks occ) ne)
+        (lowest-in b (there-lt bbs kind colour attacks occ) ne)))

@@ -97,7 +97,8 @@ module _ (kinds : List ℕ) where
   all-once : packed 6 kinds ≡ 1118481 → eachOnce kinds ≡ true
   all-once q =
       let w = ones (t 0) (t 1) (t 2) (t 3) (t 4) (t 5)
-      (times-le 6 kinds 0) (times-le 6 kinds 1) (times-le 6 kinds 2) (times-le 6 kinds 3) (times-le 6 kinds 4) (times-le 6 kinds 5) (sym (packed-is 6 kinds) ∙ q) in
+      (times-le 6 kinds 0) (times-le 6 kinds 1) (times-le 6 kinds 2) (times-le 6 kinds 3) (times-le 6 kinds 4) (times-le 6 kinds 5)
+      (sym (packed-is 6 kinds) ∙ q) in
       rw (once-is, w .0, w .1, w .2, w .3, w .4, w .5) refl
 
   -- and back

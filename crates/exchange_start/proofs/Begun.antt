@@ -1,4 +1,5 @@
--- What the test before an exchange returns once the position has passed its own: one law for each return; and what a call knows after it, or passes on. Assumes nothing.
+-- What the test before an exchange returns once the position has passed its own: one law for each return; and what a call knows after it, or passes
+-- on. Assumes nothing.
 use mathlib.Core.Path.{_≡_, refl, sym, ap, _∙_}
 use mathlib.Core.Bool.{Bool, true, false, and-false}
 use mathlib.Core.List.{List}
@@ -75,8 +76,10 @@ module _ (mode : Mode) (kinds bbs bytes : List ℕ) (state : State) (from to : �
   pub answered-knows : {A : Type 0} (x z : A) → given z ≡ behind mode kinds bbs bytes state from to x → Begun mode kinds bbs bytes state from to
   answered-knows x z e =
       let p = through bbs bytes state (rest mode kinds bbs bytes state from to x) z (sym e) in
-      let q = passed (bothOnBoard from to) R.Square z (orRefuse (eachOnce kinds) R.Order (orRefuse (mayCapture mode bbs bytes state from to) R.Move (orRefuse (uncrowded bbs) R.Crowd (given x)))) (p .1) in
-      let o = passed (eachOnce kinds) R.Order z (orRefuse (mayCapture mode bbs bytes state from to) R.Move (orRefuse (uncrowded bbs) R.Crowd (given x))) (q .1) in
+      let q = passed (bothOnBoard from to) R.Square z (orRefuse (eachOnce kinds) R.Order
+      (orRefuse (mayCapture mode bbs bytes state from to) R.Move (orRefuse (uncrowded bbs) R.Crowd (given x)))) (p .1) in
+      let o = passed (eachOnce kinds) R.Order z (orRefuse (mayCapture mode bbs bytes state from to) R.Move
+      (orRefuse (uncrowded bbs) R.Crowd (given x))) (q .1) in
       let m = passed (mayCapture mode bbs bytes state from to) R.Move z (orRefuse (uncrowded bbs) R.Crowd (given x)) (o .1) in
       let u = passed (uncrowded bbs) R.Crowd z (given x) (m .1) in
       record { fits = p .0; on-board = q .0; an-order = o .0; may = m .0; few = u .0 }

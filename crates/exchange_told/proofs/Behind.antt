@@ -26,20 +26,24 @@ unfolding toldOf
 told-is mode kinds bbs bytes state from to = refl
 
 -- ---- after the test of a capture
-module _ (mode : Mode) (kinds bbs bytes : List ℕ) (state : State) (from to : ℕ) (r : Checked) (promise : BeginsExchange mode kinds bbs bytes state from to r) where
+module _ (mode : Mode) (kinds bbs bytes : List ℕ) (state : State) (from to : ℕ) (r : Checked)
+    (promise : BeginsExchange mode kinds bbs bytes state from to r) where
   pub told-fit : r ≡ Fit → theCaptures (toldOf mode kinds bbs bytes state from to) ≡ capturesWith mode kinds bbs bytes state from to
   told-fit e =
       let k = knows mode kinds bbs bytes state from to r promise e in
-      ap theCaptures (told-is mode kinds bbs bytes state from to ∙ sym (tells mode kinds bbs bytes state from to r promise (capturesOf mode kinds bbs bytes state from to) e))
+      ap theCaptures (told-is mode kinds bbs bytes state from to ∙ sym
+      (tells mode kinds bbs bytes state from to r promise (capturesOf mode kinds bbs bytes state from to) e))
       ∙ sym (all-listed mode kinds bbs bytes state from to (from-on k) (a-side k) (k .may) (k .few))
 
   pub told-refused : (q : Refusal) → r ≡ Refused q → theCaptures (toldOf mode kinds bbs bytes state from to) ≡ []
   told-refused q e =
-      ap theCaptures (told-is mode kinds bbs bytes state from to ∙ sym (passes-on mode kinds bbs bytes state from to r promise (capturesOf mode kinds bbs bytes state from to) q e))
+      ap theCaptures (told-is mode kinds bbs bytes state from to ∙ sym
+      (passes-on mode kinds bbs bytes state from to r promise (capturesOf mode kinds bbs bytes state from to) q e))
 
 -- ---- the arrays' part that is used
 module _ (mode : Mode) (kinds bbs bytes : List ℕ) (state : State) (from to n : ℕ) (array : List ℕ)
-    (en : n ≡ length (capturesWith mode kinds bbs bytes state from to)) (ea : array ≡ column 32 (λ c. c .taken) (capturesWith mode kinds bbs bytes state from to)) where
+    (en : n ≡ length (capturesWith mode kinds bbs bytes state from to))
+    (ea : array ≡ column 32 (λ c. c .taken) (capturesWith mode kinds bbs bytes state from to)) where
   pub values-are : take (n - 0) array ≡ valuesTaken (capturesWith mode kinds bbs bytes state from to)
   values-are =
       ap₂ (λ (m : ℕ) (l : List ℕ). take m l) (sub-zero n ∙ en) ea

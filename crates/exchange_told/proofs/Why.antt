@@ -1,4 +1,5 @@
--- The captures before the stopping point, or all of them when played out, take values that add up with alternating signs to what the exchange is worth: in either mode and
+-- The captures before the stopping point, or all of them when played out, take values that add up with alternating signs to what the exchange is
+-- worth: in either mode and
 -- for every order, over the definitions, and of what the two doors answer. Assumes nothing.
 use mathlib.Core.Path.{_≡_, sym, ap, ap₂, subst, _∙_}
 use mathlib.Core.List.{List}
@@ -31,7 +32,8 @@ module _ (mode : Mode) (kinds bbs bytes : List ℕ) (state : State) (from to : �
   cs = capturesOf mode kinds bbs bytes state from to
 
   worth-is : exchangeOf mode kinds bbs bytes state from to ≡ settled (valuesTaken cs)
-  worth-is = exchange-is mode kinds bbs bytes state from to ∙ ap (λ (l : List Capture). settled (valuesTaken l)) (sym (captures-are mode kinds bbs bytes state from to))
+  worth-is = exchange-is mode kinds bbs bytes state from to ∙ ap (λ (l : List Capture). settled (valuesTaken l))
+      (sym (captures-are mode kinds bbs bytes state from to))
 
   sum-is : alternating (carriedOut (theStop cs) (valuesTaken cs)) ≡ exchangeOf mode kinds bbs bytes state from to
   sum-is = adds-up (valuesTaken cs) ∙ sym worth-is
@@ -45,9 +47,11 @@ module _ (mode : Mode) (kinds bbs bytes : List ℕ) (state : State) (from to : �
       let worth : ℤ = exchangeOf mode kinds bbs bytes state from to in
       let b = answered-knows mode kinds bbs bytes state from to worth z q in
       let few : length cs ≤ 32 =
-      subst (λ (l : List Capture). length l ≤ 32) (all-listed mode kinds bbs bytes state from to (from-on b) (a-side b) (b .may) (b .few)) (at-most-32 mode kinds bbs bytes state from to) in
+      subst (λ (l : List Capture). length l ≤ 32) (all-listed mode kinds bbs bytes state from to (from-on b) (a-side b) (b .may) (b .few))
+      (at-most-32 mode kinds bbs bytes state from to) in
       let is : z ≡ worth = same-given (q ∙ sym (all-answered mode kinds bbs bytes state from to worth b)) in
-      let e : theCaptures (toldOf mode kinds bbs bytes state from to) ≡ cs = ap theCaptures (told-is mode kinds bbs bytes state from to ∙ sym (all-answered mode kinds bbs bytes state from to cs b)) in
+      let e : theCaptures (toldOf mode kinds bbs bytes state from to) ≡ cs =
+      ap theCaptures (told-is mode kinds bbs bytes state from to ∙ sym (all-answered mode kinds bbs bytes state from to cs b)) in
       let h : HoldsCaptures cs (r .listed) = subst (λ (l : List Capture). HoldsCaptures l (r .listed)) e (p .1) in
       ap₂ (λ (t : Stop) (vs : List ℕ). alternating (carriedOut t vs)) (p .2 ∙ ap theStop e) (used (r .listed) h few) ∙ sum-is ∙ sym is
 

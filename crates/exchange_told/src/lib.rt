@@ -31,8 +31,8 @@ fn none() -> Listed
     }
 }
 
-// The captures that the piece on `from` starts on `to`, in a mode and the kinds capturing in the order: SHAPE, OVERLAP, UNION, BYTEBOARD, RIGHTS, PASSANT, COUNTER,
-// SQUARE, ORDER, MOVE, CROWD.
+// The captures that the piece on `from` starts on `to`, in a mode and the kinds capturing in the order: SHAPE, OVERLAP, UNION, BYTEBOARD, RIGHTS,
+// PASSANT, COUNTER, SQUARE, ORDER, MOVE, CROWD.
 pub fn captures(
     mode: Mode,
     bitboards: &[u64],

@@ -56,7 +56,8 @@ module _ (bbs : List ℕ) where
 
   one-man : (colour : ℕ) → oneKing bbs colour ≡ true → leb (howMany 64 (has (standing bbs 5 colour))) 1 ≡ true
   unfolding oneKing count
-  one-man colour e = le-leb (howMany 64 (has (standing bbs 5 colour))) 1 (one-le (howMany 64 (has (standing bbs 5 colour))) (eqb-true (howMany 64 (has (standing bbs 5 colour))) 1 e))
+  one-man colour e = le-leb (howMany 64 (has (standing bbs 5 colour))) 1
+      (one-le (howMany 64 (has (standing bbs 5 colour))) (eqb-true (howMany 64 (has (standing bbs 5 colour))) 1 e))
 
   both : howMany 64 (has (occupied bbs)) ≡ howMany 64 (λ k. has (getD bbs 0 0) k || has (getD bbs 1 0) k)
   unfolding occupied
@@ -70,7 +71,8 @@ module _ (bbs : List ℕ) where
       ap₂ _&&_
       (ap₂ _&&_
       (le-leb (howMany 64 (has (occupied bbs))) 32
-      (add-up (howMany 64 (has (occupied bbs))) (howMany 64 (λ k. has (getD bbs 0 0) k || has (getD bbs 1 0) k)) (howMany 64 (has (getD bbs 0 0))) (howMany 64 (has (getD bbs 1 0))) both
+      (add-up (howMany 64 (has (occupied bbs))) (howMany 64 (λ k. has (getD bbs 0 0) k || has (getD bbs 1 0) k)) (howMany 64 (has (getD bbs 0 0)))
+      (howMany 64 (has (getD bbs 1 0))) both
       (many-or 64 (has (getD bbs 0 0)) (has (getD bbs 1 0))) (few-men 0 (first (fewPieces bbs) p)) (few-men 1 (second (fewPieces bbs) p))))
       (one-man 0 (first (oneKing bbs) k)))
       (one-man 1 (second (oneKing bbs) k))

@@ -19,7 +19,8 @@ NotCrowd a = a ≡ refusalOf R.Crowd → ⊥
 
 -- whatever capture is asked of it, in either mode and by whatever order of the kinds
 abbrev pub NeverCrowd : Type 0
-NeverCrowd = (mode : Mode) (kinds bbs bytes : List ℕ) (state : State) (from to : ℕ) → FromRealPlay bbs state → NotCrowd (seeOf mode kinds bbs bytes state from to)
+NeverCrowd = (mode : Mode) (kinds bbs bytes : List ℕ) (state : State) (from to : ℕ) → FromRealPlay bbs state
+    → NotCrowd (seeOf mode kinds bbs bytes state from to)
 
 -- the same of the position of a line that passes
 abbrev pub LineNeverCrowd : Type 0

@@ -31,7 +31,8 @@ unfolding made alternating settled
 come-to [] = refl
 come-to (v ∷ vs) = go (notAbove (settled (v ∷ vs))) refl (come-to vs)
   where
-    go : (t : Bool) → notAbove (settled (v ∷ vs)) ≡ t → alternating (made vs) ≡ orZero (settled vs) → alternating (cond t [] (v ∷ made vs)) ≡ orZero (settled (v ∷ vs))
+    go : (t : Bool) → notAbove (settled (v ∷ vs)) ≡ t → alternating (made vs) ≡ orZero (settled vs)
+        → alternating (cond t [] (v ∷ made vs)) ≡ orZero (settled (v ∷ vs))
     go true e ih = sym (costs (settled (v ∷ vs)) e)
     go false e ih = ap (λ (z : ℤ). pos v -ℤ z) ih ∙ sym (settled-cons v vs) ∙ sym (pays (settled (v ∷ vs)) e)
 
@@ -94,7 +95,8 @@ at-earliest k i (v ∷ vs) e = go (notAbove (settled (v ∷ vs))) refl e (at-ear
     earlier zero w p n = n
     earlier (suc j) w p n = w .pays-before j (omega arith)
 
-    go : (t : Bool) → notAbove (settled (v ∷ vs)) ≡ t → cond t (before k) (earliest (suc k) vs) ≡ before i → (earliest (suc k) vs ≡ before i → Earliest (suc k) i vs)
+    go : (t : Bool) → notAbove (settled (v ∷ vs)) ≡ t → cond t (before k) (earliest (suc k) vs) ≡ before i
+        → (earliest (suc k) vs ≡ before i → Earliest (suc k) i vs)
         → Earliest k i (v ∷ vs)
     go true n q ih =
         let z : i ≡ k = cc in
@@ -121,7 +123,13 @@ stop-means [] i e = absurd (out-before e)
 stop-means (v ∷ vs) zero e = absurd (omega (arith, at-earliest 1 zero vs e .from-k))
 stop-means (v ∷ vs) (suc i) e =
     let w : Earliest 1 (suc i) vs = at-earliest 1 (suc i) vs e in
-    record { after-the-first = omega arith; a-capture = omega (arith, w .there); not-above = w .costs-here i (omega arith); above-before = λ j h l. earlier w j h l }
+    record {
+      after-the-first = omega arith;
+      a-capture = omega (arith, w .there);
+      not-above = w .costs-here i (omega arith);
+      above-before =
+          λ j h l. earlier w j h l;
+    }
   where
     earlier : Earliest 1 (suc i) vs → (j : ℕ) → 1 ≤ j → j < suc i → notAbove (S (v ∷ vs) j) ≡ false
     earlier w zero h l = absurd (omega arith)

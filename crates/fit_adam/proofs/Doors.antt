@@ -48,7 +48,8 @@ module _ (g : List Float) (s : Fit) (rate : Float) where
   refused-iteration n e q = record { answer = rw (e, q); lent = rw (e, q) }
 
   -- by an iteration's powers, a step is the iteration's
-  pub by-powers : (n : ℕ) (powers : Powers) (r : Stepped) (t : Fit) → isIteration n ≡ true → powers ≡ powersOf n → MovesFrom g s powers rate r t → StepsFrom g s n rate r t
+  pub by-powers : (n : ℕ) (powers : Powers) (r : Stepped) (t : Fit) → isIteration n ≡ true → powers ≡ powersOf n → MovesFrom g s powers rate r t
+      → StepsFrom g s n rate r t
   by-powers n powers r t e p h =
       let q : movedOf g s powers rate ≡ fitStep g s n rate =
       ap (λ (x : Powers). movedOf g s x rate) p

@@ -18,7 +18,8 @@ second : secondMoment d0 d1 ≡ ofBits binary64 0x3f50_624d_d2f1_aa00
 unfolding secondMoment ofBits add sub mul round
 second = refl
 
-weight : weightMoved (power beta1 1) (power beta2 1) d1 (firstMoment d0 d1) (secondMoment d0 d1) (ofBits binary64 0x4073_0000_0000_0000) ≡ ofBits binary64 0x4072_f000_0002_af32
+weight : weightMoved (power beta1 1) (power beta2 1) d1 (firstMoment d0 d1) (secondMoment d0 d1) (ofBits binary64 0x4073_0000_0000_0000)
+    ≡ ofBits binary64 0x4072_f000_0002_af32
 unfolding weightMoved power firstMoment secondMoment rootOf ofBits add sub mul div round
 weight = refl
 

@@ -19,5 +19,6 @@ pub next-powers : (n : ℕ) → powersOf (suc n) ≡ powersNext (powersOf n)
 unfolding power
 next-powers n = refl
 
-pub kept-powers : (g : List Float) (s : Fit) (n : ℕ) (rate : Float) (r : Stepped) (t : Fit) → isIteration n ≡ true → MovesFrom g s (powersOf n) rate r t → StepsFrom g s n rate r t
+pub kept-powers : (g : List Float) (s : Fit) (n : ℕ) (rate : Float) (r : Stepped) (t : Fit) → isIteration n ≡ true
+    → MovesFrom g s (powersOf n) rate r t → StepsFrom g s n rate r t
 kept-powers g s n rate r t e h = by-powers g s rate n (powersOf n) r t e refl h

@@ -35,6 +35,7 @@ unfolding pointsAt coefficientOf table ofBits ofInt round add sub mul div
 won = refl
 
 -- 117.5 at K = 1.3 among 100,000 lines: 1.3 times it is 152.75, which counts as 152
-scaled : shareOf (bits 0x405d_6000_0000_0000) 2 (bits 0x3ff4_cccc_cccc_cccd) 100000 ≡ record { expected = bits 0x3fe6_95c2_0924_6bf0; coefficient = bits 0xbe43_a304_19c7_f7de }
+scaled : shareOf (bits 0x405d_6000_0000_0000) 2 (bits 0x3ff4_cccc_cccc_cccd) 100000
+    ≡ record { expected = bits 0x3fe6_95c2_0924_6bf0; coefficient = bits 0xbe43_a304_19c7_f7de }
 unfolding pointsAt coefficientOf table ofBits ofInt round add sub mul div
 scaled = refl

@@ -2,7 +2,8 @@
 use mathlib.Core.Path.{_≡_, refl, sym, ap, _∙_, subst}
 use mathlib.Core.Bool.{Bool, true, false, not, _&&_, _||_, true≢false}
 use Prim.Native.Nat.{ℕ, zero, suc, _+_, _-_, _*_, _/_, _^_, _≤_, _<_, min}
-use native.Mathlib.Nat.{le-trans, mul-one, zero-mul, le-antisymm, le-of-suc-le-suc, le-of-lt, le-of-eq, suc-mul, mul-right-comm, le-div-iff-mul-le, div-lt-iff-lt-mul, div-mul-le-self, div-eq-of-lt, lt-of-mul-lt-mul-right, le-of-mul-le-mul-right}
+use native.Mathlib.Nat.{le-trans, mul-one, zero-mul, le-antisymm, le-of-suc-le-suc, le-of-lt, le-of-eq, suc-mul, mul-right-comm, le-div-iff-mul-le}
+use native.Mathlib.Nat.{div-lt-iff-lt-mul, div-mul-le-self, div-eq-of-lt, lt-of-mul-lt-mul-right, le-of-mul-le-mul-right}
 use native.Mathlib.Numerals.{add-one}
 use native.Mathlib.Omega.{arith}
 use borrow.Author.Tests.{ltb-true, ltb-false, eqb-false, eqb-true, lt-ltb}
@@ -35,7 +36,8 @@ from-1600 n h = same-entry (pos 1600) (pos n) (one (counts-as (pos 1600) .over (
 
 to-1600 : (n : ℕ) → 1600 ≤ n → expectedPoints (negsuc 1599) ≡ expectedPoints (negℤ (pos n))
 to-1600 zero h = absurd (omega arith)
-to-1600 (suc n) h = same-entry (negsuc 1599) (negsuc n) (one (counts-as (negsuc 1599) .below (leZ-yes tt)) (counts-as (negsuc n) .below (leZ-yes (le→leb 1599 n (le-of-suc-le-suc h)))))
+to-1600 (suc n) h = same-entry (negsuc 1599) (negsuc n) (one (counts-as (negsuc 1599) .below (leZ-yes tt))
+    (counts-as (negsuc n) .below (leZ-yes (le→leb 1599 n (le-of-suc-le-suc h)))))
 
 -- ---- 2. n/d rounded up, d above 0
 module _ (n d : ℕ) (D : 0 < d) where
@@ -114,7 +116,8 @@ unfolding le lt eq ofBits pointsAt
 over nan h = absurd (true≢false (sym h))
 over (inf true) h = absurd (true≢false (sym h))
 over (inf false) h = refl
-over (fin true m e) h = absurd (some-1600 (down e) (down-pos e) (eqb-true (1600 * down e) 0 (both-r (eqb (1600 * down e) (m * up e * 1)) (eqb (1600 * down e) 0) h)))
+over (fin true m e) h = absurd (some-1600 (down e) (down-pos e) (eqb-true (1600 * down e) 0
+    (both-r (eqb (1600 * down e) (m * up e * 1)) (eqb (1600 * down e) 0) h)))
 over (fin false m e) h =
     from-1600 (m * up e / down e) (le-div-iff-mul-le (down-pos e) .1 (once (m * up e) (le-cases (1600 * down e) (m * up e * 1) h)))
   where
@@ -195,7 +198,8 @@ unfolding le lt eq ofBits pointsAt toUnsigned
 above nan h k = absurd (true≢false (sym k))
 above (inf true) h k = absurd (true≢false (sym k))
 above (inf false) h k = absurd (true≢false h)
-above (fin true m e) h k = above-zero m e (sym (eqb-true (0 * down e) (m * up e * 1) (both-l (eqb (0 * down e) (m * up e * 1)) (eqb (0 * down e) 0) k)) ∙ zero-mul (down e))
+above (fin true m e) h k = above-zero m e (sym (eqb-true (0 * down e) (m * up e * 1) (both-l (eqb (0 * down e) (m * up e * 1)) (eqb (0 * down e) 0) k))
+    ∙ zero-mul (down e))
 above (fin false m e) h k = above-some m e (lt-cases (1600 * down e) (m * up e * 1) h)
 
 -- ---- 4. below 0, from −1600 on: the code compares the whole part of −x with −x
@@ -262,8 +266,10 @@ module _ (m : ℕ) (e : ℤ) (most : m * up e * 1 ≤ 1600 * down e) where
     low = lt→ltb 0 (1 * down e + m * up e * 1) (first (m * up e) (down e) (down-pos e));
     high = lt→ltb (m * up e * 1) (1 * 2 ^ 64 * down e) (second (m * up e) (down e) (down-pos e) most);
     small = rw given-whole within;
-    above-whole = rw given-whole (λ t. ap (λ (z : ℕ). expectedPoints (negℤ (pos z))) (add-one (m * up e / down e) ∙ odd (m * up e) (down e) (down-pos e) (more (ofInt binary64 (pos whole-part)) whole-part m e value t)));
-    is-whole = rw given-whole (λ t. ap (λ (z : ℕ). expectedPoints (negℤ (pos z))) (even (m * up e) (down e) (down-pos e) (no-more (ofInt binary64 (pos whole-part)) whole-part m e value t)));
+    above-whole = rw given-whole (λ t. ap (λ (z : ℕ). expectedPoints (negℤ (pos z)))
+        (add-one (m * up e / down e) ∙ odd (m * up e) (down e) (down-pos e) (more (ofInt binary64 (pos whole-part)) whole-part m e value t)));
+    is-whole = rw given-whole (λ t. ap (λ (z : ℕ). expectedPoints (negℤ (pos z)))
+        (even (m * up e) (down e) (down-pos e) (no-more (ofInt binary64 (pos whole-part)) whole-part m e value t)));
   }
     where
       first : (n d : ℕ) → 0 < d → 0 < 1 * d + n * 1

@@ -25,6 +25,7 @@ pub add : (t : Trace) (entries : List ℤ) (c : Float) (before : List Float) (r 
     → AddsTrace t entries c before s last → (r ≡ s) × (after ≡ last)
 add t entries c before r s after last p q = (paper-one r s (one (p .answer) (q .answer)), one (p .lent) (q .lent))
 
-pub add-list : (t : Trace) (used : ℕ) (bytes : List ℕ) (c : Float) (before : List Float) (r s : Added) (after last : List Float) → AddsList t used bytes c before r after
+pub add-list : (t : Trace) (used : ℕ) (bytes : List ℕ) (c : Float) (before : List Float) (r s : Added) (after last : List Float)
+    → AddsList t used bytes c before r after
     → AddsList t used bytes c before s last → (r ≡ s) × (after ≡ last)
 add-list t used bytes c before r s after last p q = (paper-one r s (one (p .answer) (q .answer)), one (p .lent) (q .lent))

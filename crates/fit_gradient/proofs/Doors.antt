@@ -25,13 +25,25 @@ module _ (t : Trace) (es : List ℤ) (c : Float) (g : List Float) where
   unlike-entries n = record { answer = rw (ne-eqb (length es) 768 n); lent = rw (ne-eqb (length es) 768 n) }
 
   pub unlike-gradient : length es ≡ 768 → (length g ≡ 779 → ⊥) → AddsTrace t es c g (Refused R.Shape) g
-  unlike-gradient e n = record { answer = rw (eq-eqb (length es) 768 e, ne-eqb (length g) 779 n); lent = rw (eq-eqb (length es) 768 e, ne-eqb (length g) 779 n) }
+  unlike-gradient e n = record {
+    answer = rw (eq-eqb (length es) 768 e, ne-eqb (length g) 779 n);
+    lent =
+        rw (eq-eqb (length es) 768 e, ne-eqb (length g) 779 n);
+  }
 
   pub no-trace : length es ≡ 768 → length g ≡ 779 → (inRanges t && areEntries es) ≡ false → AddsTrace t es c g (Refused R.Trace) g
-  no-trace e f u = record { answer = simp (eq-eqb (length es) 768 e, eq-eqb (length g) 779 f, u); lent = simp (eq-eqb (length es) 768 e, eq-eqb (length g) 779 f, u) }
+  no-trace e f u = record {
+    answer = simp (eq-eqb (length es) 768 e, eq-eqb (length g) 779 f, u);
+    lent =
+        simp (eq-eqb (length es) 768 e, eq-eqb (length g) 779 f, u);
+  }
 
   pub worked : length es ≡ 768 → length g ≡ 779 → (inRanges t && areEntries es) ≡ true → (r : List Float) → r ≡ lineAdded t es c g → AddsTrace t es c g Done r
-  worked e f u r q = record { answer = simp (eq-eqb (length es) 768 e, eq-eqb (length g) 779 f, u); lent = simp (eq-eqb (length es) 768 e, eq-eqb (length g) 779 f, u) q }
+  worked e f u r q = record {
+    answer = simp (eq-eqb (length es) 768 e, eq-eqb (length g) 779 f, u);
+    lent =
+        simp (eq-eqb (length es) 768 e, eq-eqb (length g) 779 f, u) q;
+  }
 
   -- the code's way round
   pub line : length es ≡ 768 → (inRanges t && areEntries es) ≡ true → (named : List Float) (p : Parts) (x : ℤ) (mid r : List Float) → named ≡ namedParts t c

@@ -41,7 +41,8 @@ first : (p : Parts) (es : List ℤ) (g : List Float) → squaresBy p es g 0 ≡ 
 unfolding squaresBy
 first p es g = refl
 
-pub by-ones : (p : Parts) (es : List ℤ) (g : List Float) → T (areEntries es) → (n : ℕ) → n ≤ length es → squaresBy p es g n ≡ over (markOne p) g (ones (isOne es) n)
+pub by-ones : (p : Parts) (es : List ℤ) (g : List Float) → T (areEntries es) → (n : ℕ) → n ≤ length es
+    → squaresBy p es g n ≡ over (markOne p) g (ones (isOne es) n)
 by-ones p es g t n h =
     passed-over (markOne p) (isOne es) (squaresBy p es g) n (λ k l. next p es g k ∙ one p (squaresBy p es g k) k (mark-at es t k (omega arith)))
     ∙ ap (λ (s : List Float). over (markOne p) s (ones (isOne es) n)) (first p es g)
@@ -50,9 +51,11 @@ pub flat-line : (p : Parts) (es : List ℤ) (g : List Float) → length es ≡ 7
 unfolding onesIn
 flat-line p es g e t = by-ones p es g t 768 (omega arith)
 
-pub same-line : (p : Parts) (used : ℕ) (bytes : List ℕ) (g : List Float) → Listed used bytes → squaresBy p (flatOf (listPlaces bytes used)) g 768 ≡ over (markOne p) g (listPlaces bytes used)
+pub same-line : (p : Parts) (used : ℕ) (bytes : List ℕ) (g : List Float) → Listed used bytes
+    → squaresBy p (flatOf (listPlaces bytes used)) g 768 ≡ over (markOne p) g (listPlaces bytes used)
 same-line p used bytes g h =
-    flat-line p (flatOf (listPlaces bytes used)) g (flat-length (listPlaces bytes used)) (flat-entries (listPlaces bytes used)) ∙ ap (over (markOne p) g) (back used bytes h)
+    flat-line p (flatOf (listPlaces bytes used)) g (flat-length (listPlaces bytes used)) (flat-entries (listPlaces bytes used))
+    ∙ ap (over (markOne p) g) (back used bytes h)
 
 -- ---- the returns
 module _ (t : Trace) (used : ℕ) (bytes : List ℕ) (c : Float) (g : List Float) where
@@ -66,14 +69,21 @@ module _ (t : Trace) (used : ℕ) (bytes : List ℕ) (c : Float) (g : List Float
   no-list e q u l v = record { answer = simp (eq-eqb (length g) 779 e, sym q ∙ u, sym l ∙ v); lent = simp (eq-eqb (length g) 779 e, sym q ∙ u, sym l ∙ v) }
 
   -- the code's way round
-  pub list-line : T (isList used bytes) → inRanges t ≡ true → (n : ℕ) (named : List Float) (p : Parts) (x : ℤ) (mid r : List Float) → n ≡ used → named ≡ namedParts t c
-      → x ≡ t .«piece_count» → p ≡ partsOf c (dbl x) → mid ≡ firstRaised named g 11 → r ≡ over (markOne p) mid (listPlaces bytes n) → r ≡ lineAdded t (flatOf (listPlaces bytes used)) c g
+  pub list-line : T (isList used bytes) → inRanges t ≡ true → (n : ℕ) (named : List Float) (p : Parts) (x : ℤ) (mid r : List Float) → n ≡ used
+      → named ≡ namedParts t c
+      → x ≡ t .«piece_count» → p ≡ partsOf c (dbl x) → mid ≡ firstRaised named g 11 → r ≡ over (markOne p) mid (listPlaces bytes n)
+      → r ≡ lineAdded t (flatOf (listPlaces bytes used)) c g
   list-line h u n named p x mid r i a o b m q =
       let es : List ℤ = flatOf (listPlaces bytes used) in
       let both : (inRanges t && areEntries es) ≡ true = ap₂ (λ (y z : Bool). y && z) u (T-true (areEntries es) (flat-entries (listPlaces bytes used))) in
       line t es c g (flat-length (listPlaces bytes used)) both named p x mid r a o b m
       (q ∙ ap (λ (k : ℕ). over (markOne p) mid (listPlaces bytes k)) i ∙ sym (same-line p used bytes mid (is-listed used bytes h)))
 
-  pub list-worked : length g ≡ 779 → {a b : Bool} → a ≡ inRanges t → a ≡ true → b ≡ isList used bytes → b ≡ true → (r : List Float) → r ≡ lineAdded t (flatOf (listPlaces bytes used)) c g
+  pub list-worked : length g ≡ 779 → {a b : Bool} → a ≡ inRanges t → a ≡ true → b ≡ isList used bytes → b ≡ true → (r : List Float)
+      → r ≡ lineAdded t (flatOf (listPlaces bytes used)) c g
       → AddsList t used bytes c g Done r
-  list-worked e q u l v r o = record { answer = simp (eq-eqb (length g) 779 e, sym q ∙ u, sym l ∙ v); lent = simp (eq-eqb (length g) 779 e, sym q ∙ u, sym l ∙ v) o }
+  list-worked e q u l v r o = record {
+    answer = simp (eq-eqb (length g) 779 e, sym q ∙ u, sym l ∙ v);
+    lent =
+        simp (eq-eqb (length g) 779 e, sym q ∙ u, sym l ∙ v) o;
+  }

@@ -57,7 +57,8 @@ as-long g a b x y h = length-set (set g a x) b y ∙ length-set g a x ∙ h
 
 -- one more of those from k on, read back from its bits
 pub one-read : (p : Parts) (es : List ℤ) (start : List Float) (k j : ℕ) {here now : List Float} → mag (getD es (k + j) (pos 0)) < 2 ^ 31
-    → here ≡ foldFrom (entryBy p es) start k j → now ≡ markedBy p here (k + j) (held w32 (getD es (k + j) (pos 0))) → now ≡ foldFrom (entryBy p es) start k (suc j)
+    → here ≡ foldFrom (entryBy p es) start k j → now ≡ markedBy p here (k + j) (held w32 (getD es (k + j) (pos 0)))
+    → now ≡ foldFrom (entryBy p es) start k (suc j)
 one-read p es start k j {here = here} h e q = folds.one-more (entryBy p es) start k j e (q ∙ ap (markedBy p here (k + j)) (read (getD es (k + j) (pos 0)) h))
 
 pub from-0 : (p : Parts) (es : List ℤ) (start : List Float) (n : ℕ) → foldFrom (entryBy p es) start 0 n ≡ squaresBy p es start n
@@ -80,7 +81,8 @@ by-parts c x g k yes = rw one-is (go (eqb (colourAt k) 0))
     go true = refl
     go false = refl
 
-pub all-by-parts : (c x : Float) (es : List ℤ) (g : List Float) → T (areEntries es) → (n : ℕ) → n ≤ length es → squaresRaised c x es g n ≡ squaresBy (partsOf c x) es g n
+pub all-by-parts : (c x : Float) (es : List ℤ) (g : List Float) → T (areEntries es) → (n : ℕ) → n ≤ length es
+    → squaresRaised c x es g n ≡ squaresBy (partsOf c x) es g n
 unfolding squaresRaised squaresBy
 all-by-parts c x es g t zero h = refl
 all-by-parts c x es g t (suc n) h =

@@ -28,6 +28,7 @@ picked : (l : List Float) (k : ℕ) → getD l (k % 2) nan ≡ colourPart k (get
 picked l k = at-colour l (k % 2) (omega arith)
 
 -- one entry, as the code raises it
-pub paired : (opening ending g r : List Float) (k : ℕ) → r ≡ bothRaised g k (getD opening (k % 2) nan) (getD ending (k % 2) nan) → r ≡ markOne (pairs opening ending) g k
+pub paired : (opening ending g r : List Float) (k : ℕ) → r ≡ bothRaised g k (getD opening (k % 2) nan) (getD ending (k % 2) nan)
+    → r ≡ markOne (pairs opening ending) g k
 unfolding markedBy
 paired opening ending g r k e = e ∙ ap₂ (bothRaised g k) (picked opening k) (picked ending k)

@@ -199,8 +199,8 @@ pub fn add(trace: Trace, entries: &[i32], coefficient: f64, gradient: &mut [f64]
     Added::Refused(Refusal::Trace)
 }
 
-// The entries of a list, one after the other. White's part and Black's stand side by side and are picked by the colour: there is no jump on it to be guessed, and no
-// part is worked out again.
+// The entries of a list, one after the other. White's part and Black's stand side by side and are picked by the colour: there is no jump on it to be
+// guessed, and no part is worked out again.
 fn list_added(gradient: &mut [f64], parts: Parts, used: usize, bytes: &[u8; BYTES])
     requires { ⌜ (length (now gradient) ≡ 779) × T (isList used (now bytes)) ⌝ }
     ensures { λ _. ⌜ now (gradient .exit) ≡ over (markOne parts) (now (gradient .entry)) (listPlaces (now (bytes .entry)) used) ⌝ }

@@ -2,7 +2,8 @@
 use mathlib.Core.Path.{_≡_, sym, ap, _∙_, subst}
 use mathlib.Core.Bool.{Bool, false, _&&_}
 use Prim.Native.Nat.{ℕ, zero, suc, _+_, _-_, _*_, _/_, _%_, _^_, _≤_, _<_}
-use native.Mathlib.Nat.{le-of-eq, lt-of-lt-of-le, lt-of-le-of-lt, lt-of-not-le, not-le-of-lt, zero-lt-suc, mul-assoc, mul-right-comm, mul-one, mul-div-cancel, mul-lt-mul-of-pos-right, lt-of-mul-lt-mul-right, eq-of-mul-eq-mul-right, le-of-suc-le-suc, pow-suc, zero-mul}
+use native.Mathlib.Nat.{le-of-eq, lt-of-lt-of-le, lt-of-le-of-lt, lt-of-not-le, not-le-of-lt, zero-lt-suc, mul-assoc, mul-right-comm, mul-one}
+use native.Mathlib.Nat.{mul-div-cancel, mul-lt-mul-of-pos-right, lt-of-mul-lt-mul-right, eq-of-mul-eq-mul-right, le-of-suc-le-suc, pow-suc, zero-mul}
 use native.Mathlib.Omega.{arith}
 use lib.Pow.{pow-add, pow-pos, pow-mono}
 use lib.IntN.{ℤ, pos, negsuc}
@@ -62,23 +63,36 @@ moved m (negsuc k) f =
     let j = 1074 - suc k in
     let z : j + suc k ≡ 1074 = omega arith in
     let two : 2 ^ 1074 ≡ 2 ^ j * 2 ^ suc k = ap (λ (x : ℕ). 2 ^ x) (sym z) ∙ pow-add 2 j (suc k) in
-    let is : suc m * 1 * 2 ^ 1074 ≡ suc m * 2 ^ j * 2 ^ suc k = ap (λ (x : ℕ). x * 2 ^ 1074) (mul-one (suc m)) ∙ ap (λ (x : ℕ). suc m * x) two ∙ sym (mul-assoc (suc m) (2 ^ j) (2 ^ suc k)) in
+    let is : suc m * 1 * 2 ^ 1074 ≡ suc m * 2 ^ j * 2 ^ suc k = ap (λ (x : ℕ). x * 2 ^ 1074) (mul-one (suc m)) ∙ ap (λ (x : ℕ). suc m * x) two
+    ∙ sym (mul-assoc (suc m) (2 ^ j) (2 ^ suc k)) in
     let h : suc m * 1 * 2 ^ 1074 < 2 ^ 1024 * 2 ^ suc k * 2 ^ 1074 = mul-lt-mul-of-pos-right (f .high) (pow-pos 1074) in
-    let g : suc m * 2 ^ j * 2 ^ suc k < 2 ^ 2098 * 2 ^ suc k = lt-of-le-of-lt (le-of-eq (sym is)) (lt-of-lt-of-le h (le-of-eq (mul-right-comm (2 ^ 1024) (2 ^ suc k) (2 ^ 1074)))) in
+    let g : suc m * 2 ^ j * 2 ^ suc k < 2 ^ 2098 * 2 ^ suc k = lt-of-le-of-lt (le-of-eq (sym is))
+    (lt-of-lt-of-le h (le-of-eq (mul-right-comm (2 ^ 1024) (2 ^ suc k) (2 ^ 1074)))) in
     record { places = j; is = is; bound = lt-of-mul-lt-mul-right (2 ^ suc k) g }
 
 -- a finite double that isn't negative, in units
 is-double : (y : Float) (w : ℕ) → T (fits binary64 y) → HasValue y false w (2 ^ 1074) → IsDouble w
 is-double nan w t v = absurd v
 is-double (inf s) w t v = absurd v
-is-double (fin s zero e) w t v = record { digits = 0; places = 0; is = eq-of-mul-eq-mul-right (down e) (down-pos e) w 0 (sym (v .1) ∙ nothing (up e) (down e)); short = omega arith }
+is-double (fin s zero e) w t v = record {
+  digits = 0;
+  places = 0;
+  is =
+      eq-of-mul-eq-mul-right (down e) (down-pos e) w 0 (sym (v .1) ∙ nothing (up e) (down e));
+  short = omega arith;
+}
   where
     nothing : (a b : ℕ) → 0 * a * 2 ^ 1074 ≡ 0 * b
     nothing a b = rw (zero-mul a, zero-mul b, zero-mul (2 ^ 1074))
 is-double (fin s (suc m) e) w t v =
     let f = fitting s m e t in
     let d = moved m e f in
-    record { digits = suc m; places = d .places; is = eq-of-mul-eq-mul-right (down e) (down-pos e) w (suc m * 2 ^ (d .places)) (sym (v .1) ∙ d .is); short = f .short }
+    record {
+      digits = suc m;
+      places = d .places;
+      is = eq-of-mul-eq-mul-right (down e) (down-pos e) w (suc m * 2 ^ (d .places)) (sym (v .1) ∙ d .is);
+      short = f .short;
+    }
 
 -- the root of every double above zero
 root-nearest : (m : ℕ) (e : ℤ) → T (fits binary64 (fin false (suc m) e)) → Nearest (unitsOf (suc m) e) (rootOf (fin false (suc m) e))

@@ -46,7 +46,8 @@ unfolding rootOf eq ofBits
 at-zero nan h = absurd (true≢false (sym h))
 at-zero (inf s) h = absurd (true≢false (sym h))
 at-zero (fin s zero e) h = refl
-at-zero (fin s (suc m) e) h = absurd (lt-irrefl 0 (subst (λ (z : ℕ). 0 < z) (eqb-true (suc m * up e * 1) (0 * 1 * down e) (both-l (eqb (suc m * up e * 1) (0 * 1 * down e)) _ h) ∙ nought (down e)) (size-pos m e)))
+at-zero (fin s (suc m) e) h = absurd (lt-irrefl 0 (subst (λ (z : ℕ). 0 < z)
+    (eqb-true (suc m * up e * 1) (0 * 1 * down e) (both-l (eqb (suc m * up e * 1) (0 * 1 * down e)) _ h) ∙ nought (down e)) (size-pos m e)))
 
 pub at-negative : (x : Float) → lt x d0 ≡ true → div binary64 d0 d0 ≡ rootOf x
 unfolding rootOf lt ofBits div
@@ -55,7 +56,8 @@ at-negative (inf true) h = refl
 at-negative (inf false) h = absurd (true≢false (sym h))
 at-negative (fin true zero e) h = absurd (lt-irrefl 0 (subst (λ (z : ℕ). 0 < z) (none (up e) (down e)) (ltb-true 0 (0 * up e * 1 + 0 * 1 * down e) h)))
 at-negative (fin true (suc m) e) h = refl
-at-negative (fin false m e) h = absurd (never (m * up e * 1) (subst (λ (z : ℕ). m * up e * 1 < z) (nought (down e)) (ltb-true (m * up e * 1) (0 * 1 * down e) h)))
+at-negative (fin false m e) h = absurd (never (m * up e * 1) (subst (λ (z : ℕ). m * up e * 1 < z) (nought (down e))
+    (ltb-true (m * up e * 1) (0 * 1 * down e) h)))
 
 -- ---- 2. what is left is above zero
 pub data Above : Float → Type 0 where
@@ -79,7 +81,8 @@ field-value f s t = odd-sign (prec f) s t 0 (low f)
 
 pub field-value-suc : (f : Format) (s : Bool) (y t : ℕ) → suc y < ones f → HasValue (ofFields f s (suc y) t) s ((hid f + t) * 2 ^ y) (2 ^ low f)
 unfolding ofFields
-field-value-suc f s y t h = rw (ne-eqb (suc y) (ones f) (λ e. lt-irrefl (ones f) (subst (λ (z : ℕ). z < ones f) e h))) (odd-sign (prec f) s (hid f + t) y (low f))
+field-value-suc f s y t h = rw (ne-eqb (suc y) (ones f) (λ e. lt-irrefl (ones f) (subst (λ (z : ℕ). z < ones f) e h)))
+    (odd-sign (prec f) s (hid f + t) y (low f))
 
 -- the root of a float by a value that it has
 pub root-of-value : (x r : Float) (s : Bool) (a : ℕ) → Above x → HasValue x s a (2 ^ 1074) → r ≡ nearestRoot a → r ≡ rootOf x
@@ -113,8 +116,10 @@ sized s X t (fin false (suc m) d) h e some v = (under, sign X refl)
     under = omega (arith, not-2047)
 
     sign : (Y : ℕ) → X ≡ Y → s ≡ false
-    sign zero z = sym (subst (λ (y : Float). HasValue y s (t * 1) (2 ^ 1074)) (sym (e ∙ ap (λ (w : ℕ). ofFields binary64 s w t) z)) (field-value binary64 s t) .0)
-    sign (suc y) z = sym (subst (λ (w : Float). HasValue w s ((2 ^ 52 + t) * 2 ^ y) (2 ^ 1074)) (sym (e ∙ ap (λ (w : ℕ). ofFields binary64 s w t) z)) (field-value-suc binary64 s y t (omega (arith, under))) .0)
+    sign zero z = sym (subst (λ (y : Float). HasValue y s (t * 1) (2 ^ 1074)) (sym (e ∙ ap (λ (w : ℕ). ofFields binary64 s w t) z))
+        (field-value binary64 s t) .0)
+    sign (suc y) z = sym (subst (λ (w : Float). HasValue w s ((2 ^ 52 + t) * 2 ^ y) (2 ^ 1074)) (sym (e ∙ ap (λ (w : ℕ). ofFields binary64 s w t) z))
+        (field-value-suc binary64 s y t (omega (arith, under))) .0)
 
 clear : (b : ℕ) → leb (2 ^ 63) b ≡ false → b < 2 ^ 63
 clear b h = leb-false (2 ^ 63) b h
@@ -159,15 +164,18 @@ module _ (x : Float) (A : Above x) (F : T (fits binary64 x)) where
       subst (λ (z : ℕ). x ≡ ofFields binary64 (leb (2 ^ 63) z) (z % 2 ^ 63 / 2 ^ 52) (z % 2 ^ 52)) (sym q) (back x A F) ∙ rw (e, k)
 
   value-zero : (b : ℕ) → b ≡ toBits binary64 x → b / 2 ^ 52 ≡ 0 → HasValue x false (b % 2 ^ 52 * 1) (2 ^ 1074)
-  value-zero b q h = subst (λ (y : Float). HasValue y false (b % 2 ^ 52 * 1) (2 ^ 1074)) (sym (value b q (omega arith) ∙ ap (λ (z : ℕ). ofFields binary64 false z (b % 2 ^ 52)) h)) (field-value binary64 false (b % 2 ^ 52))
+  value-zero b q h = subst (λ (y : Float). HasValue y false (b % 2 ^ 52 * 1) (2 ^ 1074))
+      (sym (value b q (omega arith) ∙ ap (λ (z : ℕ). ofFields binary64 false z (b % 2 ^ 52)) h)) (field-value binary64 false (b % 2 ^ 52))
 
   pub root-small : (b : ℕ) (r : Float) → b ≡ toBits binary64 x → b / 2 ^ 52 ≡ 0 → r ≡ nearestRoot (b % 2 ^ 52 * 1) → r ≡ rootOf x
   root-small b r q h k = root-of-value x r false (b % 2 ^ 52 * 1) A (value-zero b q h) k
 
-  pub root-large : (b y : ℕ) (r : Float) → b ≡ toBits binary64 x → b / 2 ^ 52 ≡ suc y → suc y < 2047 → r ≡ nearestRoot ((b % 2 ^ 52 + 2 ^ 52) * 2 ^ y) → r ≡ rootOf x
+  pub root-large : (b y : ℕ) (r : Float) → b ≡ toBits binary64 x → b / 2 ^ 52 ≡ suc y → suc y < 2047 → r ≡ nearestRoot ((b % 2 ^ 52 + 2 ^ 52) * 2 ^ y)
+      → r ≡ rootOf x
   root-large b y r q h l k =
       root-of-value x r false ((2 ^ 52 + b % 2 ^ 52) * 2 ^ y) A
-      (subst (λ (w : Float). HasValue w false ((2 ^ 52 + b % 2 ^ 52) * 2 ^ y) (2 ^ 1074)) (sym (value b q (omega arith) ∙ ap (λ (z : ℕ). ofFields binary64 false z (b % 2 ^ 52)) h)) (field-value-suc binary64 false y (b % 2 ^ 52) l))
+      (subst (λ (w : Float). HasValue w false ((2 ^ 52 + b % 2 ^ 52) * 2 ^ y) (2 ^ 1074))
+      (sym (value b q (omega arith) ∙ ap (λ (z : ℕ). ofFields binary64 false z (b % 2 ^ 52)) h)) (field-value-suc binary64 false y (b % 2 ^ 52) l))
       (rw (add-comm (2 ^ 52) (b % 2 ^ 52)) k)
 
 -- a field of 0 has digits above 0
@@ -175,6 +183,7 @@ pub digits-above : (x : Float) (A : Above x) (F : T (fits binary64 x)) (b : ℕ)
 digits-above (inf false) endless F b q h = absurd (omega (arith, endless-field))
 digits-above (fin false (suc m) e) some F b q h =
     elim (eq-zero-or-pos (b % 2 ^ 52)) [
-      | inl z ↦ absurd (lt-irrefl 0 (subst (λ (w : ℕ). 0 < w) (value-zero (fin false (suc m) e) some F b q h .1 ∙ rw (z) (zero-mul (down e))) (mul-pos (mul-pos (zero-lt-suc m) (up-pos e)) (pow-pos 1074))))
+      | inl z ↦ absurd (lt-irrefl 0 (subst (λ (w : ℕ). 0 < w) (value-zero (fin false (suc m) e) some F b q h .1 ∙ rw (z) (zero-mul (down e)))
+          (mul-pos (mul-pos (zero-lt-suc m) (up-pos e)) (pow-pos 1074))))
       | inr p ↦ p
     ]

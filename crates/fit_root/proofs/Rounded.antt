@@ -4,7 +4,10 @@ use mathlib.Core.Path.{_≡_, refl, sym, ap, _∙_, subst}
 use mathlib.Core.Bool.{Bool, true, false, not, cond}
 use mathlib.Core.Logic.{inl, inr}
 use Prim.Native.Nat.{ℕ, zero, suc, _+_, _-_, _*_, _/_, _%_, _^_, _≤_, _<_}
-use native.Mathlib.Nat.{le-of-suc-le-suc, le-trans, le-of-eq, le-antisymm, lt-of-lt-of-le, lt-of-le-of-lt, lt-of-not-le, not-le-of-lt, mul-comm, mul-assoc, mul-right-comm, mul-left-comm, mul-mul-mul-comm, mul-pos, mul-one, add-mul, mul-le-mul-left, mul-le-mul-right, mul-lt-mul-of-pos-right, eq-of-mul-eq-mul-right, mul-div-cancel, le-div-iff-mul-le, div-lt-iff-lt-mul, suc-mul, zero-add, eq-or-lt-of-le, eq-zero-or-pos}
+use native.Mathlib.Nat.{le-of-suc-le-suc, le-trans, le-of-eq, le-antisymm, lt-of-lt-of-le, lt-of-le-of-lt, lt-of-not-le, not-le-of-lt, mul-comm}
+use native.Mathlib.Nat.{mul-assoc, mul-right-comm, mul-left-comm, mul-mul-mul-comm, mul-pos, mul-one, add-mul, mul-le-mul-left, mul-le-mul-right}
+use native.Mathlib.Nat.{mul-lt-mul-of-pos-right, eq-of-mul-eq-mul-right, mul-div-cancel, le-div-iff-mul-le, div-lt-iff-lt-mul, suc-mul, zero-add}
+use native.Mathlib.Nat.{eq-or-lt-of-le, eq-zero-or-pos}
 use native.Mathlib.Omega.{arith}
 use lib.Dec.{T, eqb, eqb→eq, lit≤}
 use lib.Pow.{pow-add, pow-pos, pow-mono}
@@ -51,7 +54,8 @@ round-to f s num den N k D lo hi under over =
     let n = num * 2 ^ low f in
     let u = den * 2 ^ k in
     let P : 0 < u = mul-pos D (pow-pos k) in
-    let d : drop (prec f) n den ≡ k = drop-is (size (n / den)) (prec f) k (two-le-pos (prec f) (two f)) (size-le (n / den) (prec f + k) (div-lt-iff-lt-mul D .1 hi)) (size-gt (n / den) (prec f - 1 + k) (le-div-iff-mul-le D .1 lo)) in
+    let d : drop (prec f) n den ≡ k = drop-is (size (n / den)) (prec f) k (two-le-pos (prec f) (two f))
+    (size-le (n / den) (prec f + k) (div-lt-iff-lt-mul D .1 hi)) (size-gt (n / den) (prec f - 1 + k) (le-div-iff-mul-le D .1 lo)) in
     let h : Half (closest n u) u n = closest-off n u P in
     let c : closest n u ≡ N = le-antisymm (below (closest n u) N u n P (h .1) under) (above (closest n u) N u n P (h .0) over) in
     round-is f s num den
@@ -67,7 +71,8 @@ bits-of f (fin s m e) N k h lo hi =
     let n : m * up e * 2 ^ low f / down e ≡ N * 2 ^ k = ap (λ (z : ℕ). z / down e) (h .1) ∙ mul-div-cancel (N * 2 ^ k) (down-pos e) in
     let lo' : 2 ^ (prec f - 1 + k) ≤ N * 2 ^ k = le-trans (le-of-eq (pow-add 2 (prec f - 1) k)) (mul-le-mul-right (2 ^ k) lo) in
     let hi' : N * 2 ^ k < 2 ^ (prec f + k) = lt-of-lt-of-le (mul-lt-mul-of-pos-right hi (pow-pos k)) (le-of-eq (sym (pow-add 2 (prec f) k))) in
-    let d : size (N * 2 ^ k) - prec f ≡ k = drop-is (size (N * 2 ^ k)) (prec f) k (two-le-pos (prec f) (two f)) (size-le (N * 2 ^ k) (prec f + k) hi') (size-gt (N * 2 ^ k) (prec f - 1 + k) lo') in
+    let d : size (N * 2 ^ k) - prec f ≡ k = drop-is (size (N * 2 ^ k)) (prec f) k (two-le-pos (prec f) (two f)) (size-le (N * 2 ^ k) (prec f + k) hi')
+    (size-gt (N * 2 ^ k) (prec f - 1 + k) lo') in
     rw (h .0, n, d, mul-div-cancel N (pow-pos k)) (ap (λ (z : ℕ). z + N) (zero-add (k * hid f)))
 
 -- ---- C. roots
@@ -76,10 +81,12 @@ scaled-square q W = mul-mul-mul-comm q W q W
 
 module _ (t q W s : ℕ) (P : 0 < W) (r : IsRoot t q) (R : IsRoot (t * (W * W)) s) where
   pub root-from : q * W ≤ s
-  root-from = le-of-suc-le-suc (root-lt (q * W) (suc s) (lt-of-le-of-lt (le-of-eq (scaled-square q W)) (lt-of-le-of-lt (mul-le-mul-right (W * W) (r .low)) (R .high))))
+  root-from = le-of-suc-le-suc (root-lt (q * W) (suc s) (lt-of-le-of-lt (le-of-eq (scaled-square q W))
+      (lt-of-le-of-lt (mul-le-mul-right (W * W) (r .low)) (R .high))))
 
   pub root-to : s < suc q * W
-  root-to = root-lt s (suc q * W) (lt-of-le-of-lt (R .low) (lt-of-lt-of-le (mul-lt-mul-of-pos-right (r .high) (mul-pos P P)) (le-of-eq (sym (scaled-square (suc q) W)))))
+  root-to = root-lt s (suc q * W) (lt-of-le-of-lt (R .low) (lt-of-lt-of-le (mul-lt-mul-of-pos-right (r .high) (mul-pos P P))
+      (le-of-eq (sym (scaled-square (suc q) W)))))
 
   -- where the root is exact, so is the other
   pub exact : q * W ≡ s → s * s ≡ t * (W * W) → q * q ≡ t
@@ -157,12 +164,14 @@ scaled-by : (a M h : ℕ) → M * (2 ^ h * 2 ^ h) ≡ a * 2 ^ 60 → a * 4 ^ 64 
 scaled-by a M h e =
     let z = 2 ^ h in
     let w : 2 ^ (h + 7) * 2 ^ (h + 7) ≡ z * z * 16384 = rw (pow-add 2 h 7) (mul-mul-mul-comm z 128 z 128) in
-    let x : M * 2 ^ 53 * 2 * (z * z * 16384) ≡ M * (z * z) * (2 ^ 53 * 2 * 16384) = rw (mul-assoc M (2 ^ 53) 2) (mul-mul-mul-comm M (2 ^ 53 * 2) (z * z) 16384) in
+    let x : M * 2 ^ 53 * 2 * (z * z * 16384) ≡ M * (z * z) * (2 ^ 53 * 2 * 16384) =
+    rw (mul-assoc M (2 ^ 53) 2) (mul-mul-mul-comm M (2 ^ 53 * 2) (z * z) 16384) in
     sym (mul-assoc a (2 ^ 60) (2 ^ 68)) ∙ ap (λ (y : ℕ). y * 2 ^ 68) (sym e) ∙ sym x ∙ ap (λ (y : ℕ). M * 2 ^ 53 * 2 * y) (sym w)
 
 -- 2 ^ 602 * 2 ^ (h + 481) is 4 W times 2 ^ 1074
 unit : (h : ℕ) → 2 ^ 602 * 2 ^ (h + 481) ≡ 2 ^ (h + 7) * 4 * 2 ^ 1074
-unit h = rw (pow-add 2 h 481, pow-add 2 h 7) (mul-left-comm (2 ^ 602) (2 ^ h) (2 ^ 481) ∙ sym (mul-assoc (2 ^ h * 128) 4 (2 ^ 1074) ∙ mul-assoc (2 ^ h) 128 (4 * 2 ^ 1074)))
+unit h = rw (pow-add 2 h 481, pow-add 2 h 7) (mul-left-comm (2 ^ 602) (2 ^ h) (2 ^ 481)
+    ∙ sym (mul-assoc (2 ^ h * 128) 4 (2 ^ 1074) ∙ mul-assoc (2 ^ h) 128 (4 * 2 ^ 1074)))
 
 times : (N W L v : ℕ) → v ≡ W * 4 * L → N * v ≡ N * W * 4 * L
 times N W L v e = ap (λ (z : ℕ). N * z) e ∙ sym (mul-assoc N (W * 4) L) ∙ ap (λ (z : ℕ). z * L) (sym (mul-assoc N W 4))
@@ -228,7 +237,8 @@ rounded-at t q h s lo hi r R =
     (strict-over x N W L v (pow-pos 1074) (unit h) (digits-over t q W s N P r R refl))
 
 not-too-high : (N k : ℕ) → N < 2 ^ 53 → k ≤ 2000 → N * 2 ^ k < 2 ^ 2098
-not-too-high N k h l = lt-of-lt-of-le (mul-lt-mul-of-pos-right h (pow-pos k)) (le-trans (le-of-eq (sym (pow-add 2 53 k))) (pow-mono {i = 53 + k} {j = 2098} (omega arith)))
+not-too-high N k h l = lt-of-lt-of-le (mul-lt-mul-of-pos-right h (pow-pos k))
+    (le-trans (le-of-eq (sym (pow-add 2 53 k))) (pow-mono {i = 53 + k} {j = 2098} (omega arith)))
 
 half-low : (q : ℕ) → 2 ^ 53 ≤ q → 2 ^ 52 ≤ (q + 1) / 2
 half-low q h = omega arith
@@ -259,7 +269,8 @@ root-value a M h e lo hi hh small =
     let qh : q < 2 ^ 54 - 1 = root-high M q hi r' in
     let same : a * 4 ^ 64 ≡ t * 2 * (2 ^ (h + 7) * 2 ^ (h + 7)) = scaled-by a M h e in
     let y = round binary64 false (2 * s + left (a * 4 ^ 64) s) (2 ^ 602) in
-    let u : y ≡ units binary64 false N k = subst (λ (z : ℕ). round binary64 false (2 * s + left z s) (2 ^ 602) ≡ units binary64 false N k) (sym same) (rounded-at t q h s ql (in-54 q qh) r' (subst (λ (z : ℕ). IsRoot z s) same R)) in
+    let u : y ≡ units binary64 false N k = subst (λ (z : ℕ). round binary64 false (2 * s + left z s) (2 ^ 602) ≡ units binary64 false N k) (sym same)
+    (rounded-at t q h s ql (in-54 q qh) r' (subst (λ (z : ℕ). IsRoot z s) same R)) in
     subst (λ (z : Float). HasValue z false (N * 2 ^ k) (2 ^ 1074)) (sym u) (units-val binary64 false N k (not-too-high N k (half-high q qh) (under-2000 h hh)))
 
 root-fits : (a : ℕ) → T (fits binary64 (nearestRoot a))
@@ -277,7 +288,8 @@ rooted a M n h x e lo hi is hh small bits =
     let r' : IsRoot (M * 2 ^ 53 * 2) q = subst (λ (z : ℕ). IsRoot z q) (sym (mul-assoc M (2 ^ 53) 2)) r in
     let ql : 2 ^ 53 ≤ q = root-low M q lo r' in
     let qh : q < 2 ^ 54 - 1 = root-high M q hi r' in
-    let b : toBits binary64 (nearestRoot a) ≡ k * 2 ^ 52 + N = bits-of binary64 (nearestRoot a) N k (root-value a M h e lo hi hh small) (half-low q ql) (half-high q qh) in
+    let b : toBits binary64 (nearestRoot a) ≡ k * 2 ^ 52 + N = bits-of binary64 (nearestRoot a) N k (root-value a M h e lo hi hh small) (half-low q ql)
+    (half-high q qh) in
     bits ∙ ap (λ (z : ℕ). ofBits binary64 (k * 2 ^ 52 + z)) is ∙ ap (ofBits binary64) (sym b) ∙ ofBits-toBits binary64 (nearestRoot a) (root-fits a)
 
 -- such bits are no NaN's
@@ -286,14 +298,16 @@ no-nan b h = subst (λ (z : Bool). T (not z)) (sym (nanBits-above binary64 b ∙
 
 -- ---- F. an exponent halved
 half-pow : (e b : ℕ) → e % 2 ≡ b → 2 ^ e ≡ 2 ^ (e / 2) * 2 ^ (e / 2) * (1 + e % 2)
-half-pow e zero h = let z : e ≡ e / 2 + e / 2 = omega arith in rw h (ap (λ (x : ℕ). 2 ^ x) z ∙ pow-add 2 (e / 2) (e / 2) ∙ sym (mul-one (2 ^ (e / 2) * 2 ^ (e / 2))))
+half-pow e zero h = let z : e ≡ e / 2 + e / 2 = omega arith in rw h (ap (λ (x : ℕ). 2 ^ x) z ∙ pow-add 2 (e / 2) (e / 2)
+    ∙ sym (mul-one (2 ^ (e / 2) * 2 ^ (e / 2))))
 half-pow e (suc b) h =
     let z : e ≡ e / 2 + e / 2 + 1 = omega arith in
     let w : 1 + e % 2 ≡ 2 = omega arith in
     rw w (ap (λ (x : ℕ). 2 ^ x) z ∙ pow-add 2 (e / 2 + e / 2) 1 ∙ ap (λ (x : ℕ). x * 2) (pow-add 2 (e / 2) (e / 2)))
 
 pub halved : (n e : ℕ) → n * (1 + e % 2) * (2 ^ (e / 2) * 2 ^ (e / 2)) ≡ n * 2 ^ e
-halved n e = mul-right-comm n (1 + e % 2) (2 ^ (e / 2) * 2 ^ (e / 2)) ∙ mul-assoc n (2 ^ (e / 2) * 2 ^ (e / 2)) (1 + e % 2) ∙ ap (λ (x : ℕ). n * x) (sym (half-pow e (e % 2) refl))
+halved n e = mul-right-comm n (1 + e % 2) (2 ^ (e / 2) * 2 ^ (e / 2)) ∙ mul-assoc n (2 ^ (e / 2) * 2 ^ (e / 2)) (1 + e % 2)
+    ∙ ap (λ (x : ℕ). n * x) (sym (half-pow e (e % 2) refl))
 
 pub itself-at-least : (n e : ℕ) → n ≤ n * (1 + e % 2)
 itself-at-least n e = le-trans (le-of-eq (sym (mul-one n))) (mul-le-mul-left n (one-at-least e))
@@ -303,7 +317,8 @@ itself-at-least n e = le-trans (le-of-eq (sym (mul-one n))) (mul-le-mul-left n (
 
 -- from m * 2 ^ k units, scaled by 2 ^ 60 to n * 2 ^ e
 pub scaled-units : (m k n e : ℕ) → n * 2 ^ e ≡ m * 2 ^ 60 → n * (1 + (e + k) % 2) * (2 ^ ((e + k) / 2) * 2 ^ ((e + k) / 2)) ≡ m * 2 ^ k * 2 ^ 60
-scaled-units m k n e h = halved n (e + k) ∙ ap (λ (x : ℕ). n * x) (pow-add 2 e k) ∙ sym (mul-assoc n (2 ^ e) (2 ^ k)) ∙ ap (λ (x : ℕ). x * 2 ^ k) h ∙ mul-right-comm m (2 ^ 60) (2 ^ k)
+scaled-units m k n e h = halved n (e + k) ∙ ap (λ (x : ℕ). n * x) (pow-add 2 e k) ∙ sym (mul-assoc n (2 ^ e) (2 ^ k)) ∙ ap (λ (x : ℕ). x * 2 ^ k) h
+    ∙ mul-right-comm m (2 ^ 60) (2 ^ k)
 
 -- and the number is a double's 53 digits
 pub digits-at-most : (M n : ℕ) → M < 2 ^ 54 - 1 → n ≡ (wholeRoot 54 (M * 2 ^ 54) + 1) / 2 → n < 2 ^ 53
@@ -315,4 +330,5 @@ digits-at-most M n h e = half-short (wholeRoot 54 (M * 2 ^ 54)) n (short-root M 
 -- an m of 53 digits, k places up, is in reach of the definition
 pub in-reach : (m k : ℕ) → m < 2 ^ 53 → k < 2046 → m * 2 ^ k * 4 ^ 64 < 4 ^ 1200
 in-reach m k h l =
-    lt-of-lt-of-le (mul-lt-mul-of-pos-right (lt-of-lt-of-le (mul-lt-mul-of-pos-right h (pow-pos k)) (mul-le-mul-left (2 ^ 53) (pow-mono {i = k} {j = 2046} (omega arith)))) (pow-pos 128)) (lit≤ tt)
+    lt-of-lt-of-le (mul-lt-mul-of-pos-right (lt-of-lt-of-le (mul-lt-mul-of-pos-right h (pow-pos k))
+    (mul-le-mul-left (2 ^ 53) (pow-mono {i = k} {j = 2046} (omega arith)))) (pow-pos 128)) (lit≤ tt)

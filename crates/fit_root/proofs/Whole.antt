@@ -2,7 +2,8 @@
 use mathlib.Core.Path.{_≡_, sym, ap, _∙_, subst}
 use mathlib.Core.Bool.{Bool, true, false, not, cond}
 use Prim.Native.Nat.{ℕ, zero, suc, _+_, _-_, _*_, _/_, _%_, _^_, _≤_, _<_}
-use native.Mathlib.Nat.{le-of-suc-le-suc, le-antisymm, lt-of-le-of-lt, lt-of-not-le, not-le-of-lt, mul-le-mul, add-mul, mul-add, mul-assoc, mul-comm, suc-mul, mul-suc, mul-right-comm, mul-mul-mul-comm, pow-suc}
+use native.Mathlib.Nat.{le-of-suc-le-suc, le-antisymm, lt-of-le-of-lt, lt-of-not-le, not-le-of-lt, mul-le-mul, add-mul, mul-add, mul-assoc, mul-comm}
+use native.Mathlib.Nat.{suc-mul, mul-suc, mul-right-comm, mul-mul-mul-comm, pow-suc}
 use native.Mathlib.Numerals.{add-one}
 use native.Mathlib.Omega.{arith}
 use lib.Dec.{T, leb, leb→le, nleb→lt}

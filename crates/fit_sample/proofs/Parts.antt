@@ -39,25 +39,31 @@ unfolding wordsOf
 words-none out at numbers = adds-none out at
 
 -- the buffer is as long as it was
-pub words-kept : (out₀ out : List ℕ) (at end i : ℕ) (numbers : List ℤ) → at + 4 * length numbers ≤ length out₀ → Adds out₀ at (wordsOf (take i numbers)) out end → length out ≡ length out₀
+pub words-kept : (out₀ out : List ℕ) (at end i : ℕ) (numbers : List ℤ) → at + 4 * length numbers ≤ length out₀
+    → Adds out₀ at (wordsOf (take i numbers)) out end → length out ≡ length out₀
 words-kept out₀ out at end i numbers room a = let m = words-length (take i numbers) in let k = length-take i numbers in adds-length a (omega arith)
 
 -- one more
-pub words-more : (out₀ out out′ : List ℕ) (at end end′ i : ℕ) (numbers : List ℤ) (bytes : List ℕ) (p : Placed) → at + 4 * length numbers ≤ length out₀ → i < length numbers
-    → Adds out₀ at (wordsOf (take i numbers)) out end → mag (getD numbers i (pos 0)) < 2 ^ 31 → bytes ≡ lowestFirst (twosComplement (held w32 (getD numbers i (pos 0)))) → Puts out out′ end bytes p → end′ ≡ afterOf (place p) end
+pub words-more : (out₀ out out′ : List ℕ) (at end end′ i : ℕ) (numbers : List ℤ) (bytes : List ℕ) (p : Placed) → at + 4 * length numbers ≤ length out₀
+    → i < length numbers
+    → Adds out₀ at (wordsOf (take i numbers)) out end → mag (getD numbers i (pos 0)) < 2 ^ 31
+    → bytes ≡ lowestFirst (twosComplement (held w32 (getD numbers i (pos 0)))) → Puts out out′ end bytes p → end′ ≡ afterOf (place p) end
     → Adds out₀ at (wordsOf (take (i + 1) numbers)) out′ end′
 words-more out₀ out out′ at end end′ i numbers bytes p room h a small e puts after =
     let z : ℤ = getD numbers i (pos 0) in
     let word : List ℕ = lowestFirst (twosComplement z) in
-    let more : Adds out end word out′ end′ = subst (λ (b : List ℕ). Adds out end b out′ end′) (e ∙ ap (λ (y : ℤ). lowestFirst (twosComplement y)) (toZ-ofZ w32 z (record { sfits = small }))) (adds-or out end bytes out′ p end′ puts after) in
+    let more : Adds out end word out′ end′ = subst (λ (b : List ℕ). Adds out end b out′ end′)
+    (e ∙ ap (λ (y : ℤ). lowestFirst (twosComplement y)) (toZ-ofZ w32 z (record { sfits = small }))) (adds-or out end bytes out′ p end′ puts after) in
     let m = words-length (take i numbers) in
     let k = length-take-le i numbers (omega arith) in
     subst (λ (l : List ℕ). Adds out₀ at l out′ end′)
-    (sym (ap wordsOf (ap (λ (n : ℕ). take n numbers) (add-one i) ∙ take-suc numbers i (pos 0) h) ∙ words-append (take i numbers) (z ∷ []) ∙ ap (λ (l : List ℕ). wordsOf (take i numbers) ++ l) (words-one z)))
+    (sym (ap wordsOf (ap (λ (n : ℕ). take n numbers) (add-one i) ∙ take-suc numbers i (pos 0) h) ∙ words-append (take i numbers) (z ∷ [])
+    ∙ ap (λ (l : List ℕ). wordsOf (take i numbers) ++ l) (words-one z)))
     (adds-then a more (omega arith))
 
 -- after the last
-pub words-all : (out₀ out : List ℕ) (at end i : ℕ) (numbers : List ℤ) → length numbers ≤ i → Adds out₀ at (wordsOf (take i numbers)) out end → Adds out₀ at (wordsOf numbers) out end
+pub words-all : (out₀ out : List ℕ) (at end i : ℕ) (numbers : List ℤ) → length numbers ≤ i → Adds out₀ at (wordsOf (take i numbers)) out end
+    → Adds out₀ at (wordsOf numbers) out end
 words-all out₀ out at end i numbers h a = subst (λ (l : List ℤ). Adds out₀ at (wordsOf l) out end) (take-all i numbers h) a
 
 -- ---- 26 numbers, and 196 bytes
@@ -73,7 +79,8 @@ pub entries-long : (used half : ℕ) (list : List ℕ) → length (entryBytes us
 entries-long used half list = let a = length-append list (0 ∷ 0 ∷ []) in omega arith
 
 -- ---- the numbers, one list after another
-module _ (t : Trace) (out y z p : List ℕ) (a b c : ℕ) (counts : List ℤ) (room : 300 ≤ length out) (moved : length (t .mobility) ≡ 12) (counted : counts ≡ countsOf t)
+module _ (t : Trace) (out y z p : List ℕ) (a b c : ℕ) (counts : List ℤ) (room : 300 ≤ length out) (moved : length (t .mobility) ≡ 12)
+    (counted : counts ≡ countsOf t)
     (first : Adds out 0 (wordsOf counts) y a) where
   first-long : length (wordsOf counts) ≡ 48
   first-long = ap (λ (l : List ℤ). length (wordsOf l)) counted ∙ words-length (countsOf t)
@@ -88,7 +95,14 @@ module _ (t : Trace) (out y z p : List ℕ) (a b c : ℕ) (counts : List ℤ) (r
     pub room-third : b + 8 ≤ length z
     room-third =
         let h = words-length (t .mobility) in
-        omega (arith, first-long, adds-to first (omega (arith, first-long)), adds-length first (omega (arith, first-long)), adds-to second fits, adds-length second fits)
+        omega (
+          arith,
+          first-long,
+          adds-to first (omega (arith, first-long)),
+          adds-length first (omega (arith, first-long)),
+          adds-to second fits,
+          adds-length second fits,
+        )
 
     pub numbers-all : (others : List ℤ) → others ≡ t .side ∷ t .«piece_count» ∷ [] → Adds z b (wordsOf others) p c → Adds out 0 (numberBytes t) p c
     unfolding numberBytes

@@ -32,7 +32,8 @@ twelve bbs board state t e =
     let same : given (traceOf bbs (state .side)) ≡ given t = through bbs board state (given (traceOf bbs (state .side))) t (sym e) .1 in
     sym (ap (λ (a : Answer Trace). length (traceFrom a .mobility)) same)
 
-module _ (bbs board : List ℕ) (state : State) (half : ℕ) (before : List ℕ) (r : ListTraced) (after : List ℕ) (h : ComputesList bbs board state before r after) where
+module _ (bbs board : List ℕ) (state : State) (half : ℕ) (before : List ℕ) (r : ListTraced) (after : List ℕ)
+    (h : ComputesList bbs board state before r after) where
   -- whatever it answers, the list is as long as it was
   pub list-long : length before ≡ 192 → length after ≡ 192
   list-long e = ap length (h .lent) ∙ listed-192 (listTracedOf bbs board state) bbs before e
@@ -40,7 +41,8 @@ module _ (bbs board : List ℕ) (state : State) (half : ℕ) (before : List ℕ)
   pub sample-none : (q : Refusal) → r .checked ≡ Refused q → [] ≡ sampleOf bbs board state half
   unfolding sampleOf
   sample-none q e =
-      ap (λ (a : Answer Trace). sampleBy a (pieces bbs) half (listBytes (onesIn (entriesOf bbs)))) (ap (λ (k : Checked). paperOf k (r .trace)) (sym e) ∙ h .answer)
+      ap (λ (a : Answer Trace). sampleBy a (pieces bbs) half (listBytes (onesIn (entriesOf bbs))))
+      (ap (λ (k : Checked). paperOf k (r .trace)) (sym e) ∙ h .answer)
 
   module _ (fit : r .checked ≡ Fit) where
     answered : given (r .trace) ≡ listTracedOf bbs board state

@@ -23,7 +23,8 @@ zeros-length = tabulate-length 779 (λ i. d0)
 summed-length : (g : List Float) (ls : List FitLine) → length g ≡ 779 → length (gradientSummed g ls) ≡ 779
 unfolding gradientSummed
 summed-length g [] e = e
-summed-length g (l ∷ ls) e = summed-length (lineAdded (l .trace) (l .entries) (l .coefficient) g) ls (line-length (l .trace) (l .entries) (l .coefficient) g ∙ e)
+summed-length g (l ∷ ls) e = summed-length (lineAdded (l .trace) (l .entries) (l .coefficient) g) ls
+    (line-length (l .trace) (l .entries) (l .coefficient) g ∙ e)
 
 but-pawn-length : (old : List Float) (rule : ℕ → Float) → length (butPawn old rule) ≡ 779
 unfolding butPawn
@@ -33,7 +34,12 @@ stepped-long : (p q rate : Float) (g : List Float) (s : Fit) → Long (stepped p
 stepped-long p q rate g s = record { m = but-pawn-length _ _; v = but-pawn-length _ _; weights = but-pawn-length _ _ }
 
 shaped : (g : List Float) (s : Fit) → length g ≡ 779 → Long s → isShaped g s ≡ true
-shaped g s e l = rw (eq-eqb (length g) 779 e, eq-eqb (length (s .m)) 779 (l .m), eq-eqb (length (s .v)) 779 (l .v), eq-eqb (length (s .weights)) 779 (l .weights))
+shaped g s e l = rw (
+  eq-eqb (length g) 779 e,
+  eq-eqb (length (s .m)) 779 (l .m),
+  eq-eqb (length (s .v)) 779 (l .v),
+  eq-eqb (length (s .weights)) 779 (l .weights),
+)
 
 numbered : (n : ℕ) → suc n ≤ 1000000 → isIteration (suc n) ≡ true
 numbered n h = let a : 1 ≤ suc n = omega arith in rw (le-leb 1 (suc n) a, le-leb (suc n) 1000000 h)
@@ -45,7 +51,8 @@ worked g s u n rate e i q = rw (e, i) at q
 fitted-long : (lines : ℕ → List FitLine) (rate : Float) (s : Fit) (n : ℕ) → Long s → Long (fitted lines rate s n)
 unfolding fitted
 fitted-long lines rate s zero l = l
-fitted-long lines rate s (suc n) l = stepped-long (power beta1 (suc n)) (power beta2 (suc n)) rate (gradientSummed zeros (lines (suc n))) (fitted lines rate s n)
+fitted-long lines rate s (suc n) l = stepped-long (power beta1 (suc n)) (power beta2 (suc n)) rate (gradientSummed zeros (lines (suc n)))
+    (fitted lines rate s n)
 
 iterations : (lines : ℕ → List FitLine) (rate : Float) (s t : Fit) (n : ℕ) → ((i : ℕ) → AllGood (lines i)) → Long s → n ≤ 1000000 → Ran lines rate s n t
     → t ≡ fitted lines rate s n

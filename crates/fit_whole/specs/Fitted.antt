@@ -27,7 +27,8 @@ fitted lines rate s (suc n) = stepped (power beta1 (suc n)) (power beta2 (suc n)
 -- iterations is t
 pub data Ran (lines : ℕ → List FitLine) (rate : Float) (s : Fit) : ℕ → Fit → Type 0 where
   begun : Ran lines rate s 0 s
-  iterated : {n : ℕ} {t u : Fit} {r : Stepped} → Ran lines rate s n t → StepsFrom (gradientFed zeros (lines (suc n))) t (suc n) rate r u → Ran lines rate s (suc n) u
+  iterated : {n : ℕ} {t u : Fit} {r : Stepped} → Ran lines rate s n t → StepsFrom (gradientFed zeros (lines (suc n))) t (suc n) rate r u
+      → Ran lines rate s (suc n) u
 
 -- both moments and the weights are 779 long
 pub record Long (s : Fit) : Type 0 where

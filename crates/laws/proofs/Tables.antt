@@ -29,12 +29,17 @@ tabulate-same zero f g e = refl
 tabulate-same (suc n) f g e = cc (e 0 (omega arith), tabulate-same n (λ k. f (suc k)) (λ k. g (suc k)) (λ k h. e (suc k) (omega arith)))
 
 -- one entry changed: the table of a function that differs there alone
-pub tabulate-set : {X : Type 0} (n : ℕ) (f g : ℕ → X) (i : ℕ) (v : X) → i < n → v ≡ g i → ((k : ℕ) → k < n → (k ≡ i → ⊥) → f k ≡ g k) → set (tabulate n f) i v ≡ tabulate n g
+pub tabulate-set : {X : Type 0} (n : ℕ) (f g : ℕ → X) (i : ℕ) (v : X) → i < n → v ≡ g i → ((k : ℕ) → k < n → (k ≡ i → ⊥) → f k ≡ g k)
+    → set (tabulate n f) i v ≡ tabulate n g
 unfolding tabulate
 tabulate-set zero f g i v h e o = absurd (not-suc-le-zero h)
 tabulate-set (suc n) f g zero v h e o = cc (tabulate-same n (λ k. f (suc k)) (λ k. g (suc k)) (λ k l. o (suc k) (omega arith) (λ q. omega arith)))
 tabulate-set (suc n) f g (suc i) v h e o =
-    cc (o 0 (omega arith) (λ q. omega arith), tabulate-set n (λ k. f (suc k)) (λ k. g (suc k)) i v (omega arith) e (λ k l d. o (suc k) (omega arith) (λ q. d (omega arith))))
+    cc (
+      o 0 (omega arith) (λ q. omega arith),
+      tabulate-set n (λ k. f (suc k)) (λ k. g (suc k)) i v (omega arith) e
+          (λ k l d. o (suc k) (omega arith) (λ q. d (omega arith))),
+    )
 
 -- a list that is written place by place: one value more
 pub set-more : {X : Type 0} (d : X) (f : ℕ → X) (l : List X) (i : ℕ) (v : X) → i < length l → v ≡ f i → ((j : ℕ) → j < i → getD l j d ≡ f j)

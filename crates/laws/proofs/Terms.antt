@@ -37,7 +37,8 @@ sum-front (suc n) f = ap (λ (x : ℤ). x +ℤ f (suc n)) (sum-front n f) ∙ +�
 sum-split : (m n : ℕ) (f : ℕ → ℤ) → sumZ (m + n) f ≡ sumZ m f +ℤ sumZ n (λ k. f (m + k))
 unfolding sumZ
 sum-split m zero f = ap (λ (k : ℕ). sumZ k f) (add-zero m) ∙ sym (+ℤ-idr (sumZ m f))
-sum-split m (suc n) f = ap (λ (k : ℕ). sumZ k f) (add-suc m n) ∙ ap (λ (x : ℤ). x +ℤ f (m + n)) (sum-split m n f) ∙ +ℤ-assoc (sumZ m f) (sumZ n (λ k. f (m + k))) (f (m + n))
+sum-split m (suc n) f = ap (λ (k : ℕ). sumZ k f) (add-suc m n) ∙ ap (λ (x : ℤ). x +ℤ f (m + n)) (sum-split m n f)
+    ∙ +ℤ-assoc (sumZ m f) (sumZ n (λ k. f (m + k))) (f (m + n))
 
 -- n blocks of m terms
 pub sum-blocks : (m n : ℕ) (f : ℕ → ℤ) → sumZ (m * n) f ≡ sumZ n (λ r. sumZ m (λ j. f (m * r + j)))

@@ -33,10 +33,12 @@ all-and n f g = iff (allBelow n both) (allBelow n f && allBelow n g) there back
     both k = f k && g k
 
     there : T (allBelow n both) → T (allBelow n f && allBelow n g)
-    there t = and-i (allBelow n f) (allBelow n g) (all-of n f (λ k h. and-l (f k) (g k) (all-at n both t k h))) (all-of n g (λ k h. and-r (f k) (g k) (all-at n both t k h)))
+    there t = and-i (allBelow n f) (allBelow n g) (all-of n f (λ k h. and-l (f k) (g k) (all-at n both t k h)))
+        (all-of n g (λ k h. and-r (f k) (g k) (all-at n both t k h)))
 
     back : T (allBelow n f && allBelow n g) → T (allBelow n both)
-    back t = all-of n both (λ k h. and-i (f k) (g k) (all-at n f (and-l (allBelow n f) (allBelow n g) t) k h) (all-at n g (and-r (allBelow n f) (allBelow n g) t) k h))
+    back t = all-of n both (λ k h. and-i (f k) (g k) (all-at n f (and-l (allBelow n f) (allBelow n g) t) k h)
+        (all-at n g (and-r (allBelow n f) (allBelow n g) t) k h))
 
 pub all-same : (n : ℕ) (f g : ℕ → Bool) → ((k : ℕ) → k < n → f k ≡ g k) → allBelow n f ≡ allBelow n g
 all-same n f g h =

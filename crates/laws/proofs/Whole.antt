@@ -17,7 +17,8 @@ times-pos : (a b : ℤ) (n : ℕ) → (a +ℤ b) *ℤ pos n ≡ a *ℤ pos n +�
 times-pos a b n =
     diff-eq ((a +ℤ b) *ℤ pos n) (a *ℤ pos n +ℤ b *ℤ pos n)
     ((aboveZero a + aboveZero b) * n) ((belowZero a + belowZero b) * n) (aboveZero a * n + aboveZero b * n) (belowZero a * n + belowZero b * n)
-    (diff-scale (a +ℤ b) n (aboveZero a + aboveZero b) (belowZero a + belowZero b) (diff-add a b (aboveZero a) (belowZero a) (aboveZero b) (belowZero b) (diff-of a) (diff-of b)))
+    (diff-scale (a +ℤ b) n (aboveZero a + aboveZero b) (belowZero a + belowZero b)
+    (diff-add a b (aboveZero a) (belowZero a) (aboveZero b) (belowZero b) (diff-of a) (diff-of b)))
     (diff-add (a *ℤ pos n) (b *ℤ pos n) (aboveZero a * n) (belowZero a * n) (aboveZero b * n) (belowZero b * n)
     (diff-scale a n (aboveZero a) (belowZero a) (diff-of a)) (diff-scale b n (aboveZero b) (belowZero b) (diff-of b)))
     (ap₂ _+_ (add-mul (aboveZero a) (aboveZero b) n) (sym (add-mul (belowZero a) (belowZero b) n)))

@@ -9,7 +9,8 @@ use Rattle.ledger_asked.specs.declared.Asked.the-variants as A
 
 calls : List Asked
 calls =
-    askedOf [] [] ∷ askedOf (text "games.txt") (text "real-play") ∷ askedOf (text "--profile") (text "real-play") ∷ askedOf (text "--profile") (text "real") ∷ askedOf (text "--profile") [] ∷ []
+    askedOf [] [] ∷ askedOf (text "games.txt") (text "real-play") ∷ askedOf (text "--profile") (text "real-play")
+    ∷ askedOf (text "--profile") (text "real") ∷ askedOf (text "--profile") [] ∷ []
 
 calls-are : calls ≡ A.For P.Any 1 ∷ A.For P.Any 1 ∷ A.For P.RealPlay 3 ∷ A.Unknown ∷ A.Unknown ∷ []
 unfolding calls

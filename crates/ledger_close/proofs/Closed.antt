@@ -41,7 +41,8 @@ held-32 number line size = go (ltb (length line) size)
 under-32 : (profile : Profile) (number : ℕ) (said : Answer Line) → length (rowOf number said) ≤ 32 → length (rowOf number (under profile said)) ≤ 32
 under-32 P.Any number said h = h
 under-32 P.RealPlay number (given l) h =
-    either (bitboardsOf (l .board)) (l .state) (given l) (λ (a : Answer Line). length (rowOf number a) ≤ 32) (λ (r : Refusal). refused-32 number (numberOf r) (number-small r)) h
+    either (bitboardsOf (l .board)) (l .state) (given l) (λ (a : Answer Line). length (rowOf number a) ≤ 32)
+    (λ (r : Refusal). refused-32 number (numberOf r) (number-small r)) h
 under-32 P.RealPlay number (refused n v) h = h
 
 pub said-32 : (profile : Profile) (number : ℕ) (line : List ℕ) (size : ℕ) → length (rowOf number (saidUnder profile line size)) ≤ 32
@@ -56,10 +57,15 @@ row-judged profile number said old new at read bitboards r e f h = go (under pro
     go : (a : Answer Line) → under profile said ≡ a → PutsRow old new at a (rowOf number a) r
     go (given l) q =
         let same : said ≡ given l = sym (same-under profile said (l .state, l .half) (ap byValue q)) ∙ q in
-        row-read number (given l) old new at read bitboards r (e ∙ ap byValue q) (f ∙ ap (λ (a : Answer Line). bitboardsAfter a (bitboardsOf emptyBoard)) same) h
+        row-read number (given l) old new at read bitboards r (e ∙ ap byValue q)
+        (f ∙ ap (λ (a : Answer Line). bitboardsAfter a (bitboardsOf emptyBoard)) same) h
     go (refused n v) q =
         let out : paper read ≡ refused n v = e ∙ ap byValue q in
-        record { puts = subst (λ (u : List ℕ). Puts old new at u (r .placed)) (ap (saidRow number bitboards) out) (h .puts); loaded = h .loaded ∙ ap isLoaded out }
+        record {
+          puts = subst (λ (u : List ℕ). Puts old new at u (r .placed)) (ap (saidRow number bitboards) out) (h .puts);
+          loaded = h .loaded
+              ∙ ap isLoaded out;
+        }
 
 -- ---- as a text that is added
 pub closed-adds : (number : ℕ) (old new : List ℕ) (at : ℕ) (said : Answer Line) (r : Row)

@@ -47,7 +47,8 @@ module _ (profile : Profile) (state : SoFar) (line chunk out : List ℕ) where
   m = run profile (at state line []) chunk
 
   -- an answer of its own, with nothing changed
-  unchanged : (r : Fed) (a : Came Machine) → feedOf profile state line chunk out ≡ a → fed r ≡ cameByValue a → lineAfter a line ≡ line → textAfter a ≡ [] → wrote (fed r) ≡ 0
+  unchanged : (r : Fed) (a : Came Machine) → feedOf profile state line chunk out ≡ a → fed r ≡ cameByValue a → lineAfter a line ≡ line
+      → textAfter a ≡ [] → wrote (fed r) ≡ 0
       → Feeds profile state line chunk out r line out
   unchanged r a e f k t z = record {
     answer = f ∙ sym (ap cameByValue e);
@@ -73,7 +74,8 @@ module _ (profile : Profile) (state : SoFar) (line chunk out : List ℕ) where
       pub feed-ready : ends chunk ≤ length out / 32 → Ready state line chunk out
       feed-ready h = record { size = size; counts = ltb-true (state .loaded + state .refused + ends chunk) (2 ^ 64) counts; room = omega arith }
 
-      pub feed-rows : ends chunk ≤ length out / 32 → (r : Fed) (line′ out′ : List ℕ) → Takes profile state line chunk out r line′ out′ → Feeds profile state line chunk out r line′ out′
+      pub feed-rows : ends chunk ≤ length out / 32 → (r : Fed) (line′ out′ : List ℕ) → Takes profile state line chunk out r line′ out′
+          → Feeds profile state line chunk out r line′ out′
       unfolding lines room m
       feed-rows h r line′ out′ t =
           let e : feedOf profile state line chunk out ≡ came m = fit-came line lines room m size counts (le-leb (32 * ends chunk) (length out) (omega arith)) in

@@ -20,7 +20,8 @@ use Rattle.ledger_feed.specs.Machine.{run}
 
 -- over a buffer that held other bytes: 256 bytes are read, with CR LF too; 257 are LONG, and so is any longer line
 written : List ℕ → List ℕ
-unfolding runBy lineOf fieldsSay every holds before after without withoutLast trim placeIn areRanks stacked nthWord rightsFit passantFits countersFitFields stateSaid scoreOf tabulate bitboardsOf loadedRow refusedRow digitsUpTo
+unfolding runBy lineOf fieldsSay every holds before after without withoutLast trim placeIn areRanks stacked nthWord rightsFit passantFits
+    countersFitFields stateSaid scoreOf tabulate bitboardsOf loadedRow refusedRow digitsUpTo
 written input = run P.Any (record { line = replicate 256 7; held = 0; cr = false; loaded = 0; refused = 0; text = [] }) input .text
 
 abbrev pub long : ℕ → List ℕ → List ℕ

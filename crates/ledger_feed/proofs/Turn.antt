@@ -38,7 +38,8 @@ pub record Turn (profile : Profile) (whole : CutSoFar Kept) (chunk out₀ line o
   pub counts : loaded + refused + ends (drop i chunk) < 2 ^ 64
   pub rest : drop w out ≡ drop w out₀
 
-pub rows-same : {loaded loaded′ refused refused′ : ℕ} {text text′ : List ℕ} → loaded ≡ loaded′ → refused ≡ refused′ → text ≡ text′ → rows loaded refused text ≡ rows loaded′ refused′ text′
+pub rows-same : {loaded loaded′ refused refused′ : ℕ} {text text′ : List ℕ} → loaded ≡ loaded′ → refused ≡ refused′ → text ≡ text′
+    → rows loaded refused text ≡ rows loaded′ refused′ text′
 rows-same p q r = cc
 
 module _ (profile : Profile) (whole : CutSoFar Kept) (chunk out₀ line out : List ℕ) (begun : Begun) (loaded refused w i : ℕ) (h : i < length chunk)
@@ -53,7 +54,8 @@ module _ (profile : Profile) (whole : CutSoFar Kept) (chunk out₀ line out : Li
       let b = Lines.next-none begun line chunk i r line′ p e in
       let s : Kept = rows loaded refused (take w out) in
       record {
-        lines = Lines.turn-next (closeRow profile) whole 256 chunk line begun s i (t .lines) h r line′ p s (sym (ap (λ (x : Bool). cond x (closeRow profile s line′ (r .size)) s) e));
+        lines = Lines.turn-next (closeRow profile) whole 256 chunk line begun s i (t .lines) h r line′ p s
+            (sym (ap (λ (x : Bool). cond x (closeRow profile s line′ (r .size)) s) e));
         kept = t .kept;
         room = omega (arith, t .room);
         counts = omega (arith, t .counts);
@@ -73,9 +75,11 @@ module _ (profile : Profile) (whole : CutSoFar Kept) (chunk out₀ line out : Li
       let both = tally-both is loaded refused in
       let s : Kept = rows loaded refused (take w out) in
       let s′ : Kept = rows loaded′ refused′ (take w′ out′) in
-      let now : s′ ≡ closeRow profile s line′ (r .size) = rows-same (l ∙ ap (tally loaded) il) (q ∙ ap (λ (x : Bool). tally refused (not x)) il) (adds-front a fits) in
+      let now : s′ ≡ closeRow profile s line′ (r .size) = rows-same (l ∙ ap (tally loaded) il) (q ∙ ap (λ (x : Bool). tally refused (not x)) il)
+      (adds-front a fits) in
       record {
-        lines = Lines.turn-next (closeRow profile) whole 256 chunk line begun s i (t .lines) h r line′ p s′ (now ∙ sym (ap (λ (x : Bool). cond x (closeRow profile s line′ (r .size)) s) e));
+        lines = Lines.turn-next (closeRow profile) whole 256 chunk line begun s i (t .lines) h r line′ p s′
+            (now ∙ sym (ap (λ (x : Bool). cond x (closeRow profile s line′ (r .size)) s) e));
         kept = adds-length a fits ∙ t .kept;
         room = omega (arith, t .room);
         counts = omega (arith, t .counts);
@@ -93,7 +97,8 @@ ranOf profile state line chunk = runBy (closeRow profile) (openOf (at state line
 pub turn-none : (profile : Profile) (state : SoFar) (line chunk out : List ℕ) → Ready state line chunk out
     → Turn profile (ranOf profile state line chunk) chunk out line out (begunIn state) (state .loaded) (state .refused) 0 0
 turn-none profile state line chunk out r = record {
-  lines = subst (λ (n : ℕ). Lines.Turn (closeRow profile) (ranOf profile state line chunk) n chunk line (begunIn state) (rows (state .loaded) (state .refused) []) 0) (r .size)
+  lines = subst (λ (n : ℕ). Lines.Turn (closeRow profile) (ranOf profile state line chunk) n chunk line (begunIn state)
+      (rows (state .loaded) (state .refused) []) 0) (r .size)
       (Lines.turn-none (closeRow profile) chunk line (begunIn state) (rows (state .loaded) (state .refused) []));
   kept = refl;
   room = omega (arith, r .room);
@@ -107,7 +112,8 @@ pub turn-end : (profile : Profile) (state : SoFar) (line₀ chunk out₀ line ou
     → (next : SoFar) → MakesState (begun .held) (begun .cr) loaded refused next → Takes profile state line₀ chunk out₀ (F.Rows next w) line out
 turn-end profile state line₀ chunk out₀ line out begun loaded refused w i h t next made =
     let ran = Lines.turn-end (closeRow profile) (ranOf profile state line₀ chunk) 256 chunk line begun (rows loaded refused (take w out)) i (t .lines) h in
-    let m : run profile (at state line₀ []) chunk ≡ machineOf (record { left = opened begun line; kept = rows loaded refused (take w out) }) = ap machineOf ran in
+    let m : run profile (at state line₀ []) chunk ≡ machineOf (record { left = opened begun line; kept = rows loaded refused (take w out) }) =
+    ap machineOf ran in
     let within : w ≤ length out₀ = omega (arith, t .room) in
     let size : length (take w out) ≡ w = length-take-le w out (omega (arith, t .kept)) in
     let fits : 0 + length (take w out) ≤ length out₀ = omega arith in
@@ -115,7 +121,8 @@ turn-end profile state line₀ chunk out₀ line out begun loaded refused w i h 
       answer = ap₂ F.Rows (made ∙ sym (ap stateOf m)) (sym (ap (λ (x : Machine). length (x .text)) m ∙ size));
       kept = sym (ap (λ (x : Machine). x .line) m);
       rows =
-          sym (take-append-drop w out) ∙ ap (λ (l : List ℕ). take w out ++ l) (t .rest ∙ ap (λ (k : ℕ). drop k out₀) (let z : w ≡ 0 + length (take w out) = omega arith in z))
+          sym (take-append-drop w out) ∙ ap (λ (l : List ℕ). take w out ++ l)
+          (t .rest ∙ ap (λ (k : ℕ). drop k out₀) (let z : w ≡ 0 + length (take w out) = omega arith in z))
           ∙ sym (written-is out₀ 0 (take w out) fits) ∙ sym (ap (λ (x : Machine). writtenOf out₀ 0 (x .text)) m);
       within = subst (λ (x : Machine). length (x .text) ≤ length out₀) (sym m) (omega arith);
     }

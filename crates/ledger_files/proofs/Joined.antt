@@ -76,7 +76,8 @@ pub files : (profile : Profile) (line : List ℕ) (all : List (List ℕ)) (calls
 unfolding ledgerOf
 files profile line all calls last = record {
   ledger = λ size room few made is.
-      ledger profile line calls last .ledger size room (subst (λ (t : List ℕ). length (linesOf t) < 2 ^ 64) (sym is) (subst (λ (ls : List (List ℕ)). length ls < 2 ^ 64) (sym (lines-fed all)) few)) made
+      ledger profile line calls last .ledger size room (subst (λ (t : List ℕ). length (linesOf t) < 2 ^ 64) (sym is)
+      (subst (λ (ls : List (List ℕ)). length ls < 2 ^ 64) (sym (lines-fed all)) few)) made
       ∙ ap (ledgerOf profile) is ∙ ap (λ (ls : List (List ℕ)). rowsFrom profile 1 ls ++ totalsOf profile ls) (lines-fed all);
 }
 
@@ -111,7 +112,8 @@ unfinished-append l (b ∷ s) t = go (eqb b lf) (unfinished-append [] s t) (unfi
   where
     go : (u : Bool) → unfinishedFrom [] (s ++ t) ≡ unfinishedFrom (unfinishedFrom [] s) t
         → unfinishedFrom (l ++ (b ∷ [])) (s ++ t) ≡ unfinishedFrom (unfinishedFrom (l ++ (b ∷ [])) s) t
-        → cond u (unfinishedFrom [] (s ++ t)) (unfinishedFrom (l ++ (b ∷ [])) (s ++ t)) ≡ unfinishedFrom (cond u (unfinishedFrom [] s) (unfinishedFrom (l ++ (b ∷ [])) s)) t
+        → cond u (unfinishedFrom [] (s ++ t)) (unfinishedFrom (l ++ (b ∷ [])) (s ++ t))
+        ≡ unfinishedFrom (cond u (unfinishedFrom [] s) (unfinishedFrom (l ++ (b ∷ [])) s)) t
     go true p q = p
     go false p q = q
 
@@ -138,7 +140,8 @@ file-closed profile line before file r = record {
   closing = λ size e.
       let o : Open = runBy (closeRow profile) (openOf (at fresh line [])) (keptOf (at fresh line [])) (fedOf before ++ file) .left in
       let l : List ℕ = unfinishedFrom [] (fedOf before ++ file) in
-      let v = view-run (closeRow profile) (openOf (at fresh line [])) (keptOf (at fresh line [])) [] (fedOf before ++ file) (view-none (openOf (at fresh line [])) refl refl size) in
+      let v = view-run (closeRow profile) (openOf (at fresh line [])) (keptOf (at fresh line [])) [] (fedOf before ++ file)
+      (view-none (openOf (at fresh line [])) refl refl size) in
       let is : l ≡ unfinishedFrom [] file = unfinished-append [] (fedOf before) file ∙ ap (λ (x : List ℕ). unfinishedFrom x file) (fed-none before) in
       ap (λ (x : List ℕ). file ++ x) (e ∙ ap₂ closingBytes (held-some o l v) (v .ends) ∙ ap (λ (x : List ℕ). ending x) is);
 }

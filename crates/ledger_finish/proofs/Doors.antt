@@ -48,12 +48,15 @@ pub unwritten : (old : List ℕ) (at : ℕ) (text : List ℕ) → roomFor old at
 unwritten old at text e = rw e
 
 -- ---- the last rows
-pub finished-none : (profile : Profile) (state : SoFar) (line : List ℕ) → state .held ≡ 0 → lastRow (state .loaded + state .refused) (state .loaded) (state .refused) ≡ finished profile (at state line [])
+pub finished-none : (profile : Profile) (state : SoFar) (line : List ℕ) → state .held ≡ 0
+    → lastRow (state .loaded + state .refused) (state .loaded) (state .refused) ≡ finished profile (at state line [])
 unfolding finished
 finished-none profile state line e = rw (le-ltb 0 (state .held) (omega arith))
 
-module _ (profile : Profile) (state : SoFar) (line : List ℕ) (some : state .held ≡ 0 → ⊥) (t : Bool) (is : t ≡ isLoaded (saidUnder profile line (state .held))) where
-  finished-some : rowOf (state .loaded + state .refused + 1) (saidUnder profile line (state .held)) ++ lastRow (state .loaded + state .refused + 1) (tally (state .loaded) t) (tally (state .refused) (not t))
+module _ (profile : Profile) (state : SoFar) (line : List ℕ) (some : state .held ≡ 0 → ⊥) (t : Bool)
+    (is : t ≡ isLoaded (saidUnder profile line (state .held))) where
+  finished-some : rowOf (state .loaded + state .refused + 1) (saidUnder profile line (state .held))
+      ++ lastRow (state .loaded + state .refused + 1) (tally (state .loaded) t) (tally (state .refused) (not t))
       ≡ finished profile (at state line [])
   unfolding finished
   finished-some = rw (lt-ltb 0 (state .held) (omega arith), is, tally-both (isLoaded (saidUnder profile line (state .held))) (state .loaded) (state .refused))
@@ -65,7 +68,11 @@ module _ (profile : Profile) (state : SoFar) (line : List ℕ) (some : state .he
   finished-adds x y z b c h first second =
       subst (λ (u : List ℕ). Adds x 0 u z c) finished-some
       (adds-then first second
-      (omega (arith, said-32 profile (state .loaded + state .refused + 1) line (state .held), fits-last (state .loaded + state .refused + 1) (tally (state .loaded) t) (tally (state .refused) (not t)))))
+      (omega (
+        arith,
+        said-32 profile (state .loaded + state .refused + 1) line (state .held),
+        fits-last (state .loaded + state .refused + 1) (tally (state .loaded) t) (tally (state .refused) (not t)),
+      )))
 
 pub one-unfinished : (state : SoFar) → (state .held ≡ 0 → ⊥) → lastLines state ≡ state .loaded + state .refused + 1
 one-unfinished state some = rw (lt-ltb 0 (state .held) (omega arith))
@@ -81,7 +88,12 @@ finished-116 profile state line = go (ltb 0 (state .held))
     go true =
         let n : Machine = close profile m (m .held) in
         let row : List ℕ = rowOf (m .loaded + m .refused + 1) (saidUnder profile (m .line) (m .held)) in
-        omega (arith, length-append row (totals n), said-32 profile (m .loaded + m .refused + 1) line (state .held), fits-last (n .loaded + n .refused) (n .loaded) (n .refused))
+        omega (
+          arith,
+          length-append row (totals n),
+          said-32 profile (m .loaded + m .refused + 1) line (state .held),
+          fits-last (n .loaded + n .refused) (n .loaded) (n .refused),
+        )
     go false = omega (arith, fits-last (m .loaded + m .refused) (m .loaded) (m .refused))
 
 -- ---- finish
@@ -89,7 +101,8 @@ module _ (profile : Profile) (state : SoFar) (line out : List ℕ) where
   last : List ℕ
   last = finished profile (at state line [])
 
-  silent : (r : Finished) (a : Came (List ℕ)) → finishOf profile state line out ≡ a → finishPaper r ≡ lengthOf a → lastText a ≡ [] → lastWrote (finishPaper r) ≡ 0
+  silent : (r : Finished) (a : Came (List ℕ)) → finishOf profile state line out ≡ a → finishPaper r ≡ lengthOf a → lastText a ≡ []
+      → lastWrote (finishPaper r) ≡ 0
       → (out′ : List ℕ) → out′ ≡ out → Finishes profile state line out r out′
   silent r a e f t z out′ o = record {
     answer = f ∙ sym (ap lengthOf e);
@@ -106,7 +119,8 @@ module _ (profile : Profile) (state : SoFar) (line out : List ℕ) where
     unfolding last
     finish-many n = silent E.Many many (fit-many line (lastLines state) (roomFor out 0 last) last size n) refl refl refl out refl
 
-    module _ (counts : ltb (lastLines state) (2 ^ 64) ≡ true) (text : List ℕ) (is : text ≡ finished profile (at state line [])) (out′ : List ℕ) (p : Placed) (put : Puts out out′ 0 text p) where
+    module _ (counts : ltb (lastLines state) (2 ^ 64) ≡ true) (text : List ℕ) (is : text ≡ finished profile (at state line [])) (out′ : List ℕ)
+        (p : Placed) (put : Puts out out′ 0 text p) where
       puts : Puts out out′ 0 (finished profile (at state line [])) p
       puts = subst (λ (t : List ℕ). Puts out out′ 0 t p) is put
 
@@ -114,7 +128,8 @@ module _ (profile : Profile) (state : SoFar) (line out : List ℕ) where
       unfolding last
       finish-full told =
           let none = placed-full out 0 last (sym (ap place told) ∙ puts .0) in
-          silent E.Full full (fit-full line (lastLines state) (roomFor out 0 last) last size counts none) refl refl refl out′ (puts .1 ∙ unwritten out 0 last none)
+          silent E.Full full (fit-full line (lastLines state) (roomFor out 0 last) last size counts none) refl refl refl out′
+          (puts .1 ∙ unwritten out 0 last none)
 
       pub finish-rows : (n : ℕ) → p ≡ At n → Finishes profile state line out (E.Rows n) out′
       unfolding last

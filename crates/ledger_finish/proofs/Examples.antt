@@ -23,11 +23,13 @@ use Rattle.ledger_finish.specs.Last.{finished}
 
 -- over a buffer that held other bytes: the CR of a last line with no LF is kept, and makes 257 bytes of 256
 written : List ℕ → List ℕ
-unfolding runBy finished lineOf fieldsSay every holds before after without withoutLast trim placeIn areRanks stacked nthWord rightsFit passantFits countersFitFields stateSaid scoreOf tabulate bitboardsOf loadedRow refusedRow lastRow digitsUpTo
+unfolding runBy finished lineOf fieldsSay every holds before after without withoutLast trim placeIn areRanks stacked nthWord rightsFit passantFits
+    countersFitFields stateSaid scoreOf tabulate bitboardsOf loadedRow refusedRow lastRow digitsUpTo
 written input = finished P.Any (run P.Any (record { line = replicate 256 7; held = 0; cr = false; loaded = 0; refused = 0; text = [] }) input)
 
 boundaries :
     written (long 235 []) ∷ written (long 235 (text "\r")) ∷ written (text "\n") ∷ written [] ∷ []
-    ≡ text "1 2 lost\nlines 1 loaded 1 refused 0\n" ∷ text "1 refused 8\nlines 1 loaded 0 refused 1\n" ∷ text "1 refused 10\nlines 1 loaded 0 refused 1\n" ∷ text "lines 0 loaded 0 refused 0\n" ∷ []
+    ≡ text "1 2 lost\nlines 1 loaded 1 refused 0\n" ∷ text "1 refused 8\nlines 1 loaded 0 refused 1\n"
+    ∷ text "1 refused 10\nlines 1 loaded 0 refused 1\n" ∷ text "lines 0 loaded 0 refused 0\n" ∷ []
 unfolding written
 boundaries = refl

@@ -33,13 +33,16 @@ pub held-fits : (s next : Joining) (row : List ℕ) (b : ℕ) → next ≡ holds
 held-fits s next row b e q h = let k : next .held ≡ s .held + 1 = ap (λ (x : Joining). x .held) e in omega (arith, length-set row (s .held) b)
 
 module _ (s : Joining) (row out : List ℕ) (b at : ℕ) where
-  pub held-more : (b ≡ 10 → ⊥) → at ≤ length out → (r : ByteTaken) → r ≡ record { state = holdsMore s; end = at } → HoldsByte s row out b at r (set row (s .held) b) out
+  pub held-more : (b ≡ 10 → ⊥) → at ≤ length out → (r : ByteTaken) → r ≡ record { state = holdsMore s; end = at }
+      → HoldsByte s row out b at r (set row (s .held) b) out
   held-more n h r e =
-      let q : byteHeld s row [] b ≡ joint (set row (s .held) b) (holdsMore s) [] = ap (λ (t : Bool). cond t (rowEnded (holdsMore s) (set row (s .held) b) []) (joint (set row (s .held) b) (holdsMore s) [])) (ne-eqb b 10 n) in
+      let q : byteHeld s row [] b ≡ joint (set row (s .held) b) (holdsMore s) [] =
+      ap (λ (t : Bool). cond t (rowEnded (holdsMore s) (set row (s .held) b) []) (joint (set row (s .held) b) (holdsMore s) [])) (ne-eqb b 10 n) in
       record {
         state = ap (λ (x : ByteTaken). x .state) e ∙ sym (ap (λ (m : Joint). m .state) q);
         kept = sym (ap (λ (m : Joint). m .row) q);
-        text = subst (λ (m : Joint). Adds out at (m .text) out (r .end)) (sym q) (subst (λ (k : ℕ). Adds out at [] out k) (sym (ap (λ (x : ByteTaken). x .end) e)) (adds-none out at));
+        text = subst (λ (m : Joint). Adds out at (m .text) out (r .end)) (sym q)
+            (subst (λ (k : ℕ). Adds out at [] out k) (sym (ap (λ (x : ByteTaken). x .end) e)) (adds-none out at));
       }
 
   pub held-row : b ≡ 10 → (next : Joining) → next ≡ holdsMore s → (r : ByteTaken) (out′ : List ℕ) → ClosesRow next (set row (s .held) b) out at r out′
@@ -55,7 +58,8 @@ module _ (s : Joining) (row out : List ℕ) (b at : ℕ) where
       }
 
   -- ---- and any byte
-  taken-as : (m : Joint) → byteOn (joint row s []) b ≡ m → (r : ByteTaken) (row′ out′ : List ℕ) → r .state ≡ m .state → row′ ≡ m .row → Adds out at (m .text) out′ (r .end)
+  taken-as : (m : Joint) → byteOn (joint row s []) b ≡ m → (r : ByteTaken) (row′ out′ : List ℕ) → r .state ≡ m .state → row′ ≡ m .row
+      → Adds out at (m .text) out′ (r .end)
       → TakesByte s row out b at r row′ out′
   taken-as m e r row′ out′ p q t = record {
     state = p ∙ sym (ap (λ (x : Joint). x .state) e);
@@ -63,23 +67,28 @@ module _ (s : Joining) (row out : List ℕ) (b at : ℕ) where
     text = subst (λ (x : Joint). Adds out at (x .text) out′ (r .end)) (sym e) t;
   }
 
-  unchanged : (u : Joining) → byteOn (joint row s []) b ≡ joint row u [] → at ≤ length out → (r : ByteTaken) → r ≡ record { state = u; end = at } → TakesByte s row out b at r row out
+  unchanged : (u : Joining) → byteOn (joint row s []) b ≡ joint row u [] → at ≤ length out → (r : ByteTaken) → r ≡ record { state = u; end = at }
+      → TakesByte s row out b at r row out
   unchanged u e h r q =
-      taken-as (joint row u []) e r row out (ap (λ (x : ByteTaken). x .state) q) refl (subst (λ (k : ℕ). Adds out at [] out k) (sym (ap (λ (x : ByteTaken). x .end) q)) (adds-none out at))
+      taken-as (joint row u []) e r row out (ap (λ (x : ByteTaken). x .state) q) refl
+      (subst (λ (k : ℕ). Adds out at [] out k) (sym (ap (λ (x : ByteTaken). x .end) q)) (adds-none out at))
 
   pub byte-stopped : s .stopped ≡ true → at ≤ length out → (r : ByteTaken) → r ≡ record { state = s; end = at } → TakesByte s row out b at r row out
   unfolding byteOn
   byte-stopped e = unchanged s (rw e)
 
   module _ (go-on : s .stopped ≡ false) where
-    pub byte-ended : s .ended ≡ true → at ≤ length out → (u : Joining) → u ≡ halted s → (r : ByteTaken) → r ≡ record { state = u; end = at } → TakesByte s row out b at r row out
+    pub byte-ended : s .ended ≡ true → at ≤ length out → (u : Joining) → u ≡ halted s → (r : ByteTaken) → r ≡ record { state = u; end = at }
+        → TakesByte s row out b at r row out
     unfolding byteOn
     byte-ended e h u q =
         unchanged u
-        (ap₂ (λ (x y : Bool). cond x (joint row s []) (cond (y || leb 84 (s .held)) (joint row (halted s) []) (byteHeld s row [] b))) go-on e ∙ ap (λ (k : Joining). joint row k []) (sym q)) h
+        (ap₂ (λ (x y : Bool). cond x (joint row s []) (cond (y || leb 84 (s .held)) (joint row (halted s) []) (byteHeld s row [] b))) go-on e
+        ∙ ap (λ (k : Joining). joint row k []) (sym q)) h
 
     module _ (more : s .ended ≡ false) where
-      pub byte-long : 84 ≤ s .held → at ≤ length out → (u : Joining) → u ≡ halted s → (r : ByteTaken) → r ≡ record { state = u; end = at } → TakesByte s row out b at r row out
+      pub byte-long : 84 ≤ s .held → at ≤ length out → (u : Joining) → u ≡ halted s → (r : ByteTaken) → r ≡ record { state = u; end = at }
+          → TakesByte s row out b at r row out
       unfolding byteOn
       byte-long k h u q =
           unchanged u

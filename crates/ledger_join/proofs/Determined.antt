@@ -5,7 +5,8 @@ use mathlib.Core.List.{List}
 use Prim.Native.Nat.{ℕ}
 use Rattle.refusal.proofs.Paper.{one, retract, ofNumber, number-back}
 use Rattle.ledger_feed.specs.Promises.{Came, turned, many, full, came}
-use Rattle.ledger_join.specs.Promises.{StartsJoin, fedPart, FeedsPart, PartEnd, onward, noLedgerAt, tooMany, noRoom, nextSaid, TurnsPart, endSaid, EndsJoin}
+use Rattle.ledger_join.specs.Promises.{StartsJoin, fedPart, FeedsPart, PartEnd, onward, noLedgerAt, tooMany, noRoom, nextSaid, TurnsPart}
+use Rattle.ledger_join.specs.Promises.{endSaid, EndsJoin}
 use Rattle.ledger_join.specs.declared.Joining.{Joining}
 use Rattle.ledger_join.specs.declared.FedPart.{FedPart}
 use Rattle.ledger_join.specs.declared.FedPart.the-variants as F
@@ -62,5 +63,6 @@ feed state row chunk out r s row₁ out₁ row₂ out₂ p q =
 pub next-part : (state : Joining) (r s : NextPart) → TurnsPart state r → TurnsPart state s → r ≡ s
 next-part state r s p q = retract nextSaid nextFrom next-back r s (one p q)
 
-pub finish : (state : Joining) (out : List ℕ) (r s : EndedJoin) (out₁ out₂ : List ℕ) → EndsJoin state out r out₁ → EndsJoin state out s out₂ → (r ≡ s) × (out₁ ≡ out₂)
+pub finish : (state : Joining) (out : List ℕ) (r s : EndedJoin) (out₁ out₂ : List ℕ) → EndsJoin state out r out₁ → EndsJoin state out s out₂ → (r ≡ s)
+    × (out₁ ≡ out₂)
 finish state out r s out₁ out₂ p q = (retract endSaid endFrom end-back r s (one (p .answer) (q .answer)), one (p .row) (q .row))

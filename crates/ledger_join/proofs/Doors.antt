@@ -18,7 +18,8 @@ use Rattle.ledger_feed.proofs.Doors.{written-nothing}
 use Rattle.ledger_joined_row.proofs.Laws.{and-left, and-right}
 use Rattle.ledger_join.specs.Machine.{Joint, joint, ownNumber, bytesOn}
 use Rattle.ledger_join.specs.Promises.{countsFit, isAmple, feedPart, fedPart, jointByValue, rowAfter, jointText, wroteOf, FeedsPart, RowReady, TakesBytes}
-use Rattle.ledger_join.specs.Promises.{PartEnd, onward, noLedgerAt, tooMany, noRoom, nextPart, nextPartOf, isBetween, totalsOfAll, endJoinOf, endSaid, endByValue, endText, endWrote, EndsJoin}
+use Rattle.ledger_join.specs.Promises.{PartEnd, onward, noLedgerAt, tooMany, noRoom, nextPart, nextPartOf, isBetween, totalsOfAll, endJoinOf}
+use Rattle.ledger_join.specs.Promises.{endSaid, endByValue, endText, endWrote, EndsJoin}
 use Rattle.ledger_join.specs.declared.Joining.{Joining}
 use Rattle.ledger_join.specs.declared.FedPart.{FedPart}
 use Rattle.ledger_join.specs.declared.FedPart.the-variants as F
@@ -28,10 +29,12 @@ use Rattle.ledger_join.specs.declared.EndedJoin.the-variants as E
 -- ---- the counts
 module _ (s : Joining) (more : ℕ) (e : countsFit s more ≡ true) where
   pub all-fit : s .loads + s .refusals + more < 2 ^ 64
-  all-fit = ltb-true (s .loads + s .refusals + more) (2 ^ 64) (and-left (ltb (s .loads + s .refusals + more) (2 ^ 64)) (ltb (s .loaded + s .refused + more) (2 ^ 64)) e)
+  all-fit = ltb-true (s .loads + s .refusals + more) (2 ^ 64) (and-left (ltb (s .loads + s .refusals + more) (2 ^ 64))
+      (ltb (s .loaded + s .refused + more) (2 ^ 64)) e)
 
   pub own-fit : s .loaded + s .refused + more < 2 ^ 64
-  own-fit = ltb-true (s .loaded + s .refused + more) (2 ^ 64) (and-right (ltb (s .loads + s .refusals + more) (2 ^ 64)) (ltb (s .loaded + s .refused + more) (2 ^ 64)) e)
+  own-fit = ltb-true (s .loaded + s .refused + more) (2 ^ 64) (and-right (ltb (s .loads + s .refusals + more) (2 ^ 64))
+      (ltb (s .loaded + s .refused + more) (2 ^ 64)) e)
 
 pub ample-less : (s : Joining) (bytes room : ℕ) → room / 64 < bytes → false ≡ isAmple s bytes room
 ample-less s bytes room h = rw (lt-leb bytes (room / 64) h)
@@ -48,15 +51,20 @@ module _ (s : Joining) (chunk out : List ℕ) (e : isAmple s (length chunk) (len
   ample-fit =
       let a = all-fit s (length chunk) all-counts in
       let b = own-fit s (length chunk) all-counts in
-      rw (lt-ltb (s .loads + s .refusals + ends chunk) (2 ^ 64) (omega (arith, ends-le chunk)), lt-ltb (s .loaded + s .refused + ends chunk) (2 ^ 64) (omega (arith, ends-le chunk)))
+      rw (
+        lt-ltb (s .loads + s .refusals + ends chunk) (2 ^ 64) (omega (arith, ends-le chunk)),
+        lt-ltb (s .loaded + s .refused + ends chunk) (2 ^ 64) (omega (arith, ends-le chunk)),
+      )
 
   pub ample-room : ends chunk ≤ length out / 64
-  ample-room = let h = leb-true (length chunk) (length out / 64) (and-left (leb (length chunk) (length out / 64)) (countsFit s (length chunk)) e) in omega (arith, ends-le chunk)
+  ample-room = let h = leb-true (length chunk) (length out / 64) (and-left (leb (length chunk) (length out / 64)) (countsFit s (length chunk)) e) in
+      omega (arith, ends-le chunk)
 
 -- ---- feed
 module _ (s : Joining) (row chunk out : List ℕ) where
   -- an answer of its own, with nothing changed
-  unchanged : (r : FedPart) (a : Came Joint) → feedPart s row chunk out ≡ a → fedPart r ≡ jointByValue a → rowAfter a row ≡ row → jointText a ≡ [] → wroteOf (fedPart r) ≡ 0
+  unchanged : (r : FedPart) (a : Came Joint) → feedPart s row chunk out ≡ a → fedPart r ≡ jointByValue a → rowAfter a row ≡ row → jointText a ≡ []
+      → wroteOf (fedPart r) ≡ 0
       → FeedsPart s row chunk out r row out
   unchanged r a e f k t z = record {
     answer = f ∙ sym (ap jointByValue e);
@@ -79,9 +87,11 @@ module _ (s : Joining) (row chunk out : List ℕ) where
       pub feed-ready : ends chunk ≤ length out / 64 → RowReady s out 0 (ends chunk)
       feed-ready h = record { all = all-fit s (ends chunk) counts; own = own-fit s (ends chunk) counts; room = omega arith }
 
-      pub feed-rows : ends chunk ≤ length out / 64 → (r : FedPart) (row′ out′ : List ℕ) → TakesBytes s row chunk out r row′ out′ → FeedsPart s row chunk out r row′ out′
+      pub feed-rows : ends chunk ≤ length out / 64 → (r : FedPart) (row′ out′ : List ℕ) → TakesBytes s row chunk out r row′ out′
+          → FeedsPart s row chunk out r row′ out′
       feed-rows h r row′ out′ t =
-          let e : feedPart s row chunk out ≡ came (bytesOn (joint row s []) chunk) = rw (eq-eqb (length row) 84 size, counts, le-leb (64 * ends chunk) (length out) (omega arith)) in
+          let e : feedPart s row chunk out ≡ came (bytesOn (joint row s []) chunk) =
+          rw (eq-eqb (length row) 84 size, counts, le-leb (64 * ends chunk) (length out) (omega arith)) in
           record {
             answer = ap fedPart (t .answer) ∙ sym (ap jointByValue e);
             kept = t .kept ∙ sym (ap (λ (a : Came Joint). rowAfter a row) e);
@@ -104,7 +114,8 @@ module _ (s : Joining) where
 
 -- ---- finish
 module _ (s : Joining) (out : List ℕ) where
-  none-put : (r : EndedJoin) (a : PartEnd (List ℕ)) → endJoinOf s out ≡ a → endSaid r ≡ endByValue a → endText a ≡ [] → endWrote (endSaid r) ≡ 0 → EndsJoin s out r out
+  none-put : (r : EndedJoin) (a : PartEnd (List ℕ)) → endJoinOf s out ≡ a → endSaid r ≡ endByValue a → endText a ≡ [] → endWrote (endSaid r) ≡ 0
+      → EndsJoin s out r out
   none-put r a e f t z = record {
     answer = f ∙ sym (ap endByValue e);
     row = written-nothing out ∙ sym (ap (λ (b : PartEnd (List ℕ)). writtenOf out 0 (endText b)) e ∙ ap (writtenOf out 0) t);

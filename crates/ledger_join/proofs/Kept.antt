@@ -68,7 +68,8 @@ last-digit : (m : ℕ) → decimalOf m ≡ frontDigits m ++ ((48 + m % 10) ∷ [
 unfolding digitsUpTo frontDigits
 last-digit m = go (ltb m 10) refl
   where
-    go : (t : Bool) → ltb m 10 ≡ t → cond t ((48 + m) ∷ []) (digitsUpTo 19 (m / 10) ++ ((48 + m % 10) ∷ [])) ≡ cond t [] (digitsUpTo 19 (m / 10)) ++ ((48 + m % 10) ∷ [])
+    go : (t : Bool) → ltb m 10 ≡ t → cond t ((48 + m) ∷ []) (digitsUpTo 19 (m / 10) ++ ((48 + m % 10) ∷ [])) ≡ cond t [] (digitsUpTo 19 (m / 10))
+        ++ ((48 + m % 10) ∷ [])
     go true e = ap (λ (d : ℕ). (48 + d) ∷ []) (let h = ltb-true m 10 e in let z : m ≡ m % 10 = omega arith in z)
     go false e = refl
 
@@ -93,7 +94,8 @@ same-last a b x y e =
       ap (λ (t : List ℕ). getD t 0 0) (sym (drop-at a (x ∷ []) (length a) refl) ∙ ap (drop (length a)) e ∙ drop-at b (y ∷ []) (length a) k),
     )
 
-next-text : (text : List ℕ) (j m : ℕ) → j < length text → take (suc j) text ≡ decimalOf m → getD text j 0 < 57 → take (suc j) (set text j (getD text j 0 + 1)) ≡ decimalOf (m + 1)
+next-text : (text : List ℕ) (j m : ℕ) → j < length text → take (suc j) text ≡ decimalOf m → getD text j 0 < 57
+    → take (suc j) (set text j (getD text j 0 + 1)) ≡ decimalOf (m + 1)
 next-text text j m h e l =
     let x : ℕ = getD text j 0 in
     let q = same-last (take j text) (frontDigits m) x (48 + m % 10) (sym (take-suc text j 0 h) ∙ e ∙ last-digit m) in
@@ -101,7 +103,8 @@ next-text text j m h e l =
     let y : x + 1 ≡ 48 + (m + 1) % 10 = omega (arith, q .1) in
     take-suc-set text j (x + 1) h ∙ ap₂ (λ (a : List ℕ) (b : ℕ). a ++ (b ∷ [])) (q .0 ∙ sym (front-next m d)) y ∙ sym (last-digit (m + 1))
 
-pub counted : (text : List ℕ) (k from to : ℕ) → KeepsNumber text k from → isNext text k from to ≡ true → KeepsNumber (set text (k - 1) (getD text (k - 1) 0 + 1)) k to
+pub counted : (text : List ℕ) (k from to : ℕ) → KeepsNumber text k from → isNext text k from to ≡ true
+    → KeepsNumber (set text (k - 1) (getD text (k - 1) 0 + 1)) k to
 counted text k from to p e =
     let n = next-is text k from to e in
     let j : suc (k - 1) ≡ k = omega (arith, n .some) in
@@ -110,6 +113,7 @@ counted text k from to p e =
       within = p .within;
       number = λ h.
           ap (λ (x : ℕ). take x (set text (k - 1) (getD text (k - 1) 0 + 1))) (sym j)
-          ∙ next-text text (k - 1) (from + 1) (omega (arith, n .some, p .within, p .size)) (ap (λ (x : ℕ). take x text) j ∙ p .number (omega (arith, n .one))) (n .less)
+          ∙ next-text text (k - 1) (from + 1) (omega (arith, n .some, p .within, p .size))
+          (ap (λ (x : ℕ). take x text) j ∙ p .number (omega (arith, n .one))) (n .less)
           ∙ ap decimalOf (let z : from + 1 + 1 ≡ to + 1 = omega (arith, n .one) in z);
     }

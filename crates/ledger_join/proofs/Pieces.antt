@@ -34,7 +34,8 @@ later t m = joint (m .row) (m .state) (t ++ m .text)
 byte-later : (t : List ℕ) (m : Joint) (b : ℕ) → byteOn (later t m) b ≡ later t (byteOn m b)
 byte-later t m b =
     let u : Joint = byteOn (joint (m .row) (m .state) []) b in
-    byte-after (m .row) (m .state) (t ++ m .text) b ∙ ap (joint (u .row) (u .state)) (append-assoc t (m .text) (u .text)) ∙ sym (ap (later t) (byte-after (m .row) (m .state) (m .text) b))
+    byte-after (m .row) (m .state) (t ++ m .text) b ∙ ap (joint (u .row) (u .state)) (append-assoc t (m .text) (u .text))
+    ∙ sym (ap (later t) (byte-after (m .row) (m .state) (m .text) b))
 
 pub bytes-later : (t : List ℕ) (m : Joint) (a : List ℕ) → bytesOn (later t m) a ≡ later t (bytesOn m a)
 unfolding bytesOn
@@ -93,15 +94,19 @@ laid row n (b ∷ a) = laid (set row n b) (n + 1) a
 laid-cut : (row : List ℕ) (n : ℕ) (a : List ℕ) (b : ℕ) → laid row n (a ++ (b ∷ [])) ≡ set (laid row n a) (n + length a) b
 unfolding laid
 laid-cut row n [] b = ap (λ (k : ℕ). set row k b) (let e : n ≡ n + 0 = omega arith in e)
-laid-cut row n (c ∷ a) b = laid-cut (set row n c) (n + 1) a b ∙ ap (λ (k : ℕ). set (laid (set row n c) (n + 1) a) k b) (let e : n + 1 + length a ≡ n + suc (length a) = omega arith in e)
+laid-cut row n (c ∷ a) b = laid-cut (set row n c) (n + 1) a b ∙ ap (λ (k : ℕ). set (laid (set row n c) (n + 1) a) k b)
+    (let e : n + 1 + length a ≡ n + suc (length a) = omega arith in e)
 
-laid-wrote : (old row : List ℕ) (n : ℕ) (q a : List ℕ) → length row ≡ length old → n + length a ≤ length old → Wrote old row 0 n q → Wrote old (laid row n a) 0 (n + length a) (q ++ a)
+laid-wrote : (old row : List ℕ) (n : ℕ) (q a : List ℕ) → length row ≡ length old → n + length a ≤ length old → Wrote old row 0 n q
+    → Wrote old (laid row n a) 0 (n + length a) (q ++ a)
 unfolding laid
-laid-wrote old row n q [] l h w = subst (λ (x : List ℕ). Wrote old row 0 (n + 0) x) (sym (append-nil q)) (subst (λ (k : ℕ). Wrote old row 0 k q) (let e : n ≡ n + 0 = omega arith in e) w)
+laid-wrote old row n q [] l h w = subst (λ (x : List ℕ). Wrote old row 0 (n + 0) x) (sym (append-nil q))
+    (subst (λ (k : ℕ). Wrote old row 0 k q) (let e : n ≡ n + 0 = omega arith in e) w)
 laid-wrote old row n q (b ∷ a) l h w =
     let next = laid-wrote old (set row n b) (n + 1) (q ++ (b ∷ [])) a (length-set row n b ∙ l) (omega arith) (wrote-more old row 0 n q b l (omega arith) w) in
     subst (λ (x : List ℕ). Wrote old (laid (set row n b) (n + 1) a) 0 (n + suc (length a)) x) (append-assoc q (b ∷ []) a)
-    (subst (λ (k : ℕ). Wrote old (laid (set row n b) (n + 1) a) 0 k ((q ++ (b ∷ [])) ++ a)) (let e : n + 1 + length a ≡ n + suc (length a) = omega arith in e) next)
+    (subst (λ (k : ℕ). Wrote old (laid (set row n b) (n + 1) a) 0 k ((q ++ (b ∷ [])) ++ a))
+    (let e : n + 1 + length a ≡ n + suc (length a) = omega arith in e) next)
 
 -- all of a row, put at the buffer's front
 laid-is : (row a : List ℕ) → length a ≤ length row → laid row 0 a ≡ writtenOf row 0 a
@@ -123,7 +128,8 @@ module _ (s : Joining) (going : s .stopped ≡ false) (unended : s .ended ≡ fa
   unfolding byteOn
   byte-going row n b h = rw (going, unended, lt-leb 84 n h)
 
-  held-on : (row : List ℕ) (n : ℕ) (a : List ℕ) → ends a ≡ 0 → n + length a ≤ 84 → bytesOn (joint row (holding s n) []) a ≡ joint (laid row n a) (holding s (n + length a)) []
+  held-on : (row : List ℕ) (n : ℕ) (a : List ℕ) → ends a ≡ 0 → n + length a ≤ 84
+      → bytesOn (joint row (holding s n) []) a ≡ joint (laid row n a) (holding s (n + length a)) []
   unfolding bytesOn laid
   held-on row n [] e h = ap (λ (k : ℕ). joint row (holding s k) []) (let z : n ≡ n + 0 = omega arith in z)
   held-on row n (b ∷ a) e h =
@@ -152,12 +158,14 @@ module _ (s : Joining) (going : s .stopped ≡ false) (unended : s .ended ≡ fa
       let last : List ℕ = set (laid row 0 body) (0 + n) 10 in
       let written : last ≡ writtenOf row 0 piece = sym (laid-cut row 0 body 10) ∙ laid-is row piece (omega (arith, size)) in
       let front : take (0 + n + 1) last ≡ piece =
-      ap₂ (λ (k : ℕ) (x : List ℕ). take k x) (let z : 0 + n + 1 ≡ 0 + length piece = omega arith in z) written ∙ written-front row 0 piece (omega (arith, size)) in
+      ap₂ (λ (k : ℕ) (x : List ℕ). take k x) (let z : 0 + n + 1 ≡ 0 + length piece = omega arith in z) written
+      ∙ written-front row 0 piece (omega (arith, size)) in
       ap (λ (k : ℕ). bytesOn (joint row (holding s k) []) piece) fresh
       ∙ bytes-cut (joint row (holding s 0) []) body (10 ∷ [])
       ∙ ap (λ (m : Joint). byteOn m 10) (held-on row 0 body e (omega arith))
       ∙ byte-going (laid row 0 body) (0 + n) 10 (omega arith)
       ∙ ap₂ (λ (x : Joining) (y : List ℕ). joint last x y)
-      (after-holding (0 + n + 1) (rowIs (ownNumber s) (s .loaded) (s .refused) (take (0 + n + 1) last)) ∙ ap (λ (x : List ℕ). afterRow s (rowIs (ownNumber s) (s .loaded) (s .refused) x)) front)
+      (after-holding (0 + n + 1) (rowIs (ownNumber s) (s .loaded) (s .refused) (take (0 + n + 1) last))
+      ∙ ap (λ (x : List ℕ). afterRow s (rowIs (ownNumber s) (s .loaded) (s .refused) x)) front)
       (ap (textOf (ownNumber s) (wholeNumber s)) front)
       ∙ ap (λ (x : List ℕ). joint x (afterRow s (rowIs (ownNumber s) (s .loaded) (s .refused) piece)) (textOf (ownNumber s) (wholeNumber s) piece)) written

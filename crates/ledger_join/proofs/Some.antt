@@ -80,7 +80,8 @@ one-on : (m : Joint) (b : ℕ) → bytesOn m (b ∷ []) ≡ byteOn m b
 unfolding bytesOn
 one-on m b = refl
 
-pub some-byte : (s : Joining) (row chunk out : List ℕ) (at : ℕ) → 0 < length chunk → (t : ByteTaken) (row′ out′ : List ℕ) → TakesByte s row out (getD chunk 0 0) at t row′ out′
+pub some-byte : (s : Joining) (row chunk out : List ℕ) (at : ℕ) → 0 < length chunk → (t : ByteTaken) (row′ out′ : List ℕ)
+    → TakesByte s row out (getD chunk 0 0) at t row′ out′
     → TakesSome s row chunk out at (record { state = t .state; end = t .end; passed = 1 }) row′ out′
 some-byte s row chunk out at h t row′ out′ p =
     let e : byteOn (joint row s []) (getD chunk 0 0) ≡ bytesOn (joint row s []) (take 1 chunk) =
@@ -94,7 +95,8 @@ some-byte s row chunk out at h t row′ out′ p =
     }
 
 -- ---- a row
-loaded-is : (number loaded others : ℕ) (row : List ℕ) → isRow number row ≡ true → saysRefused (afterNumber number row) ≡ false → rowIs number loaded others row ≡ K.Loaded
+loaded-is : (number loaded others : ℕ) (row : List ℕ) → isRow number row ≡ true → saysRefused (afterNumber number row) ≡ false
+    → rowIs number loaded others row ≡ K.Loaded
 unfolding rowIs
 loaded-is number loaded others row e f = rw (e, f)
 
@@ -123,7 +125,12 @@ module _ (s : Joining) (row chunk whole out : List ℕ) (at : ℕ) (ready : Some
   some-ready =
       let l = length-take-le (r .size) chunk (plain .fits) in
       record {
-        ready = record { all = omega (arith, ready .ready .all, one-ends); own = omega (arith, ready .ready .own, one-ends); room = omega (arith, ready .ready .room, one-ends) };
+        ready = record {
+          all = omega (arith, ready .ready .all, one-ends);
+          own = omega (arith, ready .ready .own, one-ends);
+          room =
+              omega (arith, ready .ready .room, one-ends);
+        };
         size = ready .size;
         short = omega (arith, plain .short);
         within = omega (arith, plain .within);
@@ -133,8 +140,10 @@ module _ (s : Joining) (row chunk whole out : List ℕ) (at : ℕ) (ready : Some
   row-is : bytesOn (joint row s []) (take (r .size) chunk) ≡ joint (writtenOf row 0 (take (r .size) chunk))
       (afterRow s (rowIs (ownNumber s) (s .loaded) (s .refused) (take (r .size) chunk))) (textOf (ownNumber s) (wholeNumber s) (take (r .size) chunk))
   row-is =
-      subst (λ (p : List ℕ). bytesOn (joint row s []) p ≡ joint (writtenOf row 0 p) (afterRow s (rowIs (ownNumber s) (s .loaded) (s .refused) p)) (textOf (ownNumber s) (wholeNumber s) p))
-      (sym (plain .row)) (row-on s (fresh .going) (fresh .unended) row (plain .body) (fresh .held) (ready .size) (plain .unended) (omega (arith, plain .size, plain .short)))
+      subst (λ (p : List ℕ). bytesOn (joint row s []) p ≡ joint (writtenOf row 0 p) (afterRow s (rowIs (ownNumber s) (s .loaded) (s .refused) p))
+      (textOf (ownNumber s) (wholeNumber s) p))
+      (sym (plain .row)) (row-on s (fresh .going) (fresh .unended) row (plain .body) (fresh .held) (ready .size) (plain .unended)
+      (omega (arith, plain .size, plain .short)))
 
   pub some-row : (t : ByteTaken) (row′ out′ : List ℕ) → TakesPlain s row (take (r .size) chunk) whole out (r .front) at t row′ out′
       → TakesSome s row chunk out at (record { state = t .state; end = t .end; passed = r .size }) row′ out′
@@ -145,7 +154,8 @@ module _ (s : Joining) (row chunk whole out : List ℕ) (at : ℕ) (ready : Some
       record {
         some = omega (arith, plain .size);
         passed = plain .fits;
-        state = p .state ∙ ap (afterRow s) (sym (loaded-is (ownNumber s) (s .loaded) (s .refused) (take (r .size) chunk) (plain .is-row) (plain .loaded))) ∙ sym (ap (λ (m : Joint). m .state) row-is);
+        state = p .state ∙ ap (afterRow s) (sym (loaded-is (ownNumber s) (s .loaded) (s .refused) (take (r .size) chunk) (plain .is-row)
+            (plain .loaded))) ∙ sym (ap (λ (m : Joint). m .state) row-is);
         kept = p .kept ∙ sym (ap (λ (m : Joint). m .row) row-is);
         text = subst (λ (x : List ℕ). Adds out at x out′ (t .end)) (e ∙ sym (ap (λ (m : Joint). m .text) row-is)) (p .put);
       }

@@ -31,7 +31,8 @@ bytes-none : (m : Joint) → bytesOn m [] ≡ m
 unfolding bytesOn
 bytes-none m = refl
 
-module _ (whole : Joint) (chunk out₀ row out text : List ℕ) (s : Joining) (w i k : ℕ) (h : i < length chunk) (t : Turn whole chunk out₀ row out text s w i k) where
+module _ (whole : Joint) (chunk out₀ row out text : List ℕ) (s : Joining) (w i k : ℕ) (h : i < length chunk)
+    (t : Turn whole chunk out₀ row out text s w i k) where
   -- what the call needs
   pub turn-ready : SomeReady s row (take (length chunk - i) (drop i chunk)) (take k text) out w
   turn-ready = subst (λ (x : List ℕ). SomeReady s row x (take k text) out w) (sym (rest i chunk)) (record {
@@ -62,7 +63,8 @@ module _ (whole : Joint) (chunk out₀ row out text : List ℕ) (s : Joining) (w
         let z = ap (λ (x : Joining). x .loads + x .refusals) (taken .state) in
         omega (arith, t .ready .all, b .all)
 
-    pub turn-next : (text′ : List ℕ) (k′ : ℕ) → KeepsNumber text′ k′ (r .state .loads + r .state .refusals) → Turn whole chunk out₀ row′ out′ text′ (r .state) (r .end) (i + r .passed) k′
+    pub turn-next : (text′ : List ℕ) (k′ : ℕ) → KeepsNumber text′ k′ (r .state .loads + r .state .refusals)
+        → Turn whole chunk out₀ row′ out′ text′ (r .state) (r .end) (i + r .passed) k′
     turn-next text′ k′ n =
         let p : List ℕ = take (r .passed) (drop i chunk) in
         let m : Joint = bytesOn (joint row s []) p in
@@ -72,12 +74,18 @@ module _ (whole : Joint) (chunk out₀ row out text : List ℕ) (s : Joining) (w
         let to : r .end ≡ w + length (m .text) = adds-to (taken .text) fits in
         record {
           ran =
-              ap (λ (x : Joint). bytesOn x (drop (i + r .passed) chunk)) (same (taken .kept) (taken .state) (adds-front (taken .text) fits) ∙ sym (bytes-after row s (take w out) p))
+              ap (λ (x : Joint). bytesOn x (drop (i + r .passed) chunk))
+              (same (taken .kept) (taken .state) (adds-front (taken .text) fits) ∙ sym (bytes-after row s (take w out) p))
               ∙ sym (bytes-cut (joint row s (take w out)) p (drop (i + r .passed) chunk)) ∙ sym (ap (bytesOn (joint row s (take w out))) apart) ∙ t .ran;
           size = ap length (taken .kept) ∙ b .size ∙ t .size;
           kept = adds-length (taken .text) fits ∙ t .kept;
           ready = subst (λ (x : Joining). RowReady x out₀ (r .end) (ends (drop (i + r .passed) chunk))) (sym (taken .state))
-              (record { all = omega (arith, t .ready .all, b .all); own = omega (arith, t .ready .own, b .own); room = omega (arith, t .ready .room, b .room) });
+              (record {
+                all = omega (arith, t .ready .all, b .all);
+                own = omega (arith, t .ready .own, b .own);
+                room =
+                    omega (arith, t .ready .room, b .room);
+              });
           rest = adds-back (taken .text) fits ∙ later-rest (length (m .text)) to;
           within = turn-passed;
           number = n;
@@ -90,7 +98,8 @@ module _ (whole : Joint) (chunk out₀ row out text : List ℕ) (s : Joining) (w
         later-rest n e = rw e (sym (drop-drop n w out) ∙ ap (drop n) (t .rest) ∙ drop-drop n w out₀)
 
 -- before the first byte, and after the last
-pub turn-none : (s : Joining) (row chunk out text : List ℕ) (k : ℕ) → RowReady s out 0 (ends chunk) → length row ≡ 84 → KeepsNumber text k (s .loads + s .refusals)
+pub turn-none : (s : Joining) (row chunk out text : List ℕ) (k : ℕ) → RowReady s out 0 (ends chunk) → length row ≡ 84
+    → KeepsNumber text k (s .loads + s .refusals)
     → Turn (bytesOn (joint row s []) chunk) chunk out row out text s 0 0 k
 turn-none s row chunk out text k r e n = record { ran = refl; size = e; kept = refl; ready = r; rest = refl; within = omega arith; number = n }
 
@@ -106,7 +115,8 @@ turn-end s₀ row₀ chunk out₀ row out text s w i k h t =
       answer = ap₂ F.Rows (sym (ap (λ (x : Joint). x .state) m)) (sym (ap (λ (x : Joint). length (x .text)) m ∙ size));
       kept = sym (ap (λ (x : Joint). x .row) m);
       rows =
-          sym (take-append-drop w out) ∙ ap (λ (l : List ℕ). take w out ++ l) (t .rest ∙ ap (λ (k : ℕ). drop k out₀) (let z : w ≡ 0 + length (take w out) = omega arith in z))
+          sym (take-append-drop w out) ∙ ap (λ (l : List ℕ). take w out ++ l)
+          (t .rest ∙ ap (λ (k : ℕ). drop k out₀) (let z : w ≡ 0 + length (take w out) = omega arith in z))
           ∙ sym (written-is out₀ 0 (take w out) fits) ∙ sym (ap (λ (x : Joint). writtenOf out₀ 0 (x .text)) m);
       within = subst (λ (x : Joint). length (x .text) ≤ length out₀) (sym m) (omega arith);
     }

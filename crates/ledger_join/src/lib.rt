@@ -24,8 +24,8 @@ const DIGITS: usize = 20;
 
 const MOST: u64 = 0xffff_ffff_ffff_ffff;
 
-// The part that is read, from 1; the loaded and refused rows of all parts so far, and those of this one; how many bytes of an unfinished row are held; whether the
-// part's totals are read, and whether it was found to be no ledger.
+// The part that is read, from 1; the loaded and refused rows of all parts so far, and those of this one; how many bytes of an unfinished row are
+// held; whether the part's totals are read, and whether it was found to be no ledger.
 pub struct Joining {
     pub part: u64,
     pub loads: u64,

@@ -59,7 +59,8 @@ and-none false = refl
 said-halted : (row : List ℕ) (s : Joining) (x t : List ℕ) → saidBy (bytesOn (joint row (halted s) x) t) ≡ noLedger (s .part) (ownNumber s)
 said-halted row s x t =
     ap saidBy (bytes-stay row (halted s) x t refl)
-    ∙ ap (λ (b : Bool). cond b (checked (record { rows = x; loaded = s .loaded; refused = s .refused })) (noLedger (s .part) (ownNumber s))) (and-none (s .ended))
+    ∙ ap (λ (b : Bool). cond b (checked (record { rows = x; loaded = s .loaded; refused = s .refused })) (noLedger (s .part) (ownNumber s)))
+    (and-none (s .ended))
 
 -- ---- rows that are none
 module _ (part before loaded others : ℕ) where
@@ -75,19 +76,23 @@ module _ (part before loaded others : ℕ) where
       go false e = refl
       go true e = absurd (h (is-same row (lastRow (loaded + others) loaded others) (true-T e)))
 
-  part-open : (row : List ℕ) (rows : List (List ℕ)) → endsInLF row ≡ false → partFrom part before loaded others (row ∷ rows) ≡ noLedger part (loaded + others + 1)
+  part-open : (row : List ℕ) (rows : List (List ℕ)) → endsInLF row ≡ false
+      → partFrom part before loaded others (row ∷ rows) ≡ noLedger part (loaded + others + 1)
   part-open row rows e =
       part-none row rows (go (leb (length row) 32))
       (no-totals row (λ q. true≢false (sym (last-ends (loaded + others) loaded others) ∙ ap endsInLF (sym q) ∙ e)))
     where
-      go : (a : Bool) → (a && (endsInLF row && (beginsWith (spaced (loaded + others + 1)) row && (saysRefused (afterNumber (loaded + others + 1) row) || saysLoaded (afterNumber (loaded + others + 1) row))))) ≡ false
-      go true = ap (λ (b : Bool). b && (beginsWith (spaced (loaded + others + 1)) row && (saysRefused (afterNumber (loaded + others + 1) row) || saysLoaded (afterNumber (loaded + others + 1) row)))) e
+      go : (a : Bool) → (a && (endsInLF row && (beginsWith (spaced (loaded + others + 1)) row
+          && (saysRefused (afterNumber (loaded + others + 1) row) || saysLoaded (afterNumber (loaded + others + 1) row))))) ≡ false
+      go true = ap (λ (b : Bool). b && (beginsWith (spaced (loaded + others + 1)) row
+          && (saysRefused (afterNumber (loaded + others + 1) row) || saysLoaded (afterNumber (loaded + others + 1) row)))) e
       go false = refl
 
   part-long : (row : List ℕ) (rows : List (List ℕ)) → 84 < length row → partFrom part before loaded others (row ∷ rows) ≡ noLedger part (loaded + others + 1)
   part-long row rows h =
       part-none row rows
-      (ap (λ (b : Bool). b && (endsInLF row && (beginsWith (spaced (loaded + others + 1)) row && (saysRefused (afterNumber (loaded + others + 1) row) || saysLoaded (afterNumber (loaded + others + 1) row)))))
+      (ap (λ (b : Bool). b && (endsInLF row && (beginsWith (spaced (loaded + others + 1)) row
+      && (saysRefused (afterNumber (loaded + others + 1) row) || saysLoaded (afterNumber (loaded + others + 1) row)))))
       (lt-leb (length row) 32 (omega arith)))
       (no-totals row (λ q. no (ap length q)))
     where
@@ -104,7 +109,8 @@ module _ (part before loaded others : ℕ) where
   pieces-long l (b ∷ t) h = go (eqb b lf) (pieces-long (l ++ (b ∷ [])) t (omega (arith, length-append l (b ∷ []))))
     where
       go : (x : Bool) → partFrom part before loaded others (piecesFrom (l ++ (b ∷ [])) t) ≡ noLedger part (loaded + others + 1)
-          → partFrom part before loaded others (cond x ((l ++ (lf ∷ [])) ∷ piecesFrom [] t) (piecesFrom (l ++ (b ∷ [])) t)) ≡ noLedger part (loaded + others + 1)
+          → partFrom part before loaded others (cond x ((l ++ (lf ∷ [])) ∷ piecesFrom [] t) (piecesFrom (l ++ (b ∷ [])) t))
+          ≡ noLedger part (loaded + others + 1)
       go true r = part-long (l ++ (lf ∷ [])) (piecesFrom [] t) (omega (arith, length-append l (lf ∷ [])))
       go false r = r
 
@@ -121,7 +127,8 @@ withRow-none (checked p) = refl
 unfoldable onKind : Kind → ℕ → ℕ → ℕ → ℕ → List ℕ → List (List ℕ) → Checked JoinedPart
 onKind K.Loaded part before loaded others text rows = withRow text (partFrom part before (loaded + 1) others rows)
 onKind K.Refused part before loaded others text rows = withRow text (partFrom part before loaded (others + 1) rows)
-onKind K.Totals part before loaded others text rows = cond (isNone rows) (checked (record { rows = text; loaded = loaded; refused = others })) (noLedger part (loaded + others + 1))
+onKind K.Totals part before loaded others text rows = cond (isNone rows) (checked (record { rows = text; loaded = loaded; refused = others }))
+    (noLedger part (loaded + others + 1))
 onKind K.Neither part before loaded others text rows = noLedger part (loaded + others + 1)
 
 by-kind : (fits turned last : Bool) (part before loaded others : ℕ) (text : List ℕ) (rows : List (List ℕ))
@@ -135,13 +142,16 @@ by-kind false turned true part before loaded others text rows = refl
 by-kind false turned false part before loaded others text rows = refl
 
 part-by-kind : (part before loaded others whole : ℕ) (row : List ℕ) (rows : List (List ℕ)) → whole ≡ before + (loaded + others + 1)
-    → partFrom part before loaded others (row ∷ rows) ≡ onKind (rowIs (loaded + others + 1) loaded others row) part before loaded others (textOf (loaded + others + 1) whole row) rows
+    → partFrom part before loaded others (row ∷ rows) ≡ onKind (rowIs (loaded + others + 1) loaded others row) part before loaded others
+    (textOf (loaded + others + 1) whole row) rows
 unfolding partFrom rowIs textOf
 part-by-kind part before loaded others whole row rows e =
     let n : ℕ = loaded + others + 1 in
     let k : n - 1 ≡ loaded + others = omega arith in
-    by-kind (isRow n row) (saysRefused (afterNumber n row)) (same row (lastRow (loaded + others) loaded others)) part before loaded others (spaced (before + n) ++ behindNumber n row) rows
-    ∙ ap₂ (λ (w m : ℕ). onKind (cond (isRow n row) (cond (saysRefused (afterNumber n row)) K.Refused K.Loaded) (cond (same row (lastRow m loaded others)) K.Totals K.Neither)) part before loaded others
+    by-kind (isRow n row) (saysRefused (afterNumber n row)) (same row (lastRow (loaded + others) loaded others)) part before loaded others
+    (spaced (before + n) ++ behindNumber n row) rows
+    ∙ ap₂ (λ (w m : ℕ). onKind (cond (isRow n row) (cond (saysRefused (afterNumber n row)) K.Refused K.Loaded)
+    (cond (same row (lastRow m loaded others)) K.Totals K.Neither)) part before loaded others
     (cond (isRow n row) (spaced w ++ behindNumber n row) []) rows) (sym e) (sym k)
 
 -- ---- the bytes of a row are held
@@ -158,7 +168,8 @@ unfolding piecesFrom
 some-piece a l [] = refl
 some-piece a l (b ∷ t) = go (eqb b lf) (some-piece a (l ++ (b ∷ [])) t)
   where
-    go : (x : Bool) → isNone (piecesFrom (a ∷ (l ++ (b ∷ []))) t) ≡ false → isNone (cond x ((a ∷ (l ++ (lf ∷ []))) ∷ piecesFrom [] t) (piecesFrom (a ∷ (l ++ (b ∷ []))) t)) ≡ false
+    go : (x : Bool) → isNone (piecesFrom (a ∷ (l ++ (b ∷ []))) t) ≡ false
+        → isNone (cond x ((a ∷ (l ++ (lf ∷ []))) ∷ piecesFrom [] t) (piecesFrom (a ∷ (l ++ (b ∷ []))) t)) ≡ false
     go true e = refl
     go false e = e
 
@@ -183,23 +194,28 @@ Said t = (row : List ℕ) (s : Joining) (x begun : List ℕ) (before : ℕ) → 
     → saidBy (bytesOn (joint row s x) t) ≡ withRow x (partFrom (s .part) before (s .loaded) (s .refused) (piecesFrom begun t))
 
 -- after a row, by its kind
-module _ (t : List ℕ) (rec : Said t) (row : List ℕ) (s : Joining) (x text : List ℕ) (before : ℕ) (size : length row ≡ 84) (unended : s .ended ≡ false) (going : s .stopped ≡ false)
+module _ (t : List ℕ) (rec : Said t) (row : List ℕ) (s : Joining) (x text : List ℕ) (before : ℕ) (size : length row ≡ 84) (unended : s .ended ≡ false)
+    (going : s .stopped ≡ false)
     (sum : s .loads + s .refusals ≡ before + (s .loaded + s .refused)) where
   fresh-view : (u : Joining) → u .held ≡ 0 → u .ended ≡ false → u .stopped ≡ false → View row u []
   unfolding endsInLF
   fresh-view u h e g = record { size = size; count = h; front = refl; plain = refl; unended = e; going = g }
 
   after-totals : (t : List ℕ) → saidBy (bytesOn (joint row (afterRow s K.Totals) (x ++ text)) t)
-      ≡ withRow x (cond (isNone (piecesFrom [] t)) (checked (record { rows = text; loaded = s .loaded; refused = s .refused })) (noLedger (s .part) (ownNumber s)))
+      ≡ withRow x (cond (isNone (piecesFrom [] t)) (checked (record { rows = text; loaded = s .loaded; refused = s .refused }))
+      (noLedger (s .part) (ownNumber s)))
   unfolding bytesOn piecesFrom
   after-totals [] =
-      ap (λ (b : Bool). cond (true && not b) (checked (record { rows = x ++ text; loaded = s .loaded; refused = s .refused })) (noLedger (s .part) (ownNumber s))) going
+      ap (λ (b : Bool). cond (true && not b) (checked (record { rows = x ++ text; loaded = s .loaded; refused = s .refused }))
+      (noLedger (s .part) (ownNumber s))) going
   after-totals (b ∷ t) =
       ap (λ (m : Joint). saidBy (bytesOn m t)) (byte-is row (afterRow s K.Totals) (x ++ text) b true (leb 84 0) going refl refl)
       ∙ said-halted row (afterRow s K.Totals) (x ++ text) t
-      ∙ sym (ap (λ (y : Bool). withRow x (cond y (checked (record { rows = text; loaded = s .loaded; refused = s .refused })) (noLedger (s .part) (ownNumber s)))) (first-piece b t))
+      ∙ sym (ap (λ (y : Bool). withRow x (cond y (checked (record { rows = text; loaded = s .loaded; refused = s .refused }))
+      (noLedger (s .part) (ownNumber s)))) (first-piece b t))
 
-  said-kind : (k : Kind) → saidBy (bytesOn (joint row (afterRow s k) (x ++ text)) t) ≡ withRow x (onKind k (s .part) before (s .loaded) (s .refused) text (piecesFrom [] t))
+  said-kind : (k : Kind) → saidBy (bytesOn (joint row (afterRow s k) (x ++ text)) t)
+      ≡ withRow x (onKind k (s .part) before (s .loaded) (s .refused) text (piecesFrom [] t))
   unfolding onKind
   said-kind K.Loaded =
       rec row (afterRow s K.Loaded) (x ++ text) [] before (fresh-view (afterRow s K.Loaded) refl unended going) (omega (arith, sum))
@@ -214,7 +230,8 @@ module _ (t : List ℕ) (rec : Said t) (row : List ℕ) (s : Joining) (x text : 
 said-end : Said []
 unfolding bytesOn piecesFrom partFrom
 said-end row s x begun before v sum =
-    ap (λ (b : Bool). cond (b && not (s .stopped)) (checked (record { rows = x; loaded = s .loaded; refused = s .refused })) (noLedger (s .part) (ownNumber s))) (v .unended)
+    ap (λ (b : Bool). cond (b && not (s .stopped)) (checked (record { rows = x; loaded = s .loaded; refused = s .refused }))
+    (noLedger (s .part) (ownNumber s))) (v .unended)
     ∙ sym (ap (withRow x) (go begun (v .plain)))
   where
     go : (l : List ℕ) → endsInLF l ≡ false → partFrom (s .part) before (s .loaded) (s .refused) (atEnd l) ≡ noLedger (s .part) (ownNumber s)
@@ -233,8 +250,10 @@ module _ (t : List ℕ) (rec : Said t) (b : ℕ) (row : List ℕ) (s : Joining) 
 
   said-full : 84 ≤ s .held → (y : Bool) → noLedger (s .part) (ownNumber s)
       ≡ withRow x (partFrom (s .part) before (s .loaded) (s .refused) (cond y ((begun ++ (lf ∷ [])) ∷ piecesFrom [] t) (piecesFrom (begun ++ (b ∷ [])) t)))
-  said-full h true = sym (ap (withRow x) (part-long (s .part) before (s .loaded) (s .refused) (begun ++ (lf ∷ [])) (piecesFrom [] t) (omega (arith, length-append begun (lf ∷ []), v .count))))
-  said-full h false = sym (ap (withRow x) (pieces-long (s .part) before (s .loaded) (s .refused) (begun ++ (b ∷ [])) t (omega (arith, length-append begun (b ∷ []), v .count))))
+  said-full h true = sym (ap (withRow x) (part-long (s .part) before (s .loaded) (s .refused) (begun ++ (lf ∷ [])) (piecesFrom [] t)
+      (omega (arith, length-append begun (lf ∷ []), v .count))))
+  said-full h false = sym (ap (withRow x) (pieces-long (s .part) before (s .loaded) (s .refused) (begun ++ (b ∷ [])) t
+      (omega (arith, length-append begun (b ∷ []), v .count))))
 
   said-held : s .held < 84 → (y : Bool) → eqb b lf ≡ y
       → saidBy (bytesOn (cond y (rowEnded (holdsMore s) (set row (s .held) b) x) (joint (set row (s .held) b) (holdsMore s) x)) t)
@@ -256,8 +275,10 @@ module _ (t : List ℕ) (rec : Said t) (b : ℕ) (row : List ℕ) (s : Joining) 
       let whole : ℕ = wholeNumber s in
       let k : s .held + 1 ≡ length (begun ++ (b ∷ [])) = omega (arith, length-append begun (b ∷ []), v .count) in
       let q : r ≡ begun ++ (lf ∷ []) = ap (λ (m : ℕ). take m (set row (s .held) b)) k ∙ held-front h ∙ ap (λ (c : ℕ). begun ++ (c ∷ [])) (eqb-true b lf e) in
-      said-kind t rec (set row (s .held) b) (holdsMore s) x (textOf n whole r) before (length-set row (s .held) b ∙ v .size) (v .unended) (v .going) sum (rowIs n (s .loaded) (s .refused) r)
-      ∙ ap (λ (l : List ℕ). withRow x (onKind (rowIs n (s .loaded) (s .refused) l) (s .part) before (s .loaded) (s .refused) (textOf n whole l) (piecesFrom [] t))) q
+      said-kind t rec (set row (s .held) b) (holdsMore s) x (textOf n whole r) before (length-set row (s .held) b ∙ v .size) (v .unended) (v .going)
+      sum (rowIs n (s .loaded) (s .refused) r)
+      ∙ ap (λ (l : List ℕ). withRow x (onKind (rowIs n (s .loaded) (s .refused) l) (s .part) before (s .loaded) (s .refused) (textOf n whole l)
+      (piecesFrom [] t))) q
       ∙ sym (ap (withRow x) (part-by-kind (s .part) before (s .loaded) (s .refused) whole (begun ++ (lf ∷ [])) (piecesFrom [] t) (omega (arith, sum))))
 
   said-more : saidBy (bytesOn (joint row s x) (b ∷ t)) ≡ withRow x (partFrom (s .part) before (s .loaded) (s .refused) (piecesFrom begun (b ∷ t)))
@@ -265,11 +286,14 @@ module _ (t : List ℕ) (rec : Said t) (b : ℕ) (row : List ℕ) (s : Joining) 
   said-more = ap saidBy (byte-then (joint row s x) b t) ∙ go (leb 84 (s .held)) refl
     where
       go : (l : Bool) → leb 84 (s .held) ≡ l → saidBy (bytesOn (byteOn (joint row s x) b) t)
-          ≡ withRow x (partFrom (s .part) before (s .loaded) (s .refused) (cond (eqb b lf) ((begun ++ (lf ∷ [])) ∷ piecesFrom [] t) (piecesFrom (begun ++ (b ∷ [])) t)))
+          ≡ withRow x (partFrom (s .part) before (s .loaded) (s .refused)
+          (cond (eqb b lf) ((begun ++ (lf ∷ [])) ∷ piecesFrom [] t) (piecesFrom (begun ++ (b ∷ [])) t)))
       go true e =
-          ap (λ (m : Joint). saidBy (bytesOn m t)) (byte-is row s x b false true (v .going) (v .unended) e) ∙ said-halted row s x t ∙ said-full (leb-true 84 (s .held) e) (eqb b lf)
+          ap (λ (m : Joint). saidBy (bytesOn m t)) (byte-is row s x b false true (v .going) (v .unended) e) ∙ said-halted row s x t
+          ∙ said-full (leb-true 84 (s .held) e) (eqb b lf)
       go false e =
-          ap (λ (m : Joint). saidBy (bytesOn m t)) (byte-is row s x b false false (v .going) (v .unended) e) ∙ said-held (leb-false 84 (s .held) e) (eqb b lf) refl
+          ap (λ (m : Joint). saidBy (bytesOn m t)) (byte-is row s x b false false (v .going) (v .unended) e)
+          ∙ said-held (leb-false 84 (s .held) e) (eqb b lf) refl
 
 said-part : (t : List ℕ) → Said t
 said-part [] row s x begun before v sum = said-end row s x begun before v sum
@@ -292,12 +316,14 @@ unfolding byteOn
 past-byte row s x b = go (s .stopped) (s .ended || leb 84 (s .held)) (eqb b lf)
   where
     at : Bool → Bool → Bool → Joint
-    at p q r = cond p (joint row s x) (cond q (joint row (halted s) x) (cond r (rowEnded (holdsMore s) (set row (s .held) b) x) (joint (set row (s .held) b) (holdsMore s) x)))
+    at p q r = cond p (joint row s x) (cond q (joint row (halted s) x)
+        (cond r (rowEnded (holdsMore s) (set row (s .held) b) x) (joint (set row (s .held) b) (holdsMore s) x)))
 
     go : (p q r : Bool) → Past s (at p q r .state)
     go true q r = record { part = refl; loads = refl; refusals = refl }
     go false true r = record { part = refl; loads = refl; refusals = refl }
-    go false false true = let e = past-row (holdsMore s) (rowIs (ownNumber s) (s .loaded) (s .refused) (take (s .held + 1) (set row (s .held) b))) in record { part = e .part; loads = e .loads; refusals = e .refusals }
+    go false false true = let e = past-row (holdsMore s) (rowIs (ownNumber s) (s .loaded) (s .refused) (take (s .held + 1) (set row (s .held) b))) in
+        record { part = e .part; loads = e .loads; refusals = e .refusals }
     go false false false = record { part = refl; loads = refl; refusals = refl }
 
 past-then : (s u w : Joining) → Past s u → Past u w → Past s w
@@ -306,7 +332,8 @@ past-then s u w p q = record { part = q .part ∙ p .part; loads = omega (arith,
 past-bytes : (m : Joint) (t : List ℕ) → Past (m .state) (bytesOn m t .state)
 unfolding bytesOn
 past-bytes m [] = record { part = refl; loads = refl; refusals = refl }
-past-bytes m (b ∷ t) = past-then (m .state) (byteOn m b .state) (bytesOn (byteOn m b) t .state) (past-byte (m .row) (m .state) (m .text) b) (past-bytes (byteOn m b) t)
+past-bytes m (b ∷ t) = past-then (m .state) (byteOn m b .state) (bytesOn (byteOn m b) t .state) (past-byte (m .row) (m .state) (m .text) b)
+    (past-bytes (byteOn m b) t)
 
 size-byte : (m : Joint) (b : ℕ) → length (byteOn m b .row) ≡ length (m .row)
 size-byte m b = ap (λ (u : Joint). length (u .row)) (byte-after (m .row) (m .state) (m .text) b) ∙ byte-bounds (m .row) (m .state) b .size
@@ -344,16 +371,20 @@ machine-from row part loads refusals (t ∷ ts) e =
     on : JoinedPart → Checked (List ℕ)
     on p = joinFrom (part + 1) (loads + p .loaded) (refusals + p .refused) ts
 
-    counts : Past (partStart part loads refusals) (m .state) → joinFrom (m .state .part + 1) (m .state .loads) (m .state .refusals) ts ≡ joinFrom (part + 1) (loads + m .state .loaded) (refusals + m .state .refused) ts
+    counts : Past (partStart part loads refusals) (m .state) → joinFrom (m .state .part + 1) (m .state .loads) (m .state .refusals) ts
+        ≡ joinFrom (part + 1) (loads + m .state .loaded) (refusals + m .state .refused) ts
     counts p =
         ap (λ (n : ℕ). joinFrom (n + 1) (m .state .loads) (m .state .refusals) ts) (p .part)
         ∙ ap₂ (λ (x y : ℕ). joinFrom (part + 1) x y ts) (sym (add-zero (m .state .loads)) ∙ p .loads) (sym (add-zero (m .state .refusals)) ∙ p .refusals)
 
     go : (b : Bool)
-        → cond b (checked (record { rows = m .text; loaded = m .state .loaded; refused = m .state .refused })) (noLedger (m .state .part) (ownNumber (m .state))) ≡ partIn part (loads + refusals) t
+        → cond b (checked (record { rows = m .text; loaded = m .state .loaded; refused = m .state .refused }))
+        (noLedger (m .state .part) (ownNumber (m .state))) ≡ partIn part (loads + refusals) t
         → Past (partStart part loads refusals) (m .state)
-        → machineFrom (m .row) (partStart (m .state .part + 1) (m .state .loads) (m .state .refusals)) ts ≡ joinFrom (m .state .part + 1) (m .state .loads) (m .state .refusals) ts
-        → cond b (withRows (m .text) (machineFrom (m .row) (nextPart (m .state)) ts)) (noLedger (m .state .part) (ownNumber (m .state))) ≡ andThen (partIn part (loads + refusals) t) on
+        → machineFrom (m .row) (partStart (m .state .part + 1) (m .state .loads) (m .state .refusals)) ts
+        ≡ joinFrom (m .state .part + 1) (m .state .loads) (m .state .refusals) ts
+        → cond b (withRows (m .text) (machineFrom (m .row) (nextPart (m .state)) ts)) (noLedger (m .state .part) (ownNumber (m .state)))
+        ≡ andThen (partIn part (loads + refusals) t) on
     go true q p rec = ap (withRows (m .text)) (rec ∙ counts p) ∙ ap (λ (a : Checked JoinedPart). andThen a on) q
     go false q p rec = ap (λ (a : Checked JoinedPart). andThen a on) q
 

@@ -29,9 +29,11 @@ same-true s t e = is-same s t (true-T e)
 row-whole : (number : ℕ) (row : List ℕ) → isRow number row ≡ true → spaced number ++ behindNumber number row ≡ row
 row-whole number row e = go (leb (length row) 32) (endsInLF row) (beginsWith (spaced number) row) refl e
   where
-    go : (a b c : Bool) → beginsWith (spaced number) row ≡ c → (a && (b && (c && (saysRefused (afterNumber number row) || saysLoaded (afterNumber number row))))) ≡ true → spaced number ++ behindNumber number row ≡ row
+    go : (a b c : Bool) → beginsWith (spaced number) row ≡ c → (a && (b
+        && (c && (saysRefused (afterNumber number row) || saysLoaded (afterNumber number row))))) ≡ true → spaced number ++ behindNumber number row ≡ row
     go true true true h k =
-        ap (λ (x : List ℕ). x ++ behindNumber number row) (sym (same-true (take (length (spaced number)) row) (spaced number) h)) ∙ take-append-drop (length (spaced number)) row
+        ap (λ (x : List ℕ). x ++ behindNumber number row) (sym (same-true (take (length (spaced number)) row) (spaced number) h))
+        ∙ take-append-drop (length (spaced number)) row
     go true true false h k = absurd (false≢true k)
     go true false c h k = absurd (false≢true k)
     go false b c h k = absurd (false≢true k)
@@ -40,20 +42,23 @@ row-whole number row e = go (leb (length row) 32) (endsInLF row) (beginsWith (sp
 abbrev closed : JoinedPart → List ℕ
 closed p = p .rows ++ lastRow (p .loaded + p .refused) (p .loaded) (p .refused)
 
-with-row : (row rest : List ℕ) (a : Checked JoinedPart) (p : JoinedPart) → withRow row a ≡ checked p → ((q : JoinedPart) → a ≡ checked q → closed q ≡ rest) → closed p ≡ row ++ rest
+with-row : (row rest : List ℕ) (a : Checked JoinedPart) (p : JoinedPart) → withRow row a ≡ checked p
+    → ((q : JoinedPart) → a ≡ checked q → closed q ≡ rest) → closed p ≡ row ++ rest
 with-row row rest (noLedger n v) p e h = no-checked (sym e)
 with-row row rest (checked q) p e h =
     let k : record { rows = row ++ q .rows; loaded = q .loaded; refused = q .refused } ≡ p = cc in
     ap closed (sym k) ∙ append-assoc row (q .rows) (lastRow (q .loaded + q .refused) (q .loaded) (q .refused)) ∙ ap (λ (x : List ℕ). row ++ x) (h q refl)
 
 ended : (loaded others part number : ℕ) (row : List ℕ) (rows : List (List ℕ)) (p : JoinedPart)
-    → cond (same row (lastRow (loaded + others) loaded others) && isNone rows) (checked (record { rows = []; loaded = loaded; refused = others })) (noLedger part number) ≡ checked p
+    → cond (same row (lastRow (loaded + others) loaded others) && isNone rows) (checked (record { rows = []; loaded = loaded; refused = others }))
+    (noLedger part number) ≡ checked p
     → closed p ≡ row ++ joined rows
 unfolding joined
 ended loaded others part number row rows p e = go (same row (lastRow (loaded + others) loaded others)) refl rows e
   where
     go : (b : Bool) → same row (lastRow (loaded + others) loaded others) ≡ b → (rows : List (List ℕ))
-        → cond (b && isNone rows) (checked (record { rows = []; loaded = loaded; refused = others })) (noLedger part number) ≡ checked p → closed p ≡ row ++ joined rows
+        → cond (b && isNone rows) (checked (record { rows = []; loaded = loaded; refused = others })) (noLedger part number) ≡ checked p
+        → closed p ≡ row ++ joined rows
     go true h [] k =
         let q : record { rows = []; loaded = loaded; refused = others } ≡ p = cc in
         ap closed (sym q) ∙ sym (same-true row (lastRow (loaded + others) loaded others) h) ∙ sym (append-nil row)
@@ -65,28 +70,34 @@ unfolding partFrom joined
 part-kept part loaded others [] p e = no-checked (sym e)
 part-kept part loaded others (row ∷ rows) p e =
     go (isRow (loaded + others + 1) row) refl e
-    (part-kept part (tally loaded (not (saysRefused (afterNumber (loaded + others + 1) row)))) (tally others (saysRefused (afterNumber (loaded + others + 1) row))) rows)
+    (part-kept part (tally loaded (not (saysRefused (afterNumber (loaded + others + 1) row))))
+    (tally others (saysRefused (afterNumber (loaded + others + 1) row))) rows)
   where
     onward : Checked JoinedPart
-    onward = partFrom part 0 (tally loaded (not (saysRefused (afterNumber (loaded + others + 1) row)))) (tally others (saysRefused (afterNumber (loaded + others + 1) row))) rows
+    onward = partFrom part 0 (tally loaded (not (saysRefused (afterNumber (loaded + others + 1) row))))
+        (tally others (saysRefused (afterNumber (loaded + others + 1) row))) rows
 
     go : (b : Bool) → isRow (loaded + others + 1) row ≡ b
         → cond b (withRow (spaced (0 + (loaded + others + 1)) ++ behindNumber (loaded + others + 1) row) onward)
-        (cond (same row (lastRow (loaded + others) loaded others) && isNone rows) (checked (record { rows = []; loaded = loaded; refused = others })) (noLedger part (loaded + others + 1))) ≡ checked p
+        (cond (same row (lastRow (loaded + others) loaded others) && isNone rows) (checked (record { rows = []; loaded = loaded; refused = others }))
+        (noLedger part (loaded + others + 1))) ≡ checked p
         → ((q : JoinedPart) → onward ≡ checked q → closed q ≡ joined rows) → closed p ≡ row ++ joined rows
     go true h k rec =
         with-row (spaced (0 + (loaded + others + 1)) ++ behindNumber (loaded + others + 1) row) (joined rows) onward p k rec
-        ∙ ap (λ (x : List ℕ). x ++ joined rows) (ap (λ (n : ℕ). spaced n ++ behindNumber (loaded + others + 1) row) (zero-add (loaded + others + 1)) ∙ row-whole (loaded + others + 1) row h)
+        ∙ ap (λ (x : List ℕ). x ++ joined rows) (ap (λ (n : ℕ). spaced n ++ behindNumber (loaded + others + 1) row) (zero-add (loaded + others + 1))
+        ∙ row-whole (loaded + others + 1) row h)
     go false h k rec = ended loaded others part (loaded + others + 1) row rows p k
 
-one-is : (t : List ℕ) → joinOf (t ∷ []) ≡ andThen (partIn 1 0 t) (λ (p : JoinedPart). checked (lastRow (0 + p .loaded + (0 + p .refused)) (0 + p .loaded) (0 + p .refused)))
+one-is : (t : List ℕ) → joinOf (t ∷ []) ≡ andThen (partIn 1 0 t) (λ (p : JoinedPart). checked
+    (lastRow (0 + p .loaded + (0 + p .refused)) (0 + p .loaded) (0 + p .refused)))
 unfolding joinFrom
 one-is t = refl
 
 one-is-kept : (t u : List ℕ) → joinOf (t ∷ []) ≡ checked u → u ≡ t
 one-is-kept t u e = go (partIn 1 0 t) (sym (one-is t) ∙ e) (part-kept 1 0 0 (piecesFrom [] t))
   where
-    go : (a : Checked JoinedPart) → andThen a (λ (p : JoinedPart). checked (lastRow (0 + p .loaded + (0 + p .refused)) (0 + p .loaded) (0 + p .refused))) ≡ checked u
+    go : (a : Checked JoinedPart) → andThen a (λ (p : JoinedPart). checked
+        (lastRow (0 + p .loaded + (0 + p .refused)) (0 + p .loaded) (0 + p .refused))) ≡ checked u
         → ((p : JoinedPart) → a ≡ checked p → closed p ≡ joined (piecesFrom [] t)) → u ≡ t
     go (noLedger n v) k h = no-checked (sym k)
     go (checked p) k h =

@@ -37,7 +37,8 @@ tailOf (refused n v) = text "refused " ++ decimalOf n
 
 row-is : (number : ℕ) (a : Answer Line) → rowOf number a ≡ spaced number ++ (tailOf a ++ text "\n")
 unfolding loadedRow refusedRow tailOf
-row-is number (given l) = ap (λ (x : List ℕ). spaced number ++ x) (sym (append-assoc (spaced (l .half)) (shownOf (scoreOf (bitboardsOf (l .board)) (l .state))) (text "\n")))
+row-is number (given l) = ap (λ (x : List ℕ). spaced number ++ x) (sym
+    (append-assoc (spaced (l .half)) (shownOf (scoreOf (bitboardsOf (l .board)) (l .state))) (text "\n")))
 row-is number (refused n v) = ap (λ (x : List ℕ). spaced number ++ x) (sym (append-assoc (text "refused ") (decimalOf n) (text "\n")))
 
 -- ---- a score is shown as one
@@ -90,7 +91,8 @@ kind : (a : Answer Line) → ForRow a → (saysRefused (tailOf a) ≡ not (isLoa
 unfolding tailOf
 kind (given x) s =
     let p = half-kind (x .half) (shownOf (scoreOf (bitboardsOf (x .board)) (x .state))) (s .half x refl)
-    (shown-own (scoreOf (bitboardsOf (x .board)) (x .state)) (score-short (bitboardsOf (x .board)) (x .state)) (never-none (bitboardsOf (x .board)) (x .state))) in
+    (shown-own (scoreOf (bitboardsOf (x .board)) (x .state)) (score-short (bitboardsOf (x .board)) (x .state))
+    (never-none (bitboardsOf (x .board)) (x .state))) in
     (p .0, ap₂ _||_ (p .0) (p .1))
 kind (refused n v) s =
     let p = refused-own n (s .from-1 n v refl) (s .two-digits n v refl) in
@@ -103,8 +105,10 @@ step part before loaded others rows fits rest turned =
     cond fits (withRow (spaced (before + (loaded + others + 1)) ++ rest) (partFrom part before (tally loaded (not turned)) (tally others turned) rows))
     (noLedger part (loaded + others + 1))
 
-step-is : (part before loaded others : ℕ) (row : List ℕ) (rows : List (List ℕ)) → isRow (loaded + others + 1) row ≡ true → partFrom part before loaded others (row ∷ rows)
-    ≡ step part before loaded others rows (isRow (loaded + others + 1) row) (behindNumber (loaded + others + 1) row) (saysRefused (afterNumber (loaded + others + 1) row))
+step-is : (part before loaded others : ℕ) (row : List ℕ) (rows : List (List ℕ)) → isRow (loaded + others + 1) row ≡ true
+    → partFrom part before loaded others (row ∷ rows)
+    ≡ step part before loaded others rows (isRow (loaded + others + 1) row) (behindNumber (loaded + others + 1) row)
+    (saysRefused (afterNumber (loaded + others + 1) row))
 unfolding partFrom step
 step-is part before loaded others row rows e = rw e
 
@@ -125,7 +129,8 @@ step-own : (part before loaded others : ℕ) (rows : List (List ℕ)) (rest : Li
     ≡ withRow (spaced (before + (loaded + others + 1)) ++ rest) (partFrom part before (tally loaded t) (tally others (not t)) rows)
 unfolding step
 step-own part before loaded others rows rest t =
-    ap (λ (u : Bool). withRow (spaced (before + (loaded + others + 1)) ++ rest) (partFrom part before (tally loaded u) (tally others (not t)) rows)) (not-twice t)
+    ap (λ (u : Bool). withRow (spaced (before + (loaded + others + 1)) ++ rest) (partFrom part before (tally loaded u) (tally others (not t)) rows))
+    (not-twice t)
 
 pub row-taken : (part before loaded others : ℕ) (a : Answer Line) (rows : List (List ℕ)) → ForRow a
     → partFrom part before loaded others (rowOf (loaded + others + 1) a ∷ rows)
@@ -136,9 +141,11 @@ row-taken part before loaded others a rows s =
     step-is part before loaded others row rows (fits-own number a s)
     ∙ ap (λ (b : Bool). step part before loaded others rows b (behindNumber number row) (saysRefused (afterNumber number row))) (fits-own number a s)
     ∙ ap (λ (b : Bool). step part before loaded others rows true (behindNumber number row) b) (turned-own number a s)
-    ∙ ap (λ (x : List ℕ). step part before loaded others rows true x (not (isLoaded a))) (ap (behindNumber number) (row-is number a) ∙ behind-own number (tailOf a))
+    ∙ ap (λ (x : List ℕ). step part before loaded others rows true x (not (isLoaded a)))
+    (ap (behindNumber number) (row-is number a) ∙ behind-own number (tailOf a))
     ∙ step-own part before loaded others rows (tailOf a ++ text "\n") (isLoaded a)
-    ∙ ap (λ (x : List ℕ). withRow x (partFrom part before (tally loaded (isLoaded a)) (tally others (not (isLoaded a))) rows)) (sym (row-is (before + number) a))
+    ∙ ap (λ (x : List ℕ). withRow x (partFrom part before (tally loaded (isLoaded a)) (tally others (not (isLoaded a))) rows))
+    (sym (row-is (before + number) a))
 
 -- ---- the totals
 -- a number begins with a digit, and the totals with an `l`
@@ -187,7 +194,8 @@ unfolding lastRow
 last-no number lines loaded others =
     let row : List ℕ = lastRow lines loaded others in
     let more : Bool = saysRefused (afterNumber number row) || saysLoaded (afterNumber number row) in
-    ap (λ (b : Bool). leb (length row) 32 && (endsInLF row && (b && more))) (begins-not (spaced number) (drop 1 row) (low-both (decimalOf number) (text " ") (low-digits 19 number)))
+    ap (λ (b : Bool). leb (length row) 32 && (endsInLF row && (b && more)))
+    (begins-not (spaced number) (drop 1 row) (low-both (decimalOf number) (text " ") (low-digits 19 number)))
     ∙ and-no (leb (length row) 32) (endsInLF row)
 
 pub last-taken : (part before loaded others : ℕ)
@@ -201,4 +209,5 @@ pub last-ends : (lines loaded others : ℕ) → endsInLF (lastRow lines loaded o
 unfolding lastRow
 last-ends lines loaded others =
     ends-after (text "lines " ++ decimalOf lines) ((text " loaded " ++ decimalOf loaded) ++ ((text " refused " ++ decimalOf others) ++ text "\n"))
-    (ends-after (text " loaded " ++ decimalOf loaded) ((text " refused " ++ decimalOf others) ++ text "\n") (ends-after (text " refused " ++ decimalOf others) (text "\n") ends-end))
+    (ends-after (text " loaded " ++ decimalOf loaded) ((text " refused " ++ decimalOf others) ++ text "\n")
+    (ends-after (text " refused " ++ decimalOf others) (text "\n") ends-end))

@@ -134,7 +134,8 @@ refused-plain = refl
 pub last-piece : (lines loaded others : ℕ) → OnePiece (lastRow lines loaded others)
 unfolding lastRow
 last-piece lines loaded others =
-    after (text "lines " ++ decimalOf lines) ((text " loaded " ++ decimalOf loaded) ++ ((text " refused " ++ decimalOf others) ++ text "\n")) (named (text "lines ") lines lines-plain)
+    after (text "lines " ++ decimalOf lines) ((text " loaded " ++ decimalOf loaded) ++ ((text " refused " ++ decimalOf others) ++ text "\n"))
+    (named (text "lines ") lines lines-plain)
     (after (text " loaded " ++ decimalOf loaded) ((text " refused " ++ decimalOf others) ++ text "\n") (named (text " loaded ") loaded loaded-plain)
     (after (text " refused " ++ decimalOf others) (text "\n") (named (text " refused ") others refused-plain) ended))
 

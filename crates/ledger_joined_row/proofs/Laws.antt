@@ -17,7 +17,8 @@ use Rattle.ledger_row.proofs.Fits.{length-spaced}
 use Rattle.ledger_row.specs.Row.{spaced}
 use Rattle.ledger_totals.specs.Totals.{lastRow}
 use Rattle.ledger_whole.specs.Whole.{endsInLF}
-use Rattle.ledger_joined_row.specs.Rows.{beginsWith, behindNumber, comesTo, spells, isNumber, isScore, isShown, withoutLF, afterNumber, hasHalf, saysRefused, saysLoaded, isRow}
+use Rattle.ledger_joined_row.specs.Rows.{beginsWith, behindNumber, comesTo, spells, isNumber, isScore, isShown, withoutLF, afterNumber, hasHalf}
+use Rattle.ledger_joined_row.specs.Rows.{saysRefused, saysLoaded, isRow}
 use Rattle.ledger_joined_row.specs.Promises.{rowIs, frontOf, restKind, rowKind, renumbered, isLine, textOf}
 use Rattle.ledger_joined_row.specs.declared.Kind.{Kind}
 use Rattle.ledger_joined_row.specs.declared.Kind.the-variants as K
@@ -102,7 +103,8 @@ module _ (least most : ℕ) (s : List ℕ) (n : ℕ) (e : n ≡ comesTo 0 s) whe
   number-large h k = rw (le-leb least (comesTo 0 s) (omega arith), lt-leb (comesTo 0 s) most (omega arith))
 
   pub number-spelled : least ≤ n → n ≤ most → spells s n ≡ isNumber least most s
-  number-spelled h k = ap (spells s) e ∙ sym (ap₂ (λ (a b : Bool). a && (b && spells s (comesTo 0 s))) (le-leb least (comesTo 0 s) (omega arith)) (le-leb (comesTo 0 s) most (omega arith)))
+  number-spelled h k = ap (spells s) e ∙ sym (ap₂ (λ (a b : Bool). a && (b && spells s (comesTo 0 s))) (le-leb least (comesTo 0 s) (omega arith))
+      (le-leb (comesTo 0 s) most (omega arith)))
 
 pub score-minus : (s : List ℕ) → beginsWith (text "-") s ≡ true → isNumber 1 32768 (take (length s - 1) (drop 1 s)) ≡ isScore s
 score-minus s e =
@@ -171,7 +173,8 @@ kind-bare number row n f k h = go (beginsWith (spaced number) row) f
     none : n ≡ length (spaced number) → afterNumber number row ≡ []
     none q = drop-of-length-le (withoutLF row) {i = length (spaced number)} (omega (arith, length-take (length row - 1) row))
 
-    go : (v : Bool) → n ≡ cond v (length (spaced number)) 0 → K.Neither ≡ cond (leb (length row) 32 && (endsInLF row && v)) (restKind (afterNumber number row)) K.Neither
+    go : (v : Bool) → n ≡ cond v (length (spaced number)) 0 → K.Neither
+        ≡ cond (leb (length row) 32 && (endsInLF row && v)) (restKind (afterNumber number row)) K.Neither
     go false q = absurd (k q)
     go true q = all (leb (length row) 32) (endsInLF row) (none q)
       where
@@ -201,10 +204,12 @@ module _ (number loaded others : ℕ) (row : List ℕ) where
   kind-go true true true false true f k q = rw q
   kind-go true true true false false f k q = rw q
 
-  kind-is : (k : Kind) → k ≡ rowKind number row → cond (isLine k) k (cond (same row (lastRow (number - 1) loaded others)) K.Totals K.Neither) ≡ rowIs number loaded others row
+  kind-is : (k : Kind) → k ≡ rowKind number row → cond (isLine k) k (cond (same row (lastRow (number - 1) loaded others)) K.Totals K.Neither)
+      ≡ rowIs number loaded others row
   unfolding rowKind rowIs
   kind-is =
-      kind-go (leb (length row) 32) (endsInLF row) (beginsWith (spaced number) row) (saysRefused (afterNumber number row)) (saysLoaded (afterNumber number row)) (same row (lastRow (number - 1) loaded others))
+      kind-go (leb (length row) 32) (endsInLF row) (beginsWith (spaced number) row) (saysRefused (afterNumber number row))
+      (saysLoaded (afterNumber number row)) (same row (lastRow (number - 1) loaded others))
 
   pub kind-line : (k : Kind) → k ≡ rowKind number row → isLine k ≡ true → k ≡ rowIs number loaded others row
   kind-line k e q = sym (ap (λ (b : Bool). cond b k (cond (same row (lastRow (number - 1) loaded others)) K.Totals K.Neither)) q) ∙ kind-is k e
@@ -235,7 +240,8 @@ renumber-is : (whole number : ℕ) (row : List ℕ) → isRow number row ≡ tru
 renumber-is whole number row e =
     go (leb (length row) 32) (endsInLF row) (beginsWith (spaced number) row) (saysRefused (afterNumber number row) || saysLoaded (afterNumber number row)) e
   where
-    go : (a b c d : Bool) → (a && (b && (c && d))) ≡ true → spaced whole ++ drop (cond c (length (spaced number)) 0) row ≡ spaced whole ++ behindNumber number row
+    go : (a b c d : Bool) → (a && (b && (c && d))) ≡ true → spaced whole ++ drop (cond c (length (spaced number)) 0) row ≡ spaced whole
+        ++ behindNumber number row
     go true true true d q = refl
     go true true false d q = absurd (false≢true q)
     go true false c d q = absurd (false≢true q)
@@ -275,7 +281,8 @@ module _ (number loaded others : ℕ) (row : List ℕ) (k : Kind) (e : k ≡ row
 -- what is written of a row has room in 64 bytes
 pub text-fits : (number whole : ℕ) (row : List ℕ) → length (textOf number whole row) ≤ 64
 unfolding textOf
-text-fits number whole row = go (leb (length row) 32) refl (endsInLF row && (beginsWith (spaced number) row && (saysRefused (afterNumber number row) || saysLoaded (afterNumber number row))))
+text-fits number whole row = go (leb (length row) 32) refl (endsInLF row
+    && (beginsWith (spaced number) row && (saysRefused (afterNumber number row) || saysLoaded (afterNumber number row))))
   where
     go : (a : Bool) → leb (length row) 32 ≡ a → (b : Bool) → length (cond (a && b) (spaced whole ++ behindNumber number row) []) ≤ 64
     go true e true =

@@ -63,7 +63,8 @@ comes-digits (suc f) n h k = go (ltb n 10) refl (comes-digits f (n / 10) (omega 
 pub number-own : (least most n : ℕ) → least ≤ n → n ≤ most → n < 1000000 → isNumber least most (decimalOf n) ≡ true
 number-own least most n h k l =
     let e : comesTo 0 (decimalOf n) ≡ n = comes-digits 19 n l (omega arith) in
-    ap₂ _&&_ (ap (leb least) e ∙ le-leb least n h) (ap₂ _&&_ (ap (λ (x : ℕ). leb x most) e ∙ le-leb n most k) (ap (spells (decimalOf n)) e ∙ same-self (decimalOf n)))
+    ap₂ _&&_ (ap (leb least) e ∙ le-leb least n h) (ap₂ _&&_ (ap (λ (x : ℕ). leb x most) e ∙ le-leb n most k)
+    (ap (spells (decimalOf n)) e ∙ same-self (decimalOf n)))
 
 -- ---- turn by turn
 pub comes-turn : (s : List ℕ) (n i : ℕ) → i < length s → comesTo n (drop i s) ≡ comesTo 0 s → comesTo (digitAdded n (getD s i 0)) (drop (i + 1) s) ≡ comesTo 0 s

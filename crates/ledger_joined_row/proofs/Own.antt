@@ -52,7 +52,8 @@ no-minus n = ap (beginsWith (text "-")) (sym (append-nil (decimalOf n))) ∙ fir
 
 pub plus-own : (n : ℕ) → n ≤ 32767 → isScore (decimalOf n) ≡ true
 plus-own n h =
-    ap (λ (b : Bool). cond b (isNumber 1 32768 (drop 1 (decimalOf n))) (isNumber 0 32767 (decimalOf n))) (no-minus n) ∙ number-own 0 32767 n (omega arith) h (omega arith)
+    ap (λ (b : Bool). cond b (isNumber 1 32768 (drop 1 (decimalOf n))) (isNumber 0 32767 (decimalOf n))) (no-minus n)
+    ∙ number-own 0 32767 n (omega arith) h (omega arith)
 
 pub minus-own : (n : ℕ) → 1 ≤ n → n ≤ 32768 → isScore (minus n) ≡ true
 minus-own n l h = number-own 1 32768 n l h (omega arith)
@@ -98,7 +99,8 @@ module _ (number : ℕ) (said : List ℕ) where
       ap (λ (r : List ℕ). behindNumber number (withoutLF r)) (sym (append-assoc (spaced number) said (text "\n")))
       ∙ ap (behindNumber number) (body-own (spaced number ++ said)) ∙ drop-append-seam (spaced number) said
 
-  pub row-own : length (spaced number ++ (said ++ text "\n")) ≤ 32 → (saysRefused said || saysLoaded said) ≡ true → isRow number (spaced number ++ (said ++ text "\n")) ≡ true
+  pub row-own : length (spaced number ++ (said ++ text "\n")) ≤ 32 → (saysRefused said || saysLoaded said) ≡ true
+      → isRow number (spaced number ++ (said ++ text "\n")) ≡ true
   row-own short e =
       ap₂ _&&_ (le-leb (length (spaced number ++ (said ++ text "\n"))) 32 short)
       (ap₂ _&&_ (ends-after (spaced number) (said ++ text "\n") (ends-after said (text "\n") ends-end))

@@ -66,4 +66,5 @@ afterNumber number row = behindNumber number (withoutLF row)
 
 -- a row of a line by its number: 32 bytes at most, and LF at its end
 abbrev pub isRow : ℕ → List ℕ → Bool
-isRow number row = leb (length row) 32 && (endsInLF row && (beginsWith (spaced number) row && (saysRefused (afterNumber number row) || saysLoaded (afterNumber number row))))
+isRow number row = leb (length row) 32 && (endsInLF row && (beginsWith (spaced number) row
+    && (saysRefused (afterNumber number row) || saysLoaded (afterNumber number row))))

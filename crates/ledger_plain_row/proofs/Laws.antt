@@ -222,7 +222,8 @@ module _ (s : List ℕ) (k : ℕ) (e : k ≡ signIn s) (n : Number) (q : n ≡ n
   score-none h = rw (points false h)
 
   module _ (p : isPoints k n ≡ true) where
-    pub score-open : startsWith 10 (take (length (take (length s - k) (drop k s)) - n .size) (drop (n .size) (take (length s - k) (drop k s)))) ≡ false → 0 ≡ scoreIn s
+    pub score-open : startsWith 10 (take (length (take (length s - k) (drop k s)) - n .size) (drop (n .size) (take (length s - k) (drop k s)))) ≡ false
+        → 0 ≡ scoreIn s
     unfolding scoreIn
     score-open h = rw (points true p, ended false h)
 
@@ -281,9 +282,11 @@ module _ (number : ℕ) (s : List ℕ) (n : Number) (q : n ≡ numberRead (numbe
 
     module _ (p : halfBetween (take (length s - n .size) (drop (n .size) s)) ≡ true) where
       pub tell-long : 3 ≤ length (take (length s - n .size) (drop (n .size) s))
-      tell-long = leb-true 3 (length (take (length s - n .size) (drop (n .size) s))) (both-true (leb 3 (length (take (length s - n .size) (drop (n .size) s)))) _ p .0)
+      tell-long = leb-true 3 (length (take (length s - n .size) (drop (n .size) s)))
+          (both-true (leb 3 (length (take (length s - n .size) (drop (n .size) s)))) _ p .0)
 
-      module _ (k : ℕ) (e : k ≡ scoreIn (take (length (take (length s - n .size) (drop (n .size) s)) - 3) (drop 3 (take (length s - n .size) (drop (n .size) s))))) where
+      module _ (k : ℕ) (e : k ≡ scoreIn (take (length (take (length s - n .size) (drop (n .size) s)) - 3)
+          (drop 3 (take (length s - n .size) (drop (n .size) s))))) where
         k-is : k ≡ scoreIn (drop 3 (drop (length (numberIn s)) s))
         k-is = e ∙ ap scoreIn (rest 3 (take (length s - n .size) (drop (n .size) s)) ∙ ap (drop 3) said-is)
 

@@ -71,7 +71,8 @@ figures-open : (s : List ℕ) → T (every isFigure s) → ends s ≡ 0
 unfolding every ends
 figures-open [] m = refl
 figures-open (b ∷ s) m =
-    ap (λ (x : Bool). cond x (ends s + 1) (ends s)) (no-lf b (and-l (isFigure b) (every isFigure s) m)) ∙ figures-open s (and-r (isFigure b) (every isFigure s) m)
+    ap (λ (x : Bool). cond x (ends s + 1) (ends s)) (no-lf b (and-l (isFigure b) (every isFigure s) m))
+    ∙ figures-open s (and-r (isFigure b) (every isFigure s) m)
 
 -- ---- a number at the front: the decimal of what it comes to
 record Own (s : List ℕ) : Type 0 where
@@ -169,7 +170,8 @@ module _ (s : List ℕ) where
       rest-is a b w k = sym (ap₂ (λ (j : ℕ) (l : List ℕ). drop j l) k w ∙ drop-append-add a b 1)
 
 scoreAt : List ℕ → ℕ → ℕ
-scoreAt s sign = cond (isPoints sign (numberRead (numberIn (drop sign s))) && startsWith 10 (drop (length (numberIn (drop sign s))) (drop sign s))) (sign + length (numberIn (drop sign s)) + 1) 0
+scoreAt s sign = cond (isPoints sign (numberRead (numberIn (drop sign s))) && startsWith 10 (drop (length (numberIn (drop sign s))) (drop sign s)))
+    (sign + length (numberIn (drop sign s)) + 1) 0
 
 score-at : (s : List ℕ) (sign : ℕ) → signIn s ≡ sign → scoreIn s ≡ scoreAt s sign
 unfolding scoreIn scoreAt
@@ -302,7 +304,8 @@ module _ (number : ℕ) (s : List ℕ) (own : isOwn number (numberRead (numberIn
         body = spaced number ++ tail;
         row = row ∙ sym (append-assoc (spaced number) tail (text "\n"));
         unended = ends-append (spaced number) tail
-            ∙ ap₂ _+_ (ends-append (decimalOf number) (text " ") ∙ ap₂ _+_ (ap ends d ∙ o .unended) space-open) (ends-append ((48 + k) ∷ (32 ∷ [])) (w .score) ∙ ap₂ _+_ (sp .1) (w .unended));
+            ∙ ap₂ _+_ (ends-append (decimalOf number) (text " ") ∙ ap₂ _+_ (ap ends d ∙ o .unended) space-open)
+            (ends-append ((48 + k) ∷ (32 ∷ [])) (w .score) ∙ ap₂ _+_ (sp .1) (w .unended));
         size = omega (arith, size);
         short = omega (arith, size, o .few, w .few);
         fits = omega (arith, size, lens);
@@ -310,7 +313,8 @@ module _ (number : ℕ) (s : List ℕ) (own : isOwn number (numberRead (numberIn
         is-row = ap (isRow number) row ∙ row-own number tail (omega (arith, size, o .few, w .few)) (ap₂ _||_ refused loaded);
         loaded = ap (λ (x : List ℕ). saysRefused (afterNumber number x)) row ∙ ap saysRefused (said-own number tail) ∙ refused;
         behind = ap₂ (λ (j : ℕ) (x : List ℕ). drop j x) (sym len) (row ∙ append-assoc (decimalOf number) (text " ") (tail ++ text "\n"))
-            ∙ drop-append-seam (decimalOf number) (text " " ++ (tail ++ text "\n")) ∙ ap (λ (x : List ℕ). text " " ++ x) (sym (ap (behindNumber number) row ∙ behind-own number tail));
+            ∙ drop-append-seam (decimalOf number) (text " " ++ (tail ++ text "\n"))
+            ∙ ap (λ (x : List ℕ). text " " ++ x) (sym (ap (behindNumber number) row ∙ behind-own number tail));
       }
     where
       shown-score : (x : List ℕ) → isScore x ≡ true → isShown x ≡ true
@@ -331,7 +335,8 @@ module _ (number : ℕ) (s : List ℕ) (own : isOwn number (numberRead (numberIn
 pub told-is-row : (number : ℕ) (s : List ℕ) (r : PlainRow) → r ≡ plainIn number s → (r .size ≡ 0 → ⊥) → ToldRow number s r
 unfolding plainIn
 told-is-row number s r e h =
-    go (isOwn number (numberRead (numberIn s))) (halfBetween (drop (length (numberIn s)) s)) (leb 1 (scoreIn (drop 3 (drop (length (numberIn s)) s)))) refl refl refl e
+    go (isOwn number (numberRead (numberIn s))) (halfBetween (drop (length (numberIn s)) s)) (leb 1 (scoreIn (drop 3 (drop (length (numberIn s)) s))))
+    refl refl refl e
   where
     row : PlainRow
     row = record { front = length (numberIn s); size = length (numberIn s) + 3 + scoreIn (drop 3 (drop (length (numberIn s)) s)) }
@@ -339,7 +344,8 @@ told-is-row number s r e h =
     no : r ≡ noRow → ⊥
     no q = h (ap (λ (x : PlainRow). x .size) q)
 
-    go : (a b c : Bool) → isOwn number (numberRead (numberIn s)) ≡ a → halfBetween (drop (length (numberIn s)) s) ≡ b → leb 1 (scoreIn (drop 3 (drop (length (numberIn s)) s))) ≡ c
+    go : (a b c : Bool) → isOwn number (numberRead (numberIn s)) ≡ a → halfBetween (drop (length (numberIn s)) s) ≡ b
+        → leb 1 (scoreIn (drop 3 (drop (length (numberIn s)) s))) ≡ c
         → r ≡ cond (a && (b && c)) row noRow → ToldRow number s r
     go true true true p q o w = subst (ToldRow number s) (sym w) (at-row number s p q o)
     go true true false p q o w = absurd (no w)

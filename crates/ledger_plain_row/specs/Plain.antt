@@ -55,4 +55,5 @@ unfolding scoreIn
 plainIn number s =
     let own : List ℕ = numberIn s in
     let said : List ℕ = drop (length own) s in
-    cond (isOwn number (numberRead own) && (halfBetween said && leb 1 (scoreIn (drop 3 said)))) (record { front = length own; size = length own + 3 + scoreIn (drop 3 said) }) noRow
+    cond (isOwn number (numberRead own) && (halfBetween said && leb 1 (scoreIn (drop 3 said))))
+    (record { front = length own; size = length own + 3 + scoreIn (drop 3 said) }) noRow

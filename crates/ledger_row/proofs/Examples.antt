@@ -18,7 +18,8 @@ use Rattle.text_out.specs.Text.{digitsUpTo}
 use Rattle.ledger_row.specs.Row.{rowOf, loadedRow, refusedRow}
 
 row : ℕ → String → List ℕ
-unfolding lineOf fieldsSay every holds before after without withoutLast trim placeIn areRanks stacked nthWord rightsFit passantFits countersFitFields stateSaid scoreOf tabulate bitboardsOf loadedRow refusedRow digitsUpTo
+unfolding lineOf fieldsSay every holds before after without withoutLast trim placeIn areRanks stacked nthWord rightsFit passantFits countersFitFields
+    stateSaid scoreOf tabulate bitboardsOf loadedRow refusedRow digitsUpTo
 row number line = rowOf number (lineOf (text line))
 
 paper :

@@ -38,7 +38,8 @@ shown-6 (given (score z)) h = length-short z (h z refl)
 shown-6 (refused n v) h = omega arith
 
 -- ---- a refusal has two digits at most
-pub test-small : {A : Type 0} (holds : Bool) (r : Refusal) (n : ℕ) (v : List ℕ) (rest : Answer A) → (refused n v ≡ rest → n < 100) → refused n v ≡ orRefuse holds r rest → n < 100
+pub test-small : {A : Type 0} (holds : Bool) (r : Refusal) (n : ℕ) (v : List ℕ) (rest : Answer A) → (refused n v ≡ rest → n < 100)
+    → refused n v ≡ orRefuse holds r rest → n < 100
 test-small true r n v rest k e = k e
 test-small false r n v rest k e = let q : n ≡ numberOf r = cc in omega (arith, number-small r)
 
@@ -60,7 +61,8 @@ loaded-32 number half a h k =
     omega (arith, length-spaced number, length-below 20 0 half (omega arith))
 
 -- by whatever a reader said, where its refusals have two digits and its half points one
-pub answer-32 : (number : ℕ) (a : Answer Line) → ((n : ℕ) (v : List ℕ) → refused n v ≡ a → n < 100) → ((l : Line) → given l ≡ a → l .half < 10) → length (rowOf number a) ≤ 32
+pub answer-32 : (number : ℕ) (a : Answer Line) → ((n : ℕ) (v : List ℕ) → refused n v ≡ a → n < 100) → ((l : Line) → given l ≡ a → l .half < 10)
+    → length (rowOf number a) ≤ 32
 unfolding scoreOf
 answer-32 number (refused n v) few half = refused-32 number n (few n v refl)
 answer-32 number (given l) few half =
@@ -68,4 +70,5 @@ answer-32 number (given l) few half =
     (shown-6 (scoreOf (bitboardsOf (l .board)) (l .state)) (score-short (bitboardsOf (l .board)) (l .state)))
 
 pub row-32 : (number : ℕ) (line : List ℕ) → length (rowOf number (lineOf line)) ≤ 32
-row-32 number line = answer-32 number (lineOf line) (λ n v e. let h = refused-by line n v (sym e) in omega (arith, h .2)) (λ l e. let half = given-spells line l (sym e) .half in omega arith)
+row-32 number line = answer-32 number (lineOf line) (λ n v e. let h = refused-by line n v (sym e) in omega (arith, h .2))
+    (λ l e. let half = given-spells line l (sym e) .half in omega arith)

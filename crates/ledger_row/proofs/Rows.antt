@@ -80,6 +80,7 @@ row-read number (refused n v) old new at read bitboards r e f h =
     record { puts = subst (λ (u : List ℕ). Puts old new at u (r .placed)) t (h .puts); loaded = h .loaded ∙ ap isLoaded e }
 
 -- neither SHAPE nor anything at odds comes before a row's score
-pub shown-eval : (line : List ℕ) (l : Line) → lineOf line ≡ given l → evalOf (bitboardsOf (l .board)) (l .board) (l .state) ≡ scoreOf (bitboardsOf (l .board)) (l .state)
+pub shown-eval : (line : List ℕ) (l : Line) → lineOf line ≡ given l → evalOf (bitboardsOf (l .board)) (l .board) (l .state)
+    ≡ scoreOf (bitboardsOf (l .board)) (l .state)
 unfolding evalOf
 shown-eval line l e = loaded-checked line l e (scoreOf (bitboardsOf (l .board)) (l .state))

@@ -63,7 +63,13 @@ unfolding placesOf
 length-places n =
     let d : List ℕ = decimalOf (1000000000000 + n % 1000000000000) in
     let w : List ℕ = decimalOf (n / 1000000000000) in
-    omega (arith, length-append w (text "." ++ drop 1 d), length-point d (digit (1000000000000 + n % 1000000000000)), length-20 (n / 1000000000000), length-20 (1000000000000 + n % 1000000000000))
+    omega (
+      arith,
+      length-append w (text "." ++ drop 1 d),
+      length-point d (digit (1000000000000 + n % 1000000000000)),
+      length-20 (n / 1000000000000),
+      length-20 (1000000000000 + n % 1000000000000),
+    )
 
 pub length-mean : (scored sum : ℕ) → length (meanWord scored sum) ≤ 46
 length-mean scored sum = go (eqb scored 0)
@@ -85,7 +91,14 @@ fits-error scored apart others sum =
     let c = length-append y (z ++ u) in
     let d = length-append z u in
     let e = length-append m (text "\n") in
-    omega (arith, length-named (text "scored ") scored, length-named (text " apart ") apart, length-named (text " refused ") others, length-named (text " sum ") sum, length-mean scored sum)
+    omega (
+      arith,
+      length-named (text "scored ") scored,
+      length-named (text " apart ") apart,
+      length-named (text " refused ") others,
+      length-named (text " sum ") sum,
+      length-mean scored sum,
+    )
 
 -- ---- texts put one after another
 pub after-room : {x y t : List ℕ} {at b : ℕ} (k m : ℕ) → Adds x at t y b → length t ≤ k → at + (k + m) ≤ length x → b + m ≤ length y
@@ -109,9 +122,11 @@ places-adds {x} {y} {z} {v} {at} {b} {c} n room f g p h =
 pub mean-none : {x y z : List ℕ} {at b c : ℕ} (scored sum : ℕ) → scored ≡ 0 → at + 46 ≤ length x → Adds x at (text " mean ") y b → Adds y b (text "none") z c
     → Adds x at (meanWord scored sum) z c
 mean-none {x} {y} {z} {at} {b} {c} scored sum e room f g =
-    subst (λ (t : Bool). Adds x at (text " mean " ++ cond t (text "none") (placesOf (sum / scored))) z c) (sym (eq-eqb scored 0 e)) (adds-then f g (omega arith))
+    subst (λ (t : Bool). Adds x at (text " mean " ++ cond t (text "none") (placesOf (sum / scored))) z c) (sym (eq-eqb scored 0 e))
+    (adds-then f g (omega arith))
 
-pub mean-some : {x y z : List ℕ} {at b c : ℕ} (scored sum : ℕ) → (scored ≡ 0 → ⊥) → at + 46 ≤ length x → Adds x at (text " mean ") y b → Adds y b (placesOf (sum / scored)) z c
+pub mean-some : {x y z : List ℕ} {at b c : ℕ} (scored sum : ℕ) → (scored ≡ 0 → ⊥) → at + 46 ≤ length x → Adds x at (text " mean ") y b
+    → Adds y b (placesOf (sum / scored)) z c
     → Adds x at (meanWord scored sum) z c
 mean-some {x} {y} {z} {at} {b} {c} scored sum n room f g =
     subst (λ (t : Bool). Adds x at (text " mean " ++ cond t (text "none") (placesOf (sum / scored))) z c) (sym (ne-eqb scored 0 n))
@@ -119,8 +134,10 @@ mean-some {x} {y} {z} {at} {b} {c} scored sum n room f g =
 
 -- the whole row
 module _ (scored apart others sum : ℕ) where
-  pub error-adds : {x y z u v w o : List ℕ} {a b c d e f : ℕ} → 164 ≤ length x → Adds x 0 (text "scored " ++ decimalOf scored) y a → Adds y a (text " apart " ++ decimalOf apart) z b
-      → Adds z b (text " refused " ++ decimalOf others) u c → Adds u c (text " sum " ++ decimalOf sum) v d → Adds v d (meanWord scored sum) w e → Adds w e (text "\n") o f
+  pub error-adds : {x y z u v w o : List ℕ} {a b c d e f : ℕ} → 164 ≤ length x → Adds x 0 (text "scored " ++ decimalOf scored) y a
+      → Adds y a (text " apart " ++ decimalOf apart) z b
+      → Adds z b (text " refused " ++ decimalOf others) u c → Adds u c (text " sum " ++ decimalOf sum) v d → Adds v d (meanWord scored sum) w e
+      → Adds w e (text "\n") o f
       → Adds x 0 (errorRow scored apart others sum) o f
   unfolding errorRow
   error-adds {v = v} {d = d} room p q r s m l =

@@ -21,7 +21,8 @@ meanWord scored sum = text " mean " ++ meanOf scored sum
 
 unfoldable pub errorRow : ℕ → ℕ → ℕ → ℕ → List ℕ
 errorRow scored apart others sum =
-    ((text "scored " ++ decimalOf scored) ++ ((text " apart " ++ decimalOf apart) ++ ((text " refused " ++ decimalOf others) ++ (text " sum " ++ decimalOf sum))))
+    ((text "scored " ++ decimalOf scored) ++ ((text " apart " ++ decimalOf apart)
+    ++ ((text " refused " ++ decimalOf others) ++ (text " sum " ++ decimalOf sum))))
     ++ (meanWord scored sum ++ text "\n")
 
 -- what the function promises: the row is put at a place

@@ -40,7 +40,8 @@ use Rattle.ledger_whole.proofs.Machines.{linesIn, machine-ledger, machi
 abbrev pub shift : List ℕ → Kept → Kept
 shift t r = record { loaded = r .loaded; refused = r .refused; text = t ++ r .text }
 
-close-shift : (profile : Profile) (t : List ℕ) (r : Kept) (line : List ℕ) (size : ℕ) → closeRow profile (shift t r) line size ≡ shift t (closeRow profile r line size)
+close-shift : (profile : Profile) (t : List ℕ) (r : Kept) (line : List ℕ) (size : ℕ)
+    → closeRow profile (shift t r) line size ≡ shift t (closeRow profile r line size)
 close-shift profile t r line size =
     let a : Answer Line = saidUnder profile line size in
     ap (λ (u : List ℕ). record { loaded = tally (r .loaded) (isLoaded a); refused = tally (r .refused) (not (isLoaded a)); text = u })
@@ -72,17 +73,21 @@ abbrev pub quiet : Machine → Machine
 quiet m = at (stateOf m) (m .line) []
 
 pub split : (m : Machine) → m ≡ afterText (m .text) (quiet m)
-split m = ap (λ (t : List ℕ). record { line = m .line; held = m .held; cr = m .cr; loaded = m .loaded; refused = m .refused; text = t }) (sym (append-nil (m .text)))
+split m = ap (λ (t : List ℕ). record { line = m .line; held = m .held; cr = m .cr; loaded = m .loaded; refused = m .refused; text = t })
+    (sym (append-nil (m .text)))
 
 pieces : (profile : Profile) (m : Machine) (s t : List ℕ) → run profile m (s ++ t) ≡ afterText (run profile m s .text) (run profile (quiet (run profile m s)) t)
 pieces profile m s t =
-    ap machineOf (run-append (closeRow profile) (openOf m) (keptOf m) s t) ∙ ap (λ (x : Machine). run profile x t) (split (run profile m s)) ∙ run-after profile (run profile m s .text) (quiet (run profile m s)) t
+    ap machineOf (run-append (closeRow profile) (openOf m) (keptOf m) s t) ∙ ap (λ (x : Machine). run profile x t) (split (run profile m s))
+    ∙ run-after profile (run profile m s .text) (quiet (run profile m s)) t
 
 -- ---- how many lines were counted
-run-counts : (profile : Profile) (o : Open) (r : Kept) (s : List ℕ) → runBy (closeRow profile) o r s .kept .loaded + runBy (closeRow profile) o r s .kept .refused ≡ r .loaded + r .refused + ends s
+run-counts : (profile : Profile) (o : Open) (r : Kept) (s : List ℕ) → runBy (closeRow profile) o r s .kept .loaded
+    + runBy (closeRow profile) o r s .kept .refused ≡ r .loaded + r .refused + ends s
 unfolding runBy ends
 run-counts profile o r [] = sym (add-zero (r .loaded + r .refused))
-run-counts profile o r (b ∷ s) = go (eqb b lf) (run-counts profile (lineEmptied o) (closeRow profile r (o .line) (bareOf (o .held) (o .cr))) s) (run-counts profile (pushed o b) r s)
+run-counts profile o r (b ∷ s) = go (eqb b lf) (run-counts profile (lineEmptied o) (closeRow profile r (o .line) (bareOf (o .held) (o .cr))) s)
+    (run-counts profile (pushed o b) r s)
   where
     a : Answer Line
     a = saidUnder profile (o .line) (bareOf (o .held) (o .cr))
@@ -127,7 +132,8 @@ pub record Given (m : Machine) (r : Fed) (line′ out′ : List ℕ) : Type 0 wh
   pub rows : rowsOf r out′ ≡ m .text
 
 feed-given : (profile : Profile) (state : SoFar) (line chunk out : List ℕ) (r : Fed) (line′ out′ : List ℕ) → Feeds profile state line chunk out r line′ out′
-    → length line ≡ 256 → state .loaded + state .refused + ends chunk < 2 ^ 64 → 32 * ends chunk ≤ length out → Given (run profile (at state line []) chunk) r line′ out′
+    → length line ≡ 256 → state .loaded + state .refused + ends chunk < 2 ^ 64 → 32 * ends chunk ≤ length out
+    → Given (run profile (at state line []) chunk) r line′ out′
 feed-given profile state line chunk out r line′ out′ f size counts room =
     let m : Machine = run profile (at state line []) chunk in
     let e : feedOf profile state line chunk out ≡ came m =
@@ -166,19 +172,22 @@ all profile state line (c ∷ cs) last size room counts made =
     let m : Machine = run profile (at state line []) (c .chunk) in
     let s : List ℕ = input cs in
     let cut : run profile (at state line []) (c .chunk ++ s) ≡ afterText (m .text) (run profile (quiet m) s) = pieces profile (at state line []) (c .chunk) s in
-    let total = run-counts profile (openOf (at state line [])) (keptOf (at state line [])) (c .chunk ++ s) ∙ ap (λ (n : ℕ). state .loaded + state .refused + n) (ends-append (c .chunk) s) in
+    let total = run-counts profile (openOf (at state line [])) (keptOf (at state line [])) (c .chunk ++ s)
+    ∙ ap (λ (n : ℕ). state .loaded + state .refused + n) (ends-append (c .chunk) s) in
     let g = feed-given profile state line (c .chunk) (c .out) (c .fed) (c .line′) (c .out′) (made .0) size
     (part-counts _ (state .loaded + state .refused) (ends (c .chunk)) (ends s) _ total counts) (room .0) in
     let rest : CallsMade profile (stateOf m) (m .line) cs last =
     subst (λ (l : List ℕ). CallsMade profile (stateOf m) l cs last) (g .kept)
     (subst (λ (r : Fed). CallsMade profile (next r state) (c .line′) cs last) (g .answer) (made .1)) in
     ap₂ _++_ (g .rows)
-    (all profile (stateOf m) (m .line) cs last (run-size (closeRow profile) (openOf (at state line [])) (keptOf (at state line [])) (c .chunk) ∙ size) (room .1) (subst (λ (n : ℕ). n < 2 ^ 64) (ap linesIn cut) counts) rest)
+    (all profile (stateOf m) (m .line) cs last (run-size (closeRow profile) (openOf (at state line [])) (keptOf (at state line [])) (c .chunk) ∙ size)
+    (room .1) (subst (λ (n : ℕ). n < 2 ^ 64) (ap linesIn cut) counts) rest)
     ∙ sym (finished-after profile (m .text) (run profile (quiet m) s)) ∙ sym (ap (finished profile) cut)
 
 -- the claim, for every line buffer and all calls
 pub ledger : (profile : Profile) (line : List ℕ) (calls : List Call) (last : Last) → Whole profile line calls last
 ledger profile line calls last = record {
-  ledger = λ size room few made. all profile fresh line calls last size room (subst (λ (n : ℕ). n < 2 ^ 64) (sym (machine-lines profile line (input calls) size)) few) made
+  ledger = λ size room few made. all profile fresh line calls last size room
+      (subst (λ (n : ℕ). n < 2 ^ 64) (sym (machine-lines profile line (input calls) size)) few) made
       ∙ machine-ledger profile line (input calls) size;
 }

@@ -20,7 +20,8 @@ use Rattle.ledger_whole.specs.Ledger.{rowsFrom, loadedIn, refusedIn, led
 
 -- ---- document 01's collection and its whole output
 ledger : List ℕ → List ℕ
-unfolding ledgerOf linesFrom endsInCR rowsFrom loadedIn refusedIn lineOf fieldsSay every holds before after without withoutLast trim placeIn areRanks stacked nthWord rightsFit passantFits countersFitFields stateSaid scoreOf tabulate bitboardsOf loadedRow refusedRow lastRow digitsUpTo
+unfolding ledgerOf linesFrom endsInCR rowsFrom loadedIn refusedIn lineOf fieldsSay every holds before after without withoutLast trim placeIn areRanks
+    stacked nthWord rightsFit passantFits countersFitFields stateSaid scoreOf tabulate bitboardsOf loadedRow refusedRow lastRow digitsUpTo
 ledger input = ledgerOf P.Any input
 
 paper :

@@ -28,11 +28,13 @@ use Rattle.ledger_feed.proofs.Counted.{tally-both, loaded-more, refused-more}
 -- the rows and the totals that lines make, after so many loaded and refused
 abbrev rest : Profile → List ℕ → ℕ → ℕ → List (List ℕ) → List ℕ
 rest profile text loaded refused ls =
-    text ++ (rowsFrom profile (loaded + refused + 1) ls ++ lastRow (loaded + refused + length ls) (loaded + loadedIn profile ls) (refused + refusedIn profile ls))
+    text ++ (rowsFrom profile (loaded + refused + 1) ls ++ lastRow (loaded + refused + length ls) (loaded + loadedIn profile ls)
+    (refused + refusedIn profile ls))
 
 -- a line more, of which it is known what it says
 rest-cons : (profile : Profile) (text : List ℕ) (loaded refused : ℕ) (a : Answer Line) (l : List ℕ) (ls : List (List ℕ)) → a ≡ lineUnder profile l
-    → rest profile (text ++ rowOf (loaded + refused + 1) a) (tally loaded (isLoaded a)) (tally refused (not (isLoaded a))) ls ≡ rest profile text loaded refused (l ∷ ls)
+    → rest profile (text ++ rowOf (loaded + refused + 1) a) (tally loaded (isLoaded a)) (tally refused (not (isLoaded a))) ls
+    ≡ rest profile text loaded refused (l ∷ ls)
 unfolding rowsFrom loadedIn refusedIn
 rest-cons profile text loaded refused a l ls e =
     let t : Bool = isLoaded (lineUnder profile l) in
@@ -40,7 +42,8 @@ rest-cons profile text loaded refused a l ls e =
     let many : loaded + refused + 1 + length ls ≡ loaded + refused + suc (length ls) = omega arith in
     let row : List ℕ = rowOf (loaded + refused + 1) (lineUnder profile l) in
     let rows : List ℕ = rowsFrom profile (loaded + refused + 1 + 1) ls in
-    let last : List ℕ = lastRow (loaded + refused + suc (length ls)) (loaded + (cond t 1 0 + loadedIn profile ls)) (refused + (cond t 0 1 + refusedIn profile ls)) in
+    let last : List ℕ = lastRow (loaded + refused + suc (length ls)) (loaded + (cond t 1 0 + loadedIn profile ls))
+    (refused + (cond t 0 1 + refusedIn profile ls)) in
     rw (e, both, many, loaded-more t loaded (loadedIn profile ls), refused-more t refused (refusedIn profile ls))
     (append-assoc text row (rows ++ last) ∙ ap (λ (x : List ℕ). text ++ x) (sym (append-assoc row rows last)))
 
@@ -52,7 +55,8 @@ rest-nil profile text loaded refused = rw (add-zero (loaded + refused), add-zero
 abbrev rowLine : Profile → Kept → List ℕ → Kept
 rowLine profile r l = rowMore r (lineUnder profile l)
 
-fold-rest : (profile : Profile) (r : Kept) (ls : List (List ℕ)) → withTotals (foldLines (rowLine profile) r ls) ≡ rest profile (r .text) (r .loaded) (r .refused) ls
+fold-rest : (profile : Profile) (r : Kept) (ls : List (List ℕ)) → withTotals (foldLines (rowLine profile) r ls)
+    ≡ rest profile (r .text) (r .loaded) (r .refused) ls
 unfolding foldLines
 fold-rest profile r [] = rest-nil profile (r .text) (r .loaded) (r .refused)
 fold-rest profile r (l ∷ ls) = fold-rest profile (rowLine profile r l) ls ∙ rest-cons profile (r .text) (r .loaded) (r .refused) (lineUnder profile l) l ls refl
@@ -65,7 +69,8 @@ finished-end profile r = go (ltb 0 (r .left .held))
     m : Machine
     m = machineOf r
 
-    go : (t : Bool) → cond t (close profile m (m .held)) m .text ++ totals (cond t (close profile m (m .held)) m) ≡ withTotals (cond t (closeRow profile (r .kept) (r .left .line) (r .left .held)) (r .kept))
+    go : (t : Bool) → cond t (close profile m (m .held)) m .text ++ totals (cond t (close profile m (m .held)) m)
+        ≡ withTotals (cond t (closeRow profile (r .kept) (r .left .line) (r .left .held)) (r .kept))
     go true = refl
     go false = refl
 
@@ -76,7 +81,9 @@ begun line = record { line = line; held = 0; cr = false; loaded = 0; refused = 0
 pub machine-ledger : (profile : Profile) (line s : List ℕ) → length line ≡ 256 → finished profile (run profile (begun line) s) ≡ ledgerOf profile s
 unfolding ledgerOf
 machine-ledger profile line s h =
-    finished-end profile (runBy (closeRow profile) (freshLine line) noRows s) ∙ ap withTotals (folded (closeRow profile) (rowLine profile) (follows (λ (s : Kept) (said : Answer Line). rowMore s (under profile said))) line noRows s h) ∙ fold-rest profile noRows (linesOf s)
+    finished-end profile (runBy (closeRow profile) (freshLine line) noRows s)
+    ∙ ap withTotals (folded (closeRow profile) (rowLine profile) (follows (λ (s : Kept) (said : Answer Line). rowMore s (under profile said))) line
+    noRows s h) ∙ fold-rest profile noRows (linesOf s)
     ∙ rw (zero-add (length (linesOf s)), zero-add (loadedIn profile (linesOf s)), zero-add (refusedIn profile (linesOf s)))
 
 -- ---- how many lines there are
@@ -104,5 +111,7 @@ fold-count profile r (l ∷ ls) =
 
 pub machine-lines : (profile : Profile) (line s : List ℕ) → length line ≡ 256 → linesIn (run profile (begun line) s) ≡ length (linesOf s)
 machine-lines profile line s h =
-    lines-end profile (runBy (closeRow profile) (freshLine line) noRows s) ∙ ap allCounted (folded (closeRow profile) (rowLine profile) (follows (λ (s : Kept) (said : Answer Line). rowMore s (under profile said))) line noRows s h) ∙ fold-count profile noRows (linesOf s)
+    lines-end profile (runBy (closeRow profile) (freshLine line) noRows s)
+    ∙ ap allCounted (folded (closeRow profile) (rowLine profile) (follows (λ (s : Kept) (said : Answer Line). rowMore s (under profile said))) line
+    noRows s h) ∙ fold-count profile noRows (linesOf s)
     ∙ zero-add (length (linesOf s))

@@ -25,7 +25,8 @@ unfolding rowList
 rows-many profile number [] = refl
 rows-many profile number (l ∷ ls) = ap suc (rows-many profile (number + 1) ls)
 
-rows-each : (profile : Profile) (number : ℕ) (ls : List (List ℕ)) (k : ℕ) → k < length ls → getD (rowList profile number ls) k [] ≡ rowOf (number + k) (lineUnder profile (getD ls k []))
+rows-each : (profile : Profile) (number : ℕ) (ls : List (List ℕ)) (k : ℕ) → k < length ls
+    → getD (rowList profile number ls) k [] ≡ rowOf (number + k) (lineUnder profile (getD ls k []))
 unfolding rowList
 rows-each profile number [] k h = absurd (no k h)
   where
@@ -33,14 +34,16 @@ rows-each profile number [] k h = absurd (no k h)
     no k q = omega arith
 rows-each profile number (l ∷ ls) zero h = ap (λ (n : ℕ). rowOf n (lineUnder profile l)) (let e : number ≡ number + 0 = omega arith in e)
 rows-each profile number (l ∷ ls) (suc k) h =
-    rows-each profile (number + 1) ls k (omega arith) ∙ ap (λ (n : ℕ). rowOf n (lineUnder profile (getD ls k []))) (let e : number + 1 + k ≡ number + suc k = omega arith in e)
+    rows-each profile (number + 1) ls k (omega arith) ∙ ap (λ (n : ℕ). rowOf n (lineUnder profile (getD ls k [])))
+    (let e : number + 1 + k ≡ number + suc k = omega arith in e)
 
 pub either : (profile : Profile) (ls : List (List ℕ)) → loadedIn profile ls + refusedIn profile ls ≡ length ls
 unfolding loadedIn refusedIn
 either profile [] = refl
 either profile (l ∷ ls) = go (isLoaded (lineUnder profile l)) (either profile ls)
   where
-    go : (t : Bool) → loadedIn profile ls + refusedIn profile ls ≡ length ls → (cond t 1 0 + loadedIn profile ls) + (cond t 0 1 + refusedIn profile ls) ≡ suc (length ls)
+    go : (t : Bool) → loadedIn profile ls + refusedIn profile ls ≡ length ls
+        → (cond t 1 0 + loadedIn profile ls) + (cond t 0 1 + refusedIn profile ls) ≡ suc (length ls)
     go true e = omega arith
     go false e = omega arith
 
@@ -86,7 +89,8 @@ pieces-lines l (b ∷ s) n = go (eqb b lf) refl (pieces-lines [] s refl) (pieces
   where
     go : (t : Bool) → eqb b lf ≡ t → linesFrom [] s ≡ map lineIn (piecesFrom [] s)
         → (endsInLF (l ++ (b ∷ [])) ≡ false → linesFrom (l ++ (b ∷ [])) s ≡ map lineIn (piecesFrom (l ++ (b ∷ [])) s))
-        → cond t (withoutCR l ∷ linesFrom [] s) (linesFrom (l ++ (b ∷ [])) s) ≡ map lineIn (cond t ((l ++ (lf ∷ [])) ∷ piecesFrom [] s) (piecesFrom (l ++ (b ∷ [])) s))
+        → cond t (withoutCR l ∷ linesFrom [] s) (linesFrom (l ++ (b ∷ [])) s)
+        ≡ map lineIn (cond t ((l ++ (lf ∷ [])) ∷ piecesFrom [] s) (piecesFrom (l ++ (b ∷ [])) s))
     go true e next longer = ap₂ _∷_ (sym (line-ended l)) next
     go false e next longer = longer (lf-last l b ∙ e)
 

@@ -49,7 +49,8 @@ lastRowsOf (E.Refused r) out′ = []
 -- each call does what `feed` promises, from the state and the line buffer that the call before it left; then `finish`
 unfoldable pub CallsMade : Profile → SoFar → List ℕ → List Call → Last → Type 0
 CallsMade profile state line [] last = Finishes profile state line (last .out) (last .finished) (last .out′)
-CallsMade profile state line (c ∷ cs) last = Feeds profile state line (c .chunk) (c .out) (c .fed) (c .line′) (c .out′) × CallsMade profile (next (c .fed) state) (c .line′) cs last
+CallsMade profile state line (c ∷ cs) last = Feeds profile state line (c .chunk) (c .out) (c .fed) (c .line′) (c .out′)
+    × CallsMade profile (next (c .fed) state) (c .line′) cs last
 
 -- all that is written, call after call
 unfoldable pub allWritten : List Call → Last → List ℕ

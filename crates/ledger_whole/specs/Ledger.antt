@@ -1,4 +1,5 @@
--- The ledger of a whole collection, by its lines (document 01, "A collection's line", "The ledger program"), under a profile (document 02, W-212). Definitions only.
+-- The ledger of a whole collection, by its lines (document 01, "A collection's line", "The ledger program"), under a profile (document 02, W-212).
+-- Definitions only.
 use mathlib.Core.Bool.{cond}
 use mathlib.Core.List.{List, [], _∷_, _++_}
 use Prim.Native.Nat.{ℕ, _+_}

@@ -15,7 +15,8 @@ use Rattle.ledger_whole.specs.Calls.{Call, Last, CallsMade, Roomy, allWr
 -- THE LEDGER, under every profile: for every way the input is cut into chunks, whatever the line buffer held, all that is written is the ledger of the whole
 -- input; wherever there is room for the rows and the input has fewer than 2^64 lines
 pub record Whole (profile : Profile) (line : List ℕ) (calls : List Call) (last : Last) : Type 0 where
-  pub ledger : length line ≡ 256 → Roomy calls last → length (linesOf (input calls)) < 2 ^ 64 → CallsMade profile fresh line calls last → allWritten calls last ≡ ledgerOf profile (input calls)
+  pub ledger : length line ≡ 256 → Roomy calls last → length (linesOf (input calls)) < 2 ^ 64 → CallsMade profile fresh line calls last
+      → allWritten calls last ≡ ledgerOf profile (input calls)
 
 -- the rows of a ledger, one for each line, numbered from 1 in the lines' order
 unfoldable pub rowList : Profile → ℕ → List (List ℕ) → List (List ℕ)

@@ -77,7 +77,8 @@ module _ (line : List ℕ) where
   unfolding startOf fieldOf
   part-is = go (lineOf line)
     where
-      go : (a : Answer Line) → take (length (unlessRefused a (positionField line))) (drop (startIn (unlessRefused a (positionField line)) line) line) ≡ unlessRefused a (positionField line)
+      go : (a : Answer Line) → take (length (unlessRefused a (positionField line))) (drop (startIn (unlessRefused a (positionField line)) line) line)
+          ≡ unlessRefused a (positionField line)
       go (given l) = trimmed (positionField line) refl
       go (refused n v) = refl
 

@@ -26,7 +26,8 @@ all-coded : (s : List ℕ) → coded (boardOf s) ≡ true
 unfolding coded
 all-coded s =
     T-true (allBelow 64 (λ k. isByte (getD (boardOf s) k 0)))
-    (all-of 64 (λ k. isByte (getD (boardOf s) k 0)) (λ k h. every-at isByte tt (boardOf s) (board-passes isByte tt (λ c p. or-r (eqb c 0) (isPiece c) p) 7 s) k))
+    (all-of 64 (λ k. isByte (getD (boardOf s) k 0)) (λ k h. every-at isByte tt (boardOf s)
+    (board-passes isByte tt (λ c p. or-r (eqb c 0) (isPiece c) p) 7 s) k))
 
 module _ (line : List ℕ) (l : Line) (e : lineOf line ≡ given l) where
   -- its bytes are those that the ranks spell, 64 of them
@@ -41,7 +42,8 @@ module _ (line : List ℕ) (l : Line) (e : lineOf line ≡ given l) where
   loaded-consistent = made-consistent (l .board) (ap coded loaded-board ∙ all-coded (ranksOf (positionField line)))
 
   -- and no other 14 bitboards are, with these bytes
-  pub loaded-only : (bitboards : List ℕ) → length bitboards ≡ 14 → ((board : ℕ) → getD bitboards board 0 < 2 ^ 64) → consistent bitboards (l .board) ≡ true → bitboards ≡ bitboardsOf (l .board)
+  pub loaded-only : (bitboards : List ℕ) → length bitboards ≡ 14 → ((board : ℕ) → getD bitboards board 0 < 2 ^ 64)
+      → consistent bitboards (l .board) ≡ true → bitboards ≡ bitboardsOf (l .board)
   loaded-only bitboards n small c = only-made bitboards (l .board) c n small
 
   -- it passes every test of a position

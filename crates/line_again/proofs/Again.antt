@@ -60,7 +60,8 @@ module _ (board : List ℕ) (state : State) (half : ℕ) (hs : state .side < 2) 
       (sym (tail-sound board (state .side) (after space field) (withResult board r (tailState (state .side) (after space field))) f)
       ∙ rw (d, lt-ltb half 3 hh) (ap (λ (x : State). given (saying board x half)) e))
 
-  passes : (line : List ℕ) (x : Answer Line) → length line ≤ 256 → T (every isText line) → holds semicolon line ≡ true → fieldsSay (positionField line) (resultField line) ≡ x → lineOf line ≡ x
+  passes : (line : List ℕ) (x : Answer Line) → length line ≤ 256 → T (every isText line) → holds semicolon line ≡ true
+      → fieldsSay (positionField line) (resultField line) ≡ x → lineOf line ≡ x
   unfolding lineOf
   passes line x a b c d = rw (le-leb (length line) 256 a, T-true (every isText line) b, c) d
 

@@ -62,7 +62,8 @@ every-from test s t m =
 
 bytes-of-rank : (k : ℕ) (board : List ℕ) → T (every isByte board) → T (every isByte (rankOf k board))
 bytes-of-rank k board m =
-    let rest = every-from isByte (take (8 * k) board) (drop (8 * k) board) (true-T (ap (every isByte) (take-append-drop (8 * k) board) ∙ T-true (every isByte board) m)) .1 in
+    let rest = every-from isByte (take (8 * k) board) (drop (8 * k) board)
+    (true-T (ap (every isByte) (take-append-drop (8 * k) board) ∙ T-true (every isByte board) m)) .1 in
     every-from isByte (rankOf k board) (drop 8 (drop (8 * k) board))
     (true-T (ap (every isByte) (take-append-drop 8 (drop (8 * k) board)) ∙ T-true (every isByte (drop (8 * k) board)) rest)) .0
 
@@ -136,7 +137,8 @@ spelt-whole (zero ∷ squares) n m = spelt-whole squares (suc n) (bytes-rest 0 s
 spelt-whole (suc c ∷ squares) n m =
     let p : T (isPiece (suc c)) = piece-byte c (bytes-first (suc c) squares m) in
     let e = letter-no-digit (suc c) p in
-    digit-whole n (letterOf (suc c)) (spelt 0 squares) e (letter-whole (letterOf (suc c)) (spelt 0 squares) e (spelt-whole squares 0 (bytes-rest (suc c) squares m)))
+    digit-whole n (letterOf (suc c)) (spelt 0 squares) e (letter-whole (letterOf (suc c)) (spelt 0 squares) e
+    (spelt-whole squares 0 (bytes-rest (suc c) squares m)))
 
 pub eight-rank : (squares : List ℕ) → length squares ≡ 8 → T (every isByte squares) → T (isRank (spelt 0 squares))
 eight-rank squares h m =

@@ -35,7 +35,8 @@ use Rattle.line_again.specs.Calls.{CallAgain, CallBack}
 use Rattle.line_again.proofs.Again.{again, comes-back}
 
 -- ---- read again
-module _ (bitboards board : List ℕ) (state : State) (half : ℕ) (old new : List ℕ) (n : ℕ) (w : WritesLine bitboards board state (Half half) old new (Bytes n)) where
+module _ (bitboards board : List ℕ) (state : State) (half : ℕ) (old new : List ℕ) (n : ℕ)
+    (w : WritesLine bitboards board state (Half half) old new (Bytes n)) where
   abbrev text : List ℕ
   text = lineText board state half
 
@@ -79,7 +80,8 @@ call-again bitboards board state half old new n =
     }
 
 -- ---- and back
-module _ (line : List ℕ) (l : Line) (old new : List ℕ) (r : Written) (e : lineOf line ≡ given l) (tidy : line ≡ tidied line) (room-for : length line ≤ length old) where
+module _ (line : List ℕ) (l : Line) (old new : List ℕ) (r : Written) (e : lineOf line ≡ given l) (tidy : line ≡ tidied line)
+    (room-for : length line ≤ length old) where
   same : lineText (l .board) (l .state) (l .half) ≡ line
   same = comes-back line l .same e tidy
 
@@ -89,11 +91,13 @@ module _ (line : List ℕ) (l : Line) (old new : List ℕ) (r : Written) (e : li
       ap (λ (t : List ℕ). orRefuse (leb (l .half) 2) R.Result (orRoom t old)) same
       ∙ rw (le-leb (l .half) 2 h, le-leb (length line) (length old) room-for)
 
-  back : WritesLine (bitboardsOf (l .board)) (l .board) (l .state) (Half (l .half)) old new r → (r ≡ Bytes (length line)) × (new ≡ line ++ drop (length line) old)
+  back : WritesLine (bitboardsOf (l .board)) (l .board) (l .state) (Half (l .half)) old new r → (r ≡ Bytes (length line))
+      × (new ≡ line ++ drop (length line) old)
   back w =
       let a = loaded-checked line l e (textWrittenOf (l .board) (l .state) (Half (l .half)) old) ∙ fitted in (
         written-one r (Bytes (length line)) (w .answer ∙ a),
-        w .buffer ∙ ap (λ (x : Answer ℕ). bufferAfter x (lineText (l .board) (l .state) (l .half)) old) a ∙ ap (λ (t : List ℕ). t ++ drop (length line) old) same,
+        w .buffer ∙ ap (λ (x : Answer ℕ). bufferAfter x (lineText (l .board) (l .state) (l .half)) old) a
+            ∙ ap (λ (t : List ℕ). t ++ drop (length line) old) same,
       )
 
 -- what the call read is what the line says
@@ -105,17 +109,28 @@ record ReadOf (line : List ℕ) (state : State) (half : ℕ) (bbs′ bytes′ : 
   pub boards : bbs′ ≡ bitboardsOf (line-said .board)
   pub bytes : bytes′ ≡ line-said .board
 
-read-of : (line bbs bytes : List ℕ) (state : State) (half : ℕ) (bbs′ bytes′ : List ℕ) → ReadsLine line bbs bytes (Position state half) bbs′ bytes′ → ReadOf line state half bbs′ bytes′
+read-of : (line bbs bytes : List ℕ) (state : State) (half : ℕ) (bbs′ bytes′ : List ℕ) → ReadsLine line bbs bytes (Position state half) bbs′ bytes′
+    → ReadOf line state half bbs′ bytes′
 read-of line bbs bytes state half bbs′ bytes′ p = go (eqb (length bbs) 14 && eqb (length bytes) 64) (lineOf line) refl p
   where
-    go : (t : Bool) (a : Answer Line) → lineOf line ≡ a → Reads (orRefuse t R.Shape a) bbs bytes (Position state half) bbs′ bytes′ → ReadOf line state half bbs′ bytes′
+    go : (t : Bool) (a : Answer Line) → lineOf line ≡ a → Reads (orRefuse t R.Shape a) bbs bytes (Position state half) bbs′ bytes′
+        → ReadOf line state half bbs′ bytes′
     go true (given l) e q =
         let both : _≡_ {A = State × ℕ} (state, half) (l .state, l .half) = cc (q .answer) in
-        record { line-said = l; is = e; state-said = ap (λ (x : State × ℕ). x .0) both; half-said = ap (λ (x : State × ℕ). x .1) both; boards = q .boards; bytes = q .bytes }
+        record {
+          line-said = l;
+          is = e;
+          state-said = ap (λ (x : State × ℕ). x .0) both;
+          half-said = ap (λ (x : State × ℕ). x .1) both;
+          boards =
+              q .boards;
+          bytes = q .bytes;
+        }
     go true (refused n v) e q = given-not (q .answer)
     go false a e q = given-not (q .answer)
 
-pub call-back : (line : List ℕ) (state : State) (half : ℕ) (bbs bytes bbs′ bytes′ old new : List ℕ) (r : Written) → CallBack line state half bbs bytes bbs′ bytes′ old new r
+pub call-back : (line : List ℕ) (state : State) (half : ℕ) (bbs bytes bbs′ bytes′ old new : List ℕ) (r : Written)
+    → CallBack line state half bbs bytes bbs′ bytes′ old new r
 call-back line state half bbs bytes bbs′ bytes′ old new r =
     record {
       writes = λ t h p w.

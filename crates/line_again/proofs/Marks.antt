@@ -29,7 +29,8 @@ module _ (c : ℕ) (p : T (isPiece c)) where
   back : T (eqb (pieceOf (letterOf c)) c && eqb (runOf (letterOf c)) 0)
   back = go (isPiece c) (T-true (isPiece c) p) (all-at 14 thereAndBack all-back c (omega (arith, code-to c p)))
     where
-      go : (t : Bool) → t ≡ true → T (not t || (eqb (pieceOf (letterOf c)) c && eqb (runOf (letterOf c)) 0)) → T (eqb (pieceOf (letterOf c)) c && eqb (runOf (letterOf c)) 0)
+      go : (t : Bool) → t ≡ true → T (not t || (eqb (pieceOf (letterOf c)) c && eqb (runOf (letterOf c)) 0))
+          → T (eqb (pieceOf (letterOf c)) c && eqb (runOf (letterOf c)) 0)
       go true e h = h
       go false e h = absurd (let z : _≡_ {A = ℕ} 0 1 = cc in omega arith)
 

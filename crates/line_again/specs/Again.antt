@@ -57,7 +57,8 @@ pub record SoundLine : Type 0 where
 
 -- two sound positions with the same text are one position; with a result they have one result too
 pub record OnePosition (p q : SoundLine) : Type 0 where
-  pub position : positionText (p .board) (p .state) ≡ positionText (q .board) (q .state) → (p .bitboards ≡ q .bitboards) × (p .board ≡ q .board) × (p .state ≡ q .state)
+  pub position : positionText (p .board) (p .state) ≡ positionText (q .board) (q .state) → (p .bitboards ≡ q .bitboards) × (p .board ≡ q .board)
+      × (p .state ≡ q .state)
   pub line : lineText (p .board) (p .state) (p .half) ≡ lineText (q .board) (q .state) (q .half)
       → (p .bitboards ≡ q .bitboards) × (p .board ≡ q .board) × (p .state ≡ q .state) × (p .half ≡ q .half)
 

@@ -21,5 +21,6 @@ pub record CallAgain (bitboards board : List ℕ) (state : State) (half : ℕ) (
 
 -- what `read_line` read of a line so written, `write_line` writes at the front of any buffer that is long enough, byte for byte
 pub record CallBack (line : List ℕ) (state : State) (half : ℕ) (bbs bytes bbs′ bytes′ old new : List ℕ) (r : Written) : Type 0 where
-  pub writes : line ≡ tidied line → length line ≤ length old → ReadsLine line bbs bytes (Position state half) bbs′ bytes′ → WritesLine bbs′ bytes′ state (Half half) old new r
+  pub writes : line ≡ tidied line → length line ≤ length old → ReadsLine line bbs bytes (Position state half) bbs′ bytes′
+      → WritesLine bbs′ bytes′ state (Half half) old new r
       → (r ≡ Bytes (length line)) × (new ≡ line ++ drop (length line) old)

@@ -30,7 +30,8 @@ module _ {S : Type 0} (close : S → List ℕ → ℕ → S) (whole : CutSoFar S
   found : Found
   found = findOf (opened begun line) (drop at chunk)
 
-  pub turn-next : at < length chunk → (r : Cut) (line′ : List ℕ) → CutsNext begun line chunk at r line′ → (s′ : S) → s′ ≡ cond (r .ended) (close s line′ (r .size)) s
+  pub turn-next : at < length chunk → (r : Cut) (line′ : List ℕ) → CutsNext begun line chunk at r line′ → (s′ : S)
+      → s′ ≡ cond (r .ended) (close s line′ (r .size)) s
       → Turn close whole n chunk line′ (r .begun) s′ (r .at)
   unfolding found
   turn-next h r line′ p s′ q =
@@ -45,7 +46,8 @@ module _ {S : Type 0} (close : S → List ℕ → ℕ → S) (whole : CutSoFar S
         runs =
             t .runs ∙ run-find close (opened begun line) s (drop at chunk)
             ∙ ap (runBy close (found .left) (closedBy close s found)) (drop-drop (found .passed) at chunk)
-            ∙ sym (ap₂ (λ (x : Open) (y : S). runBy close x y (drop (r .at) chunk)) o c ∙ ap (λ (k : ℕ). runBy close (found .left) (closedBy close s found) (drop k chunk)) a);
+            ∙ sym (ap₂ (λ (x : Open) (y : S). runBy close x y (drop (r .at) chunk)) o c
+            ∙ ap (λ (k : ℕ). runBy close (found .left) (closedBy close s found) (drop k chunk)) a);
       }
 
   -- it goes on by a byte at least

@@ -26,7 +26,8 @@ pub record Turn (start : Found) (from size : ℕ) (chunk line : List ℕ) (held 
   pub long : length line ≡ size
   pub finds : start ≡ ahead (i - from) (findOf (holding line held cr) (drop i chunk))
 
-find-push : (o : Open) (s : List ℕ) (i : ℕ) → i < length s → (getD s i 0 ≡ 10 → ⊥) → findOf o (drop i s) ≡ foundLater (findOf (pushed o (getD s i 0)) (drop (i + 1) s))
+find-push : (o : Open) (s : List ℕ) (i : ℕ) → i < length s → (getD s i 0 ≡ 10 → ⊥)
+    → findOf o (drop i s) ≡ foundLater (findOf (pushed o (getD s i 0)) (drop (i + 1) s))
 unfolding findOf
 find-push o s i h n = rw (drop-cons s i 0, add-one i, ne-eqb (getD s i 0) 10 n)
 
@@ -44,13 +45,15 @@ same : (p q : ℕ) (o : Open) (ended : Bool) (size : ℕ) → p ≡ q
     → _≡_ {A = Found} (record { passed = p; left = o; ended = ended; size = size }) (record { passed = q; left = o; ended = ended; size = size })
 same p q o ended size e = cc
 
-pub turn-none : (from : ℕ) (chunk line : List ℕ) (held : ℕ) (cr : Bool) → Turn (findOf (holding line held cr) (drop from chunk)) from (length line) chunk line held cr from
+pub turn-none : (from : ℕ) (chunk line : List ℕ) (held : ℕ) (cr : Bool)
+    → Turn (findOf (holding line held cr) (drop from chunk)) from (length line) chunk line held cr from
 turn-none from chunk line held ends =
     let f : Found = findOf (holding line held ends) (drop from chunk) in
     record { least = omega arith; long = refl; finds = same (f .passed) (f .passed + (from - from)) (f .left) (f .ended) (f .size) (omega arith) }
 
 module _ (start : Found) (from n : ℕ) (chunk line : List ℕ) (held : ℕ) (cr : Bool) (i : ℕ) (t : Turn start from n chunk line held cr i) where
-  pub turn-push : i < length chunk → (getD chunk i 0 ≡ 10 → ⊥) → (line′ : List ℕ) (held′ : ℕ) → line′ ≡ keptByte line held (getD chunk i 0) → held′ ≡ oneMore held
+  pub turn-push : i < length chunk → (getD chunk i 0 ≡ 10 → ⊥) → (line′ : List ℕ) (held′ : ℕ) → line′ ≡ keptByte line held (getD chunk i 0)
+      → held′ ≡ oneMore held
       → Turn start from n chunk line′ held′ (eqb (getD chunk i 0) 13) (i + 1)
   turn-push h ne line′ held′ p q =
       let f : Found = findOf (pushed (holding line held cr) (getD chunk i 0)) (drop (i + 1) chunk) in

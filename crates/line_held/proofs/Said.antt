@@ -55,5 +55,6 @@ said-holds line size l h =
     go false q = ap lineOf (h .front (ltb-false 256 size q))
 
 -- a consumer that goes by what the buffer says goes by what the line says
-pub follows : {S : Type 0} (more : S → Answer Line → S) → Follows (λ (s : S) (line : List ℕ) (size : ℕ). more s (saidOf line size)) (λ (s : S) (l : List ℕ). more s (lineOf l))
+pub follows : {S : Type 0} (more : S → Answer Line → S) → Follows (λ (s : S) (line : List ℕ) (size : ℕ). more s (saidOf line size))
+    (λ (s : S) (l : List ℕ). more s (lineOf l))
 follows more s line size l h = ap (more s) (said-holds line size l h)

@@ -53,7 +53,8 @@ module _ (field result : List ℕ) where
         let s : ltb (placeIn sides (sideWord field)) 2 ≡ false = le-ltb (placeIn sides (sideWord field)) 2 (omega arith) in
         record { answer = ap paper (h .answer) ∙ rw (p, s); board = h .board ∙ rw (p, s) }
 
-    module _ (l : side < 2) (board : List ℕ) (b : board ≡ boardOf (ranksOf field)) (rest : List ℕ) (o : without isSpace rest ≡ without isSpace (after space field))
+    module _ (l : side < 2) (board : List ℕ) (b : board ≡ boardOf (ranksOf field)) (rest : List ℕ)
+        (o : without isSpace rest ≡ without isSpace (after space field))
         (told : Tail) (t : ReadsTail board side rest told) where
       abbrev found : Answer Line
       found = withResult board result (tailState side (after space field))
@@ -103,5 +104,6 @@ module _ (line : List ℕ) where
       unfolding lineOf
       two-fields r n h =
           let t = le-leb (length line) 256 l in
-          let s : holds semicolon line ≡ true = holds-is semicolon line ∙ lt-ltb (length (before semicolon line)) (length line) (omega (arith, before-le semicolon line)) in
+          let s : holds semicolon line ≡ true = holds-is semicolon line
+          ∙ lt-ltb (length (before semicolon line)) (length line) (omega (arith, before-le semicolon line)) in
           rw (t, e, s) h

@@ -62,7 +62,8 @@ refusals = refl
 -- no side; `W`; a tab after the space; a tab or a CR after `w`; two letters
 no-sides :
     answers
-    ("8/8/8/8/8/8/8/8;1-0" ∷ "8/8/8/8/8/8/8/8 W;1-0" ∷ "8/8/8/8/8/8/8/8 \tw;1-0" ∷ "8/8/8/8/8/8/8/8 w\t-;1-0" ∷ "8/8/8/8/8/8/8/8 w\r-;1-0" ∷ "8/8/8/8/8/8/8/8 wb;1-0" ∷ [])
+    ("8/8/8/8/8/8/8/8;1-0" ∷ "8/8/8/8/8/8/8/8 W;1-0" ∷ "8/8/8/8/8/8/8/8 \tw;1-0" ∷ "8/8/8/8/8/8/8/8 w\t-;1-0" ∷ "8/8/8/8/8/8/8/8 w\r-;1-0"
+    ∷ "8/8/8/8/8/8/8/8 wb;1-0" ∷ [])
     ≡ 12 ∷ 12 ∷ 12 ∷ 12 ∷ 12 ∷ 12 ∷ []
 unfolding answers
 no-sides = refl
@@ -121,6 +122,7 @@ in-order = refl
 long : ℕ → ℕ → List ℕ
 long spaces byte = text "8/8/8/8/8/8/8/8 w" ++ (replicate spaces 32 ++ (text ";1-0;" ++ (byte ∷ [])))
 
-lengths : length (long 233 32) ∷ length (long 234 32) ∷ short (said (long 233 32)) ∷ short (said (long 234 32)) ∷ short (said (long 234 10)) ∷ short (said (long 233 10)) ∷ [] ≡ 256 ∷ 257 ∷ 22 ∷ 8 ∷ 8 ∷ 9 ∷ []
+lengths : length (long 233 32) ∷ length (long 234 32) ∷ short (said (long 233 32)) ∷ short (said (long 234 32)) ∷ short (said (long 234 10))
+    ∷ short (said (long 233 10)) ∷ [] ≡ 256 ∷ 257 ∷ 22 ∷ 8 ∷ 8 ∷ 9 ∷ []
 unfolding said short long
 lengths = refl

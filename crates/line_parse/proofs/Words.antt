@@ -101,4 +101,5 @@ module _ (line : List ℕ) (end : ℕ) (q : end ≡ length (before semicolon lin
   pub result-is : (next : ℕ) → next ≡ length (before semicolon (take (length line - (end + 1)) (drop (end + 1) line)))
       → (result : List ℕ) → result ≡ trim (take next (take (length line - (end + 1)) (drop (end + 1) line))) → result ≡ resultField line
   result-is next p result e =
-      e ∙ ap trim (ap (λ (k : ℕ). take k (take (length line - (end + 1)) (drop (end + 1) line))) p ∙ before-take semicolon (take (length line - (end + 1)) (drop (end + 1) line)) ∙ ap (before semicolon) left)
+      e ∙ ap trim (ap (λ (k : ℕ). take k (take (length line - (end + 1)) (drop (end + 1) line))) p
+      ∙ before-take semicolon (take (length line - (end + 1)) (drop (end + 1) line)) ∙ ap (before semicolon) left)

@@ -15,5 +15,6 @@ pub read-line : (profile : Profile) (line bitboards board : List ℕ) (r q : Rea
 read-line profile line bitboards board r q bitboards₁ board₁ bitboards₂ board₂ p o =
     (read-one r q (one (p .answer) (o .answer)), one (p .boards) (o .boards), one (p .bytes) (o .bytes))
 
-pub inner-under : (profile : Profile) (bitboards : List ℕ) (answer r q : Read) → JudgesRead profile bitboards answer r → JudgesRead profile bitboards answer q → r ≡ q
+pub inner-under : (profile : Profile) (bitboards : List ℕ) (answer r q : Read) → JudgesRead profile bitboards answer r
+    → JudgesRead profile bitboards answer q → r ≡ q
 inner-under profile bitboards answer r q p o = read-one r q (one p o)

@@ -27,7 +27,9 @@ use Rattle.line_profile.specs.Under.{lineUnder}
 use Rattle.line_profile.specs.declared.Profile.the-variants as P
 
 said : String → Answer (State × ℕ)
-unfolding lineOf fieldsSay every holds before after without withoutLast trim placeIn areRanks stacked nthWord rightsFit passantFits countersFitFields stateSaid tabulate bitboardsOf orProfile oneKing fewPawns fewPieces count lowestWrong firstFrom allBelow howMany has isCheck isAttacked attackers lowestOf occupied some those reached board seen isIn
+unfolding lineOf fieldsSay every holds before after without withoutLast trim placeIn areRanks stacked nthWord rightsFit passantFits countersFitFields
+    stateSaid tabulate bitboardsOf orProfile oneKing fewPawns fewPieces count lowestWrong firstFrom allBelow howMany has isCheck isAttacked attackers
+    lowestOf occupied some those reached board seen isIn
 said line = byValue (lineUnder P.RealPlay (text line))
 
 -- in check and to move; the same, but just moved; no king, and no result either; no king

@@ -46,14 +46,16 @@ played-value (given l) bbs old e =
     ap (λ (b : List ℕ). orProfile b (l .state) (given (l .state, l .half))) e ∙ sym (carried (bitboardsOf (l .board)) (l .state) byValue (λ q. refl) (given l))
 played-value (refused n v) bbs old e = refl
 
-pub judged-value : (profile : Profile) (said : Answer Line) (bbs old : List ℕ) → bbs ≡ bitboardsAfter said old → judgedRead profile bbs (byValue said) ≡ byValue (under profile said)
+pub judged-value : (profile : Profile) (said : Answer Line) (bbs old : List ℕ) → bbs ≡ bitboardsAfter said old
+    → judgedRead profile bbs (byValue said) ≡ byValue (under profile said)
 judged-value P.Any said bbs old e = refl
 judged-value P.RealPlay said bbs old e = played-value said bbs old e
 
 -- ---- where a position is given, the line says under the profile what it says
 played-same : (said : Answer Line) (p : State × ℕ) → byValue (playedLine said) ≡ given p → playedLine said ≡ said
 played-same (given l) p e =
-    let f : FromRealPlay (bitboardsOf (l .board)) (l .state) = exactly (bitboardsOf (l .board)) (l .state) .passes (l .state, l .half) p (sym (carried (bitboardsOf (l .board)) (l .state) byValue (λ q. refl) (given l)) ∙ e) in
+    let f : FromRealPlay (bitboardsOf (l .board)) (l .state) = exactly (bitboardsOf (l .board)) (l .state) .passes (l .state, l .half) p
+    (sym (carried (bitboardsOf (l .board)) (l .state) byValue (λ q. refl) (given l)) ∙ e) in
     exactly (bitboardsOf (l .board)) (l .state) .all-hold (given l) f
 played-same (refused n v) p e = refl
 

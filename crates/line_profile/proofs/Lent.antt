@@ -40,14 +40,21 @@ module _ (profile : Profile) (line bitboards board : List ℕ) where
       shaped a = rw (eq-eqb (length bitboards) 14 m, eq-eqb (length board) 64 n)
 
       value : paper r ≡ byValue (lineUnder profile line)
-      value = judges ∙ ap (judgedRead profile (l .bitboards)) (loads .answer) ∙ judged-value profile (lineOf line) (l .bitboards) (bitboardsOf emptyBoard) (loads .boards)
+      value = judges ∙ ap (judgedRead profile (l .bitboards)) (loads .answer)
+          ∙ judged-value profile (lineOf line) (l .bitboards) (bitboardsOf emptyBoard) (loads .boards)
 
       pub turned-away : (q : Refusal) → r ≡ Refused q → ReadsLineUnder profile line bitboards board r bitboards board
       turned-away q told =
           subst (λ (a : Answer Line). Reads a bitboards board r bitboards board) (shaped (lineUnder profile line))
-          (record { answer = value; boards = kept-boards (lineUnder profile line) r value q told bitboards; bytes = kept (lineUnder profile line) r value q told board })
+          (record {
+            answer = value;
+            boards = kept-boards (lineUnder profile line) r value q told bitboards;
+            bytes =
+                kept (lineUnder profile line) r value q told board;
+          })
 
-      pub written : (state : State) (half : ℕ) → r ≡ Position state half → (s : Read) (bitboards′ board′ : List ℕ) → ReadsLine line bitboards board s bitboards′ board′
+      pub written : (state : State) (half : ℕ) → r ≡ Position state half → (s : Read) (bitboards′ board′ : List ℕ)
+          → ReadsLine line bitboards board s bitboards′ board′
           → ReadsLineUnder profile line bitboards board s bitboards′ board′
       written state half told s bitboards′ board′ reads =
           subst (λ (a : Answer Line). Reads (orRefuse (eqb (length bitboards) 14 && eqb (length board) 64) R.Shape a) bitboards board s bitboards′ board′)

@@ -40,7 +40,8 @@ module _ (test : ℕ → Bool) (empty : T (test 0)) (code : (c : ℕ) → T (isP
   piece-passes b =
       either (eqb b 80) 2 _ (code 2 tt) (either (eqb b 112) 3 _ (code 3 tt) (either (eqb b 78) 4 _ (code 4 tt) (either (eqb b 110) 5 _ (code 5 tt)
       (either (eqb b 66) 8 _ (code 8 tt) (either (eqb b 98) 9 _ (code 9 tt) (either (eqb b 82) 10 _ (code 10 tt) (either (eqb b 114) 11 _ (code 11 tt)
-      (either (eqb b 81) 12 _ (code 12 tt) (either (eqb b 113) 13 _ (code 13 tt) (either (eqb b 75) 6 _ (code 6 tt) (either (eqb b 107) 7 0 (code 7 tt) empty)))))))))))
+      (either (eqb b 81) 12 _ (code 12 tt) (either (eqb b 113) 13 _ (code 13 tt)
+      (either (eqb b 75) 6 _ (code 6 tt) (either (eqb b 107) 7 0 (code 7 tt) empty)))))))))))
 
   spelled-passes : (b : ℕ) → T (every test (spelled b))
   unfolding every
@@ -58,4 +59,5 @@ module _ (test : ℕ → Bool) (empty : T (test 0)) (code : (c : ℕ) → T (isP
   pub board-passes : (n : ℕ) (s : List ℕ) → T (every test (stacked n s))
   unfolding stacked
   board-passes zero s = squares-pass s
-  board-passes (suc n) s = every-both test (stacked n (after slash s)) (squaresOf (before slash s)) (board-passes n (after slash s)) (squares-pass (before slash s))
+  board-passes (suc n) s = every-both test (stacked n (after slash s)) (squaresOf (before slash s)) (board-passes n (after slash s))
+      (squares-pass (before slash s))

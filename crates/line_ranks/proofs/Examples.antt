@@ -42,7 +42,8 @@ taken = refl
 
 -- W-203: a run written in two or more, whole ranks and beside pieces
 cut-runs :
-    good "44/8/8/8/8/8/8/8" ∷ good "8/8/8/8/53/8/8/8" ∷ good "8/8/8/8/8/8/8/11111111" ∷ good "8/8/8/1p11p3/8/8/8/8" ∷ good "8/8/8/8/8/8/8/p34" ∷ good "pppppp11/8/8/8/8/8/8/8" ∷ []
+    good "44/8/8/8/8/8/8/8" ∷ good "8/8/8/8/53/8/8/8" ∷ good "8/8/8/8/8/8/8/11111111" ∷ good "8/8/8/1p11p3/8/8/8/8" ∷ good "8/8/8/8/8/8/8/p34"
+    ∷ good "pppppp11/8/8/8/8/8/8/8" ∷ []
     ≡ false ∷ false ∷ false ∷ false ∷ false ∷ false ∷ []
 unfolding good
 cut-runs = refl

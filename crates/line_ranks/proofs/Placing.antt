@@ -56,7 +56,8 @@ turn-first s =
 -- ---- the board after one byte
 module _ (rank file : ℕ) (row done : List ℕ) where
   put : (code : ℕ) → length row ≡ file → file < 8
-      → set (zeros (8 * rank) ++ (row ++ (zeros (8 - file) ++ done))) (8 * rank + file) code ≡ zeros (8 * rank) ++ ((row ++ (code ∷ [])) ++ (zeros (8 - (file + 1)) ++ done))
+      → set (zeros (8 * rank) ++ (row ++ (zeros (8 - file) ++ done))) (8 * rank + file) code ≡ zeros (8 * rank)
+      ++ ((row ++ (code ∷ [])) ++ (zeros (8 - (file + 1)) ++ done))
   put code p h =
       let q : 8 - file ≡ suc (8 - (file + 1)) = omega arith in
       ap (λ (l : List ℕ). set l (8 * rank + file) code)
@@ -73,7 +74,8 @@ module _ (rank file : ℕ) (row done : List ℕ) where
       ∙ ap (λ (l : List ℕ). row ++ l) (append-assoc (zeros n) (zeros (8 - (file + n))) done)
       ∙ sym (append-assoc row (zeros n) (zeros (8 - (file + n)) ++ done))
 
-  skip : (n : ℕ) → file + n ≤ 8 → zeros (8 * rank) ++ (row ++ (zeros (8 - file) ++ done)) ≡ zeros (8 * rank) ++ ((row ++ zeros n) ++ (zeros (8 - (file + n)) ++ done))
+  skip : (n : ℕ) → file + n ≤ 8 → zeros (8 * rank) ++ (row ++ (zeros (8 - file) ++ done)) ≡ zeros (8 * rank)
+      ++ ((row ++ zeros n) ++ (zeros (8 - (file + n)) ++ done))
   skip n h = ap (λ (l : List ℕ). zeros (8 * rank) ++ l) (rest n h)
 
 down : (m file : ℕ) (row done : List ℕ) → file ≡ 8
@@ -155,12 +157,14 @@ module _ (s board : List ℕ) (i : ℕ) (h : i < length s) where
         size = t .size;
         stands = t .stands ∙ down m file (t .row) (t .done) q;
         decides = decided (suc m) file digit t ∙ Rows.slash-below (getD s i 0) m digit file (drop (i + 1) s) e q;
-        spells = spelt (suc m) file digit t ∙ ap (λ (l : List ℕ). l ++ t .done) (Rows.slash-board (getD s i 0) m digit file (drop (i + 1) s) e (t .row)) ∙ append-assoc (Rows.comes m [] (drop (i + 1) s)) (t .row) (t .done);
+        spells = spelt (suc m) file digit t ∙ ap (λ (l : List ℕ). l ++ t .done)
+            (Rows.slash-board (getD s i 0) m digit file (drop (i + 1) s) e (t .row)) ∙ append-assoc (Rows.comes m [] (drop (i + 1) s)) (t .row) (t .done);
       }
 
   at-slash : (rank file : ℕ) (digit : Bool) → Turn s board rank file digit i → getD s i 0 ≡ 47 → After s board i rank file (stepOf rank file digit (getD s i 0))
   at-slash zero file digit t e =
-      subst (After s board i zero file) (lowest zero file digit (getD s i 0) e refl) (decided zero file digit t ∙ Rows.slash-lowest (getD s i 0) digit file (drop (i + 1) s) e)
+      subst (After s board i zero file) (lowest zero file digit (getD s i 0) e refl)
+      (decided zero file digit t ∙ Rows.slash-lowest (getD s i 0) digit file (drop (i + 1) s) e)
   at-slash (suc m) file digit t e =
       elim (ℕ-discrete file 8) [
         | yes q ↦
@@ -188,7 +192,8 @@ module _ (s board : List ℕ) (i : ℕ) (h : i < length s) where
             (at-wrong rank file false t n (λ w. Rows.row-too-many (getD s i 0) file w false e (omega arith)))
       ]
 
-  at-mark : (rank file : ℕ) (digit : Bool) → Turn s board rank file digit i → (getD s i 0 ≡ 47 → ⊥) → After s board i rank file (stepOf rank file digit (getD s i 0))
+  at-mark : (rank file : ℕ) (digit : Bool) → Turn s board rank file digit i → (getD s i 0 ≡ 47 → ⊥)
+      → After s board i rank file (stepOf rank file digit (getD s i 0))
   at-mark rank file digit t n =
       elim (ℕ-discrete (runOf b) 0) [
         | yes e ↦
@@ -198,7 +203,8 @@ module _ (s board : List ℕ) (i : ℕ) (h : i < length s) where
                   (at-wrong rank file digit t n (λ w. Rows.row-wrong b file w digit e z))
               | no z ↦
                   elim (decLt file 8) [
-                    | yes l ↦ subst (After s board i rank file) (piece rank file digit b n (runOf b) refl (omega arith) (pieceOf b) refl z l) (l, at-piece rank file digit t n e z l)
+                    | yes l ↦ subst (After s board i rank file) (piece rank file digit b n (runOf b) refl (omega arith) (pieceOf b) refl z l)
+                        (l, at-piece rank file digit t n e z l)
                     | no l ↦
                         subst (After s board i rank file) (full rank file digit b n (runOf b) refl (omega arith) (pieceOf b) refl z (omega arith))
                         (at-wrong rank file digit t n (λ w. Rows.row-full b file w digit e (omega arith)))
@@ -210,9 +216,11 @@ module _ (s board : List ℕ) (i : ℕ) (h : i < length s) where
       b : ℕ
       b = getD s i 0
 
-  pub turn : (rank file : ℕ) (digit : Bool) → Turn s board rank file digit i → {r n : Next} → r ≡ stepOf rank file digit (getD s i 0) → r ≡ n → After s board i rank file n
+  pub turn : (rank file : ℕ) (digit : Bool) → Turn s board rank file digit i → {r n : Next} → r ≡ stepOf rank file digit (getD s i 0) → r ≡ n
+      → After s board i rank file n
   turn rank file digit t e told =
-      subst (After s board i rank file) (sym e ∙ told) (elim (ℕ-discrete (getD s i 0) 47) [ yes q ↦ at-slash rank file digit t q | no q ↦ at-mark rank file digit t q ])
+      subst (After s board i rank file) (sym e ∙ told) (elim (ℕ-discrete (getD s i 0) 47)
+      [ yes q ↦ at-slash rank file digit t q | no q ↦ at-mark rank file digit t q ])
 
 -- ---- the end of the text
 pub none-left : (n : ℕ) → areRanks n [] ≡ false

@@ -117,7 +117,8 @@ module _ (b : ℕ) (n : b ≡ 47 → ⊥) where
   comes-row zero row x u e = ap (λ (l : List ℕ). row ++ (l ++ squaresOf u)) e ∙ sym (append-assoc row x (squaresOf u))
   comes-row (suc m) row x u e =
       rw (ne-eqb b 47 n)
-      (ap (λ (l : List ℕ). stacked m (after slash u) ++ l) (ap (λ (l : List ℕ). row ++ (l ++ squaresOf (before slash u))) e ∙ sym (append-assoc row x (squaresOf (before slash u)))))
+      (ap (λ (l : List ℕ). stacked m (after slash u) ++ l) (ap (λ (l : List ℕ). row ++ (l ++ squaresOf (before slash u))) e
+      ∙ sym (append-assoc row x (squaresOf (before slash u)))))
 
 -- ---- a `/`
 pub slash-lowest : (b : ℕ) (digit : Bool) (f : ℕ) (u : List ℕ) → b ≡ 47 → goesOn 0 digit f (b ∷ u) ≡ false

@@ -14,7 +14,8 @@ use Rattle.line_text.specs.Spelt.{rankText, ranksText, placement}
 use Rattle.line_text.specs.Lines.{textAt}
 use Rattle.line_text.proofs.Lengths.{rank-length}
 
-pub wrote-then : {old mid new : List ℕ} {at a b : ℕ} {t u : List ℕ} → length mid ≡ length old → Wrote old mid at a t → Wrote mid new a b u → Wrote old new at b (t ++ u)
+pub wrote-then : {old mid new : List ℕ} {at a b : ℕ} {t u : List ℕ} → length mid ≡ length old → Wrote old mid at a t → Wrote mid new a b u
+    → Wrote old new at b (t ++ u)
 wrote-then {old} {mid} {new} {at} {a} {b} {t} {u} l p q =
     let far : a + (b - a) ≡ b = omega (arith, q .to) in
     record {
@@ -108,7 +109,8 @@ module _ (board old line : List ℕ) (h : 71 ≤ length old) (new : List ℕ) (e
         room = omega (arith, d .room, w .to, rank-length (suc k) board);
       }
 
-  pub down-again : (rank : ℕ) → 0 < rank → Down board old line end rank → Wrote line new end a (rankText rank board) → Down board old (set new a 47) (a + 1) (rank - 1)
+  pub down-again : (rank : ℕ) → 0 < rank → Down board old line end rank → Wrote line new end a (rankText rank board)
+      → Down board old (set new a 47) (a + 1) (rank - 1)
   down-again (suc k) p d w = subst (λ (n : ℕ). Down board old (set new a 47) (a + 1) n) (let q : k ≡ suc k - 1 = omega arith in q) (down k d w)
   down-again zero p d w = absurd (omega arith)
 

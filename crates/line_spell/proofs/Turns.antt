@@ -38,7 +38,8 @@ pub turn-first : (squares old : List ℕ) (at : ℕ) → at + 8 ≤ length old �
 turn-first squares old at h =
     record { text = []; most = omega arith; few = omega arith; size = refl; wrote = wrote-none old at (omega arith); left = refl }
 
-module _ (squares : List ℕ) (eight : length squares ≤ 8) (old line : List ℕ) (at end run file : ℕ) (room : at + 8 ≤ length old) (t : Turn squares old line at end run file) where
+module _ (squares : List ℕ) (eight : length squares ≤ 8) (old line : List ℕ) (at end run file : ℕ) (room : at + 8 ≤ length old)
+    (t : Turn squares old line at end run file) where
   -- ---- a square
   module _ (h : file < length squares) (code : ℕ) (is : code ≡ getD squares file 0) where
     next : drop file squares ≡ code ∷ drop (file + 1) squares
@@ -66,7 +67,8 @@ module _ (squares : List ℕ) (eight : length squares ≤ 8) (old line : List �
       long =
           let more : List ℕ = spelt 0 (drop (file + 1) squares) in
           let a : length (spelt 0 squares) ≡ length (t .text) + (length (runDigit run) + suc (length more)) =
-          ap length comes ∙ length-append (t .text) (runDigit run ++ (letterOf code ∷ more)) ∙ ap (λ (n : ℕ). length (t .text) + n) (length-append (runDigit run) (letterOf code ∷ more))
+          ap length comes ∙ length-append (t .text) (runDigit run ++ (letterOf code ∷ more))
+          ∙ ap (λ (n : ℕ). length (t .text) + n) (length-append (runDigit run) (letterOf code ∷ more))
           in
           omega (arith, spelt-length squares 0, t .wrote .to, t .size)
 

@@ -57,7 +57,8 @@ short (given s) = 0
 short (refused n v) = n
 
 said : ℕ → String → ℕ
-unfolding rightsFit passantFits countersFitFields stateSaid nthWord before after without areRights rightsOf passantOf counterOf every decimalFrom home atHome justPassed
+unfolding rightsFit passantFits countersFitFields stateSaid nthWord before after without areRights rightsOf passantOf counterOf every decimalFrom home
+    atHome justPassed
 said side s = short (tailOf board side (text s))
 
 -- two, four and six fields, any number of spaces between them
@@ -65,7 +66,8 @@ taken : said 0 "w" ∷ said 0 "w K d6" ∷ said 1 "b - e3" ∷ said 0 "w K d6 0 
 unfolding said
 taken = refl
 
--- no rook on a1; three fields, and then RIGHTS comes first; the square of the other side's pawn; a square that is not empty; five and seven fields; move 0; seven with a
+-- no rook on a1; three fields, and then RIGHTS comes first; the square of the other side's pawn; a square that is not empty; five and seven fields;
+-- move 0; seven with a
 -- bad square; a tab for the side's space, which leaves three; a tab inside the rights
 turned : said 0 "w Q -" ∷ said 0 "w K" ∷ said 0 "w Q" ∷ said 1 "b - d6" ∷ said 0 "w - e4" ∷ said 0 "w - - 0" ∷ said 0 "w - - 0 1 x"
     ∷ said 0 "w - - 0 0" ∷ said 0 "w - z9 0 1 x" ∷ said 0 "w\t- -" ∷ said 0 "w -\t-" ∷ []

@@ -15,7 +15,8 @@ use Rattle.laws.specs.Tests.{same}
 use Rattle.chess.specs.Named.{squareOf}
 use Rattle.position_further.specs.declared.Passant.the-variants.{Nowhere, On}
 use Rattle.text_in.specs.Text.{text, every}
-use Rattle.line_tail.specs.Words.{missing, startsWith, takenOff, afterKQ, afterKQk, rightsOf, areRights, namedSquare, passantOf, isFigure, decimalFrom, counterOf, counterOr}
+use Rattle.line_tail.specs.Words.{missing, startsWith, takenOff, afterKQ, afterKQk, rightsOf, areRights, namedSquare, passantOf, isFigure}
+use Rattle.line_tail.specs.Words.{decimalFrom, counterOf, counterOr}
 use Rattle.line_tail.specs.Tail.{bothGiven}
 
 -- ---- letters
@@ -183,7 +184,9 @@ module _ (s : List ℕ) where
       unfolding counterOf every
       counter-read t r e = e ∙ go (every isFigure s) t
         where
-          go : (a : Bool) → (eqb (length s) 1 || not (startsWith 48 s)) ≡ true → cond a (decimalFrom 0 s) 10000 ≡ cond (a && (leb 1 (length s) && leb (length s) 4) && (eqb (length s) 1 || not (startsWith 48 s))) (decimalFrom 0 s) 10000
+          go : (a : Bool) → (eqb (length s) 1 || not (startsWith 48 s)) ≡ true
+              → cond a (decimalFrom 0 s) 10000 ≡ cond (a && (leb 1 (length s) && leb (length s) 4) && (eqb (length s) 1 || not (startsWith 48 s)))
+              (decimalFrom 0 s) 10000
           go true u = rw (le-leb 1 (length s) (omega arith), le-leb (length s) 4 l, u)
           go false u = refl
 

@@ -93,7 +93,8 @@ cut-so bytes side s a b c d e rights passant halfmoves moves more pa pb pc pd pe
 -- spaces before the side are passed over
 pub spaces-too : (bytes : List ℕ) (side : ℕ) (s t : List ℕ) → without isSpace s ≡ without isSpace t → tailOf bytes side s ≡ tailOf bytes side t
 unfolding nthWord
-spaces-too bytes side s t e = ap (λ (w : List ℕ). says bytes side (wordOf (after space w)) (nthWord 1 (after space w)) (nthWord 2 (after space w)) (nthWord 3 (after space w)) (nthWord 4 (after space w))) e
+spaces-too bytes side s t e = ap (λ (w : List ℕ). says bytes side (wordOf (after space w)) (nthWord 1 (after space w)) (nthWord 2 (after space w))
+    (nthWord 3 (after space w)) (nthWord 4 (after space w))) e
 
 -- ---- whatever comes after the three tests
 pub record Fitted (bytes : List ℕ) (side : ℕ) (s : List ℕ) : Type 0 where
@@ -117,7 +118,8 @@ module _ {A : Type 0} (bytes : List ℕ) (side : ℕ) (s : List ℕ) (rest : Ans
       (record { rights = p .0; passant = q .0; counters = r .0 }, r .1)
 
 -- what refuses the state refuses whatever comes after the tests
-pub tail-refused : {A : Type 0} (bytes : List ℕ) (side : ℕ) (s : List ℕ) (q : Refusal) → refusalOf q ≡ tailOf bytes side s → (rest : Answer A) → refusalOf q ≡ orTail bytes side s rest
+pub tail-refused : {A : Type 0} (bytes : List ℕ) (side : ℕ) (s : List ℕ) (q : Refusal) → refusalOf q ≡ tailOf bytes side s → (rest : Answer A)
+    → refusalOf q ≡ orTail bytes side s rest
 tail-refused {A} bytes side s q e rest =
     go (rightsFit bytes (nthWord 1 s)) (passantFits bytes side (nthWord 1 s) (nthWord 2 s)) (countersFitFields (nthWord 3 s) (nthWord 4 s) (nthWord 5 s)) e
   where
@@ -145,7 +147,8 @@ module _ (bytes : List ℕ) (side : ℕ) (s : List ℕ) (f : Fitted bytes side s
   pub counters-borne : countersFit (tailState side s .halfmoves) (tailState side s .moves) ≡ true
   unfolding stateSaid countersFitFields
   counters-borne =
-      second (bothGiven (nthWord 3 s) (nthWord 4 s) && missing (nthWord 5 s)) (countersFit (counterOr 0 (nthWord 3 s)) (counterOr 1 (nthWord 4 s))) (f .counters)
+      second (bothGiven (nthWord 3 s) (nthWord 4 s) && missing (nthWord 5 s)) (countersFit (counterOr 0 (nthWord 3 s)) (counterOr 1 (nthWord 4 s)))
+      (f .counters)
 
 pub state-side : (side : ℕ) (s : List ℕ) → tailState side s .side ≡ side
 unfolding stateSaid

@@ -26,7 +26,8 @@ spelt-run (suc k) n squares = spelt-run k (suc n) squares ∙ ap (λ (m : ℕ). 
 
 -- ---- a rank: where a run of n squares is still to be written, the text begins with no digit
 marked : (b : ℕ) → T (isMark b) → runOf b ≡ 0 → pieceOf b ≡ 0 → ⊥
-marked b t e z = let no : isMark b ≡ false = rw (eq-eqb (runOf b) 0 e, eq-eqb (pieceOf b) 0 z) in let y = T-true (isMark b) t in let x : _≡_ {A = ℕ} 0 1 = cc in omega arith
+marked b t e z = let no : isMark b ≡ false = rw (eq-eqb (runOf b) 0 e, eq-eqb (pieceOf b) 0 z) in let y = T-true (isMark b) t in
+    let x : _≡_ {A = ℕ} 0 1 = cc in omega arith
 
 module _ (b : ℕ) (s : List ℕ) where
   whole-rest : T (wholeRuns (b ∷ s)) → T (wholeRuns s)
@@ -77,7 +78,8 @@ normal (b ∷ s) n first m w =
 pub rank-normal : (s : List ℕ) → T (isRank s) → spelt 0 (squaresOf s) ≡ s
 rank-normal s t =
     let r = and-r (every isMark s) (wholeRuns s && eqb (length (squaresOf s)) 8) t in
-    normal s 0 (λ y. absurd (y refl)) (and-l (every isMark s) (wholeRuns s && eqb (length (squaresOf s)) 8) t) (and-l (wholeRuns s) (eqb (length (squaresOf s)) 8) r)
+    normal s 0 (λ y. absurd (y refl)) (and-l (every isMark s) (wholeRuns s && eqb (length (squaresOf s)) 8) t)
+    (and-l (wholeRuns s) (eqb (length (squaresOf s)) 8) r)
 
 -- ---- the ranks of a board whose lower part alone counts
 pub rank-below : (k : ℕ) (a b : List ℕ) → 8 * k + 8 ≤ length a → rankOf k (a ++ b) ≡ rankOf k a

@@ -55,18 +55,23 @@ module _ (text old new : List ℕ) where
 
 -- ---- with what is wanted
 module _ (board : List ℕ) (state : State) (wanted : Wanted) (old new : List ℕ) (r : Written) where
-  pub nothing-more : wanted ≡ Nothing → Writes (orRoom (positionText board state) old) (positionText board state) old new r → WritesText board state wanted old new r
+  pub nothing-more : wanted ≡ Nothing → Writes (orRoom (positionText board state) old) (positionText board state) old new r
+      → WritesText board state wanted old new r
   nothing-more e w = subst (λ (x : Wanted). WritesText board state x old new r) (sym e) w
 
-  pub with-half : (half : ℕ) → wanted ≡ Half half → half ≤ 2 → Writes (orRoom (lineText board state half) old) (lineText board state half) old new r → WritesText board state wanted old new r
+  pub with-half : (half : ℕ) → wanted ≡ Half half → half ≤ 2 → Writes (orRoom (lineText board state half) old) (lineText board state half) old new r
+      → WritesText board state wanted old new r
   with-half half e h w =
       subst (λ (x : Wanted). WritesText board state x old new r) (sym e)
-      (subst (λ (t : Bool). Writes (orRefuse t R.Result (orRoom (lineText board state half) old)) (lineText board state half) old new r) (sym (le-leb half 2 h)) w)
+      (subst (λ (t : Bool). Writes (orRefuse t R.Result (orRoom (lineText board state half) old)) (lineText board state half) old new r)
+      (sym (le-leb half 2 h)) w)
 
-pub unknown-result : (board : List ℕ) (state : State) (wanted : Wanted) (half : ℕ) (old : List ℕ) → wanted ≡ Half half → 2 < half → WritesText board state wanted old old (Refused R.Result)
+pub unknown-result : (board : List ℕ) (state : State) (wanted : Wanted) (half : ℕ) (old : List ℕ) → wanted ≡ Half half → 2 < half
+    → WritesText board state wanted old old (Refused R.Result)
 unknown-result board state wanted half old e h =
     subst (λ (x : Wanted). WritesText board state x old old (Refused R.Result)) (sym e)
-    (subst (λ (t : Bool). Writes (orRefuse t R.Result (orRoom (lineText board state half) old)) (lineText board state half) old old (Refused R.Result)) (sym (lt-leb half 2 h))
+    (subst (λ (t : Bool). Writes (orRefuse t R.Result (orRoom (lineText board state half) old)) (lineText board state half) old old (Refused R.Result))
+    (sym (lt-leb half 2 h))
     (record { answer = refl; buffer = refl }))
 
 -- ---- after the position's test
@@ -78,4 +83,5 @@ module _ (bitboards board : List ℕ) (state : State) (k : Checked) (promise : C
 
   pub fit : (new : List ℕ) (r : Written) → k ≡ Fit → WritesText board state wanted old new r → WritesLine bitboards board state wanted old new r
   fit new r e w =
-      subst (λ (a : Answer ℕ). Writes a (wantedText board state wanted) old new r) (fit-rest bitboards board state k promise (textWrittenOf board state wanted old) e) w
+      subst (λ (a : Answer ℕ). Writes a (wantedText board state wanted) old new r)
+      (fit-rest bitboards board state k promise (textWrittenOf board state wanted old) e) w

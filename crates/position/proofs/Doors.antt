@@ -45,11 +45,13 @@ no-side bbs bytes state n =
 -- what a position of the right shape has
 pub boards-14 : (bbs bytes : List ℕ) (state : State) → shaped bbs bytes state ≡ true → length bbs ≡ 14
 boards-14 bbs bytes state e =
-    eqb→eq (length bbs) 14 (and-l (eqb (length bbs) 14) (eqb (length bytes) 64) (and-l (eqb (length bbs) 14 && eqb (length bytes) 64) (ltb (state .side) 2) (true-T e)))
+    eqb→eq (length bbs) 14 (and-l (eqb (length bbs) 14) (eqb (length bytes) 64)
+    (and-l (eqb (length bbs) 14 && eqb (length bytes) 64) (ltb (state .side) 2) (true-T e)))
 
 pub bytes-64 : (bbs bytes : List ℕ) (state : State) → shaped bbs bytes state ≡ true → length bytes ≡ 64
 bytes-64 bbs bytes state e =
-    eqb→eq (length bytes) 64 (and-r (eqb (length bbs) 14) (eqb (length bytes) 64) (and-l (eqb (length bbs) 14 && eqb (length bytes) 64) (ltb (state .side) 2) (true-T e)))
+    eqb→eq (length bytes) 64 (and-r (eqb (length bbs) 14) (eqb (length bytes) 64)
+    (and-l (eqb (length bbs) 14 && eqb (length bytes) 64) (ltb (state .side) 2) (true-T e)))
 
 pub side-below-2 : (bbs bytes : List ℕ) (state : State) → shaped bbs bytes state ≡ true → state .side < 2
 side-below-2 bbs bytes state e = ltb→lt (state .side) 2 (and-r (eqb (length bbs) 14 && eqb (length bytes) 64) (ltb (state .side) 2) (true-T e))
@@ -77,7 +79,8 @@ module _ {A : Type 0} (bbs bytes : List ℕ) (state : State) (rest : Answer A) w
         the-one : (o : AtOdds bbs bytes) → o .refusal ≡ q
         the-one o =
             refused-one (o .refusal) q
-            (sym (o .refuses (refusedAs (R.Byteboard 64))) ∙ sym (ap (λ (t : Bool). orRefuse t R.Shape (orOdds bbs bytes (refusedAs (R.Byteboard 64)))) sized-too) ∙ sym p)
+            (sym (o .refuses (refusedAs (R.Byteboard 64))) ∙ sym (ap (λ (t : Bool). orRefuse t R.Shape (orOdds bbs bytes (refusedAs (R.Byteboard 64))))
+            sized-too) ∙ sym p)
 
     -- the pieces are consistent: what the rule asks beyond them
     module _ (e : consistent bbs bytes ≡ true) where
@@ -122,7 +125,8 @@ module _ {A : Type 0} (bbs bytes : List ℕ) (state : State) (rest : Answer A) w
       go : (s t : Bool) → shaped bbs bytes state ≡ s → consistent bbs bytes ≡ t → orRefuse s R.Shape (orOdds bbs bytes (orFurther bytes state rest)) ≡ given a
           → Fitting bbs bytes state × (rest ≡ given a)
       go true true s c p =
-          further s c (atHome bytes (state .rights)) (justPassed bytes (state .side) (state .passant)) (countersFit (state .halfmoves) (state .moves)) refl refl refl
+          further s c (atHome bytes (state .rights)) (justPassed bytes (state .side) (state .passant)) (countersFit (state .halfmoves) (state .moves))
+          refl refl refl
           (sym (goes-on bbs bytes (orFurther bytes state rest) c) ∙ p)
       go true false s c p = given-not (sym p ∙ at-odds bbs bytes c .refuses (orFurther bytes state rest))
       go false t s c p = given-not (sym p)

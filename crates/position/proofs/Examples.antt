@@ -48,13 +48,17 @@ with passant halfmoves moves = record { side = 0; rights = all; passant = passan
 further : List (Answer ℕ)
 unfolding checked orOdds lowestWrong firstFrom allBelow boardsWith ofColour howMany some has home atHome justPassed
 further =
-    stated startBoards startBytes (with Nowhere 0 1) ∷ stated rookless (set startBytes 7 0) (with Nowhere 0 1) ∷ stated startBoards startBytes (with (On 44) 0 1)
-    ∷ stated startBoards startBytes (with Nowhere 9999 9999) ∷ stated startBoards startBytes (with Nowhere 10000 1) ∷ stated startBoards startBytes (with Nowhere 0 0)
-    ∷ stated rookless (set startBytes 7 0) (with (On 64) 0 0) ∷ stated startBoards startBytes (with (On 44) 0 0) ∷ stated startBoards (set startBytes 0 0) (with (On 64) 0 0) ∷ []
+    stated startBoards startBytes (with Nowhere 0 1) ∷ stated rookless (set startBytes 7 0) (with Nowhere 0 1)
+    ∷ stated startBoards startBytes (with (On 44) 0 1)
+    ∷ stated startBoards startBytes (with Nowhere 9999 9999) ∷ stated startBoards startBytes (with Nowhere 10000 1)
+    ∷ stated startBoards startBytes (with Nowhere 0 0)
+    ∷ stated rookless (set startBytes 7 0) (with (On 64) 0 0) ∷ stated startBoards startBytes (with (On 44) 0 0)
+    ∷ stated startBoards (set startBytes 0 0) (with (On 64) 0 0) ∷ []
   where
     rookless : List ℕ
     rookless = set (set startBoards 10 1) 0 (getD startBoards 0 0 - 128)
 
-further-are : further ≡ given 11 ∷ refused 29 [] ∷ refused 30 [] ∷ given 11 ∷ refused 31 [] ∷ refused 31 [] ∷ refused 29 [] ∷ refused 30 [] ∷ refused 16 (0 ∷ []) ∷ []
+further-are : further ≡ given 11 ∷ refused 29 [] ∷ refused 30 [] ∷ given 11 ∷ refused 31 [] ∷ refused 31 [] ∷ refused 29 [] ∷ refused 30 []
+    ∷ refused 16 (0 ∷ []) ∷ []
 unfolding further
 further-are = refl

@@ -51,7 +51,8 @@ module _ (bbs : List ℕ) (k : ℕ) where
   one-apart o =
       le-leb (boardsWith bbs k) 1
       (alone-one 12 (λ n. on bbs (2 + n) k)
-      (λ i j hi hj ei ej. let same : 2 + i ≡ 2 + j = o .same (2 + i) (2 + j) (code-is (2 + i) (omega arith) (omega arith)) (code-is (2 + j) (omega arith) (omega arith)) ei ej in omega arith))
+      (λ i j hi hj ei ej. let same : 2 + i ≡ 2 + j = o .same (2 + i) (2 + j) (code-is (2 + i) (omega arith) (omega arith))
+      (code-is (2 + j) (omega arith) (omega arith)) ei ej in omega arith))
 
 -- ---- over the board, both ways
 pub apart-everywhere : (bbs : List ℕ) → T (allBelow 64 (apart bbs)) → (k : ℕ) → k < 64 → OneAtMost bbs k

@@ -40,13 +40,16 @@ module _ (bbs : List ℕ) (n : ℕ) (fits : getD bbs (2 + n) 0 < 2 ^ 64) where
       ∙ those-or (on bbs (2 + n)) (λ k. leb 1 (among bbs n k))
       ∙ those-same (λ k. on bbs (2 + n) k || leb 1 (among bbs n k)) (λ k. leb 1 (among bbs (suc n) k)) (λ k h. one-more (on bbs (2 + n) k) (among bbs n k))
 
-  pub twice-more : bitOr (bitAnd (those 64 (λ k. leb 1 (among bbs n k))) (getD bbs (2 + n) 0)) (those 64 (λ k. leb 2 (among bbs n k))) ≡ those 64 (λ k. leb 2 (among bbs (suc n) k))
+  pub twice-more : bitOr (bitAnd (those 64 (λ k. leb 1 (among bbs n k))) (getD bbs (2 + n) 0)) (those 64 (λ k. leb 2 (among bbs n k)))
+      ≡ those 64 (λ k. leb 2 (among bbs (suc n) k))
   unfolding howMany
   twice-more =
-      ap (λ (b : ℕ). bitOr (bitAnd (those 64 (λ k. leb 1 (among bbs n k))) b) (those 64 (λ k. leb 2 (among bbs n k)))) (sym (those-of (getD bbs (2 + n) 0) fits))
+      ap (λ (b : ℕ). bitOr (bitAnd (those 64 (λ k. leb 1 (among bbs n k))) b) (those 64 (λ k. leb 2 (among bbs n k))))
+      (sym (those-of (getD bbs (2 + n) 0) fits))
       ∙ ap (λ (b : ℕ). bitOr b (those 64 (λ k. leb 2 (among bbs n k)))) (those-and (λ k. leb 1 (among bbs n k)) (on bbs (2 + n)))
       ∙ those-or (λ k. leb 1 (among bbs n k) && on bbs (2 + n) k) (λ k. leb 2 (among bbs n k))
-      ∙ those-same (λ k. (leb 1 (among bbs n k) && on bbs (2 + n) k) || leb 2 (among bbs n k)) (λ k. leb 2 (among bbs (suc n) k)) (λ k h. two-more (on bbs (2 + n) k) (among bbs n k))
+      ∙ those-same (λ k. (leb 1 (among bbs n k) && on bbs (2 + n) k) || leb 2 (among bbs n k)) (λ k. leb 2 (among bbs (suc n) k))
+      (λ k h. two-more (on bbs (2 + n) k) (among bbs n k))
 
 -- all twelve
 pub all-twelve : (bbs : List ℕ) (n j : ℕ) → n ≡ 12 → those 64 (λ k. leb j (among bbs n k)) ≡ those 64 (λ k. leb j (boardsWith bbs k))
@@ -61,7 +64,8 @@ pub none-of-colour : (bbs : List ℕ) (colour : ℕ) → 0 ≡ those 64 (amongCo
 unfolding some
 none-of-colour bbs colour = is-those 0 (λ k. false) (omega arith) (λ k h. has-zero k)
 
-pub colour-more : (bbs : List ℕ) (colour n : ℕ) → getD bbs (2 + 2 * n + colour) 0 < 2 ^ 64 → bitOr (getD bbs (2 + 2 * n + colour) 0) (those 64 (amongColour bbs colour n)) ≡ those 64 (amongColour bbs colour (suc n))
+pub colour-more : (bbs : List ℕ) (colour n : ℕ) → getD bbs (2 + 2 * n + colour) 0 < 2 ^ 64
+    → bitOr (getD bbs (2 + 2 * n + colour) 0) (those 64 (amongColour bbs colour n)) ≡ those 64 (amongColour bbs colour (suc n))
 unfolding some
 colour-more bbs colour n fits =
     ap (λ (b : ℕ). bitOr b (those 64 (amongColour bbs colour n))) (sym (those-of (getD bbs (2 + 2 * n + colour) 0) fits))

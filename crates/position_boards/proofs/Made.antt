@@ -72,13 +72,16 @@ module _ (bytes : List ℕ) where
       those-same (ofColour (sortedBy bytes) colour) (λ k. standsOn (getD bytes k 0) colour)
       (λ k hk.
       some-same 6 (λ n. has (getD (sortedBy bytes) (2 + 2 * n + colour) 0) k) (λ n. eqb (tablePlace (getD bytes k 0)) (2 + 2 * n + colour))
-      (λ n hn. ap (λ (b : ℕ). has b k) (sorted-at (2 + 2 * n + colour) (omega arith)) ∙ has-those 64 (λ j. eqb (tablePlace (getD bytes j 0)) (2 + 2 * n + colour)) k hk)
+      (λ n hn. ap (λ (b : ℕ). has b k) (sorted-at (2 + 2 * n + colour) (omega arith))
+      ∙ has-those 64 (λ j. eqb (tablePlace (getD bytes j 0)) (2 + 2 * n + colour)) k hk)
       ∙ on-its-colour (getD bytes k 0) colour h)
 
-  each-board : (board : ℕ) → board < 14 → cond (ltb board 2) (colourSquares (sortedBy bytes) board) (getD (sortedBy bytes) board 0) ≡ those 64 (λ k. standsOn (getD bytes k 0) board)
+  each-board : (board : ℕ) → board < 14 → cond (ltb board 2) (colourSquares (sortedBy bytes) board) (getD (sortedBy bytes) board 0)
+      ≡ those 64 (λ k. standsOn (getD bytes k 0) board)
   each-board board h = go (ltb board 2) refl
     where
-      go : (t : Bool) → ltb board 2 ≡ t → cond t (colourSquares (sortedBy bytes) board) (getD (sortedBy bytes) board 0) ≡ those 64 (λ k. standsOn (getD bytes k 0) board)
+      go : (t : Bool) → ltb board 2 ≡ t → cond t (colourSquares (sortedBy bytes) board) (getD (sortedBy bytes) board 0)
+          ≡ those 64 (λ k. standsOn (getD bytes k 0) board)
       go true e = colour-board board (ltb-true board 2 e)
       go false e = piece-board board (ltb-false board 2 e) h
 

@@ -26,7 +26,8 @@ apart-is bbs =
     ∙ all-same 64 (λ k. not (leb 2 (boardsWith bbs k))) (apart bbs) (λ k h. at-most-one (boardsWith bbs k))
 
 -- ---- "board 0 is the union .., board 1 ..": two bitboards compared
-pub united-is : (bbs : List ℕ) → getD bbs 0 0 < 2 ^ 64 → getD bbs 1 0 < 2 ^ 64 → (eqb (getD bbs 0 0) (colourSquares bbs 0) && eqb (getD bbs 1 0) (colourSquares bbs 1)) ≡ allBelow 64 (united bbs)
+pub united-is : (bbs : List ℕ) → getD bbs 0 0 < 2 ^ 64 → getD bbs 1 0 < 2 ^ 64
+    → (eqb (getD bbs 0 0) (colourSquares bbs 0) && eqb (getD bbs 1 0) (colourSquares bbs 1)) ≡ allBelow 64 (united bbs)
 united-is bbs f0 f1 =
     ap₂ _&&_ (is-those-test (getD bbs 0 0) (ofColour bbs 0) f0) (is-those-test (getD bbs 1 0) (ofColour bbs 1) f1)
     ∙ sym (all-and 64 (λ k. Bool·beq (on bbs 0 k) (ofColour bbs 0 k)) (λ k. Bool·beq (on bbs 1 k) (ofColour bbs 1 k)))
@@ -63,7 +64,8 @@ module _ (bbs : List ℕ) (f0 : getD bbs 0 0 < 2 ^ 64) (f1 : getD bbs 1 0 < 2 ^ 
       sym (the-tests ∙ ap (λ (a : Bool). fourteen bbs && (O && (a && B))) (ap (λ (x : ℕ). eqb (getD bbs 0 0) x) (sym e) ∙ ne-eqb (getD bbs 0 0) t n)
       ∙ ap (λ (a : Bool). fourteen bbs && a) (and-false O) ∙ and-false (fourteen bbs))
 
-  pub black-decides : (t u v : ℕ) → length bbs ≡ 14 → t ≡ sharedBy bbs 2 → t ≡ 0 → u ≡ colourSquares bbs 0 → getD bbs 0 0 ≡ u → v ≡ colourSquares bbs 1 → eqb (getD bbs 1 0) v ≡ sound bbs
+  pub black-decides : (t u v : ℕ) → length bbs ≡ 14 → t ≡ sharedBy bbs 2 → t ≡ 0 → u ≡ colourSquares bbs 0 → getD bbs 0 0 ≡ u → v ≡ colourSquares bbs 1
+      → eqb (getD bbs 1 0) v ≡ sound bbs
   black-decides t u v n e z eu w ev =
       ap (eqb (getD bbs 1 0)) ev
       ∙ sym (the-tests

@@ -37,7 +37,8 @@ split-of-14 bbs = all-of-14 bbs (united bbs)
 -- ---- overlap
 pub overlap-found : (bbs : List ℕ) (t : ℕ) → length bbs ≡ 14 → t ≡ sharedBy bbs 2 → t ≡ overlapOf bbs
 overlap-found bbs t n e =
-    e ∙ those-same (λ k. leb 2 (boardsWith bbs k)) (λ k. not (apart bbs k)) (λ k h. sym (Bool·not-not (leb 2 (boardsWith bbs k))) ∙ ap not (at-most-one (boardsWith bbs k))) ∙ overlap-of-14 bbs n
+    e ∙ those-same (λ k. leb 2 (boardsWith bbs k)) (λ k. not (apart bbs k))
+    (λ k h. sym (Bool·not-not (leb 2 (boardsWith bbs k))) ∙ ap not (at-most-one (boardsWith bbs k))) ∙ overlap-of-14 bbs n
 
 -- ---- unions
 either-wrong : (a b : Bool) → (not a || not b) ≡ not (a && b)

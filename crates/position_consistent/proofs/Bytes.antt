@@ -51,8 +51,13 @@ module _ (bbs bytes : List ℕ) (k : ℕ) where
   pub agrees-either : T (agrees bbs bytes k) → Vacant ⊎ Occupied
   agrees-either t = go (eqb (getD bytes k 0) 0) refl t
     where
-      go : (z : Bool) → eqb (getD bytes k 0) 0 ≡ z → T (cond z (eqb (boardsWith bbs k) 0) (isPiece (getD bytes k 0) && on bbs (getD bytes k 0) k)) → Vacant ⊎ Occupied
-      go true e u = inl (record { zero = eqb-true (getD bytes k 0) 0 e; empty = boardsWith-empty bbs k (eqb-true (boardsWith bbs k) 0 (T-true (eqb (boardsWith bbs k) 0) u)) })
+      go : (z : Bool) → eqb (getD bytes k 0) 0 ≡ z → T (cond z (eqb (boardsWith bbs k) 0) (isPiece (getD bytes k 0) && on bbs (getD bytes k 0) k))
+          → Vacant ⊎ Occupied
+      go true e u = inl (record {
+        zero = eqb-true (getD bytes k 0) 0 e;
+        empty =
+            boardsWith-empty bbs k (eqb-true (boardsWith bbs k) 0 (T-true (eqb (boardsWith bbs k) 0) u));
+      })
       go false e u =
           inr (record {
             piece = and-l (isPiece (getD bytes k 0)) (on bbs (getD bytes k 0) k) u;
@@ -68,7 +73,8 @@ module _ (bbs bytes : List ℕ) (k : ℕ) where
   pub occupied-agrees : Occupied → T (agrees bbs bytes k)
   occupied-agrees o =
       true-T
-      (ap (λ (z : Bool). cond z (eqb (boardsWith bbs k) 0) (isPiece (getD bytes k 0) && on bbs (getD bytes k 0) k)) (ne-eqb (getD bytes k 0) 0 (λ e. omega (arith, code-from (getD bytes k 0) (o .piece))))
+      (ap (λ (z : Bool). cond z (eqb (boardsWith bbs k) 0) (isPiece (getD bytes k 0) && on bbs (getD bytes k 0) k))
+      (ne-eqb (getD bytes k 0) 0 (λ e. omega (arith, code-from (getD bytes k 0) (o .piece))))
       ∙ ap₂ _&&_ (T-true (isPiece (getD bytes k 0)) (o .piece)) (o .there))
 
 -- ---- over the board, both ways

@@ -21,7 +21,8 @@ start-fits = refl
 
 -- ---- one position for each way to be inconsistent
 -- a knight on c1, where the bishop stands too; White's board without a1; Black's with e5
-boards-amiss : tests (set startBoards 4 0x46) startBytes ∷ tests (set startBoards 0 0xFFFE) startBytes ∷ tests (set startBoards 1 0xFFFF001000000000) startBytes ∷ [] ≡ (false ∷ true ∷ true ∷ []) ∷ (true ∷ false ∷ true ∷ []) ∷ (true ∷ false ∷ true ∷ []) ∷ []
+boards-amiss : tests (set startBoards 4 0x46) startBytes ∷ tests (set startBoards 0 0xFFFE) startBytes
+    ∷ tests (set startBoards 1 0xFFFF001000000000) startBytes ∷ [] ≡ (false ∷ true ∷ true ∷ []) ∷ (true ∷ false ∷ true ∷ []) ∷ (true ∷ false ∷ true ∷ []) ∷ []
 unfolding allBelow boardsWith ofColour howMany some has
 boards-amiss = refl
 
@@ -30,7 +31,8 @@ abbrev withByte : ℕ → ℕ → List Bool
 withByte square byte = tests startBoards (set startBytes square byte)
 
 -- a bishop's on b1, where the knight stands; 0 on a1; a pawn's on e4; 1 and 14 there; 18 on a2, where 2 is right; 0 on h8
-bytes-amiss : withByte 1 8 ∷ withByte 0 0 ∷ withByte 28 2 ∷ withByte 28 1 ∷ withByte 28 14 ∷ withByte 8 18 ∷ withByte 63 0 ∷ [] ≡ tabulate 7 (λ n. true ∷ true ∷ false ∷ [])
+bytes-amiss : withByte 1 8 ∷ withByte 0 0 ∷ withByte 28 2 ∷ withByte 28 1 ∷ withByte 28 14 ∷ withByte 8 18 ∷ withByte 63 0 ∷ []
+    ≡ tabulate 7 (λ n. true ∷ true ∷ false ∷ [])
 unfolding allBelow boardsWith ofColour howMany some has tabulate
 bytes-amiss = refl
 

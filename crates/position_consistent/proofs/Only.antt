@@ -38,7 +38,8 @@ one-board =
     (λ b h. table 14 (omega arith) ∙ ap digit (sym (no-piece b h)))
   where
     table : (b : ℕ) → b < 15 → howMany 12 (λ n. eqb b (2 + n)) ≡ digit (isPiece b)
-    table b h = eqb-true (howMany 12 (λ n. eqb b (2 + n))) (digit (isPiece b)) (T-true (eqb (howMany 12 (λ n. eqb b (2 + n))) (digit (isPiece b))) (all-at 15 (λ c. eqb (howMany 12 (λ n. eqb c (2 + n))) (digit (isPiece c))) tt b h))
+    table b h = eqb-true (howMany 12 (λ n. eqb b (2 + n))) (digit (isPiece b))
+        (T-true (eqb (howMany 12 (λ n. eqb b (2 + n))) (digit (isPiece b))) (all-at 15 (λ c. eqb (howMany 12 (λ n. eqb c (2 + n))) (digit (isPiece c))) tt b h))
 
 code-stands : (byte board : ℕ) → T (isPiece board) → eqb byte board ≡ standsOn byte board
 code-stands byte board p =
@@ -91,15 +92,18 @@ module _ (bytes : List ℕ) where
   agrees-made : (k : ℕ) → k < 64 → T (isByte (getD bytes k 0)) → T (agrees (bitboardsOf bytes) bytes k)
   agrees-made k h t = go (eqb (getD bytes k 0) 0) refl t
     where
-      go : (z : Bool) → eqb (getD bytes k 0) 0 ≡ z → T (z || isPiece (getD bytes k 0)) → T (cond z (eqb (boardsWith (bitboardsOf bytes) k) 0) (isPiece (getD bytes k 0) && on (bitboardsOf bytes) (getD bytes k 0) k))
-      go true e u = true-T (eq-eqb (boardsWith (bitboardsOf bytes) k) 0 (boardsWith-made k h ∙ ap (λ (b : ℕ). digit (isPiece b)) (eqb-true (getD bytes k 0) 0 e)))
+      go : (z : Bool) → eqb (getD bytes k 0) 0 ≡ z → T (z || isPiece (getD bytes k 0))
+          → T (cond z (eqb (boardsWith (bitboardsOf bytes) k) 0) (isPiece (getD bytes k 0) && on (bitboardsOf bytes) (getD bytes k 0) k))
+      go true e u = true-T (eq-eqb (boardsWith (bitboardsOf bytes) k) 0
+          (boardsWith-made k h ∙ ap (λ (b : ℕ). digit (isPiece b)) (eqb-true (getD bytes k 0) 0 e)))
       go false e u =
           let from = code-from (getD bytes k 0) u in
           let to = code-to (getD bytes k 0) u in
           and-i (isPiece (getD bytes k 0)) (on (bitboardsOf bytes) (getD bytes k 0) k) u
           (true-T
           (on-made k (getD bytes k 0) h (omega arith)
-          ∙ ap₂ (λ (p l : Bool). p && cond l (eqb (colourOf (getD bytes k 0)) (getD bytes k 0)) (eqb (getD bytes k 0) (getD bytes k 0))) (T-true (isPiece (getD bytes k 0)) u) (le-ltb (getD bytes k 0) 2 from)
+          ∙ ap₂ (λ (p l : Bool). p && cond l (eqb (colourOf (getD bytes k 0)) (getD bytes k 0)) (eqb (getD bytes k 0) (getD bytes k 0)))
+          (T-true (isPiece (getD bytes k 0)) u) (le-ltb (getD bytes k 0) 2 from)
           ∙ eq-eqb (getD bytes k 0) (getD bytes k 0) refl))
 
   pub made-consistent : coded bytes ≡ true → consistent (bitboardsOf bytes) bytes ≡ true

@@ -18,7 +18,8 @@ use Rattle.position_boards.specs.Boards.{isByte, coded}
 use Rattle.position_boards.proofs.Apart.{code-from, apart-everywhere}
 use Rattle.position_consistent.proofs.Bytes.{Vacant, Occupied, agrees-everywhere}
 
-pub three-consistent : (bbs bytes : List ℕ) → T (allBelow 64 (apart bbs)) → T (allBelow 64 (united bbs)) → T (allBelow 64 (agrees bbs bytes)) → consistent bbs bytes ≡ true
+pub three-consistent : (bbs bytes : List ℕ) → T (allBelow 64 (apart bbs)) → T (allBelow 64 (united bbs)) → T (allBelow 64 (agrees bbs bytes))
+    → consistent bbs bytes ≡ true
 unfolding consistent
 three-consistent bbs bytes a u b =
     ap₂ _&&_ (ap₂ _&&_ (T-true (allBelow 64 (apart bbs)) a) (T-true (allBelow 64 (united bbs)) u)) (T-true (allBelow 64 (agrees bbs bytes)) b)
@@ -26,11 +27,13 @@ three-consistent bbs bytes a u b =
 module _ (bbs bytes : List ℕ) (e : consistent bbs bytes ≡ true) where
   pub consistent-apart : T (allBelow 64 (apart bbs))
   unfolding consistent
-  consistent-apart = and-l (allBelow 64 (apart bbs)) (allBelow 64 (united bbs)) (and-l (allBelow 64 (apart bbs) && allBelow 64 (united bbs)) (allBelow 64 (agrees bbs bytes)) (true-T e))
+  consistent-apart = and-l (allBelow 64 (apart bbs)) (allBelow 64 (united bbs))
+      (and-l (allBelow 64 (apart bbs) && allBelow 64 (united bbs)) (allBelow 64 (agrees bbs bytes)) (true-T e))
 
   pub consistent-united : T (allBelow 64 (united bbs))
   unfolding consistent
-  consistent-united = and-r (allBelow 64 (apart bbs)) (allBelow 64 (united bbs)) (and-l (allBelow 64 (apart bbs) && allBelow 64 (united bbs)) (allBelow 64 (agrees bbs bytes)) (true-T e))
+  consistent-united = and-r (allBelow 64 (apart bbs)) (allBelow 64 (united bbs))
+      (and-l (allBelow 64 (apart bbs) && allBelow 64 (united bbs)) (allBelow 64 (agrees bbs bytes)) (true-T e))
 
   pub consistent-agrees : T (allBelow 64 (agrees bbs bytes))
   unfolding consistent
@@ -51,7 +54,8 @@ module _ (bbs bytes : List ℕ) (e : consistent bbs bytes ≡ true) where
         where
           go : (t : Bool) → eqb (getD bytes k 0) c ≡ t → (u : Bool) → on bbs c k ≡ u → u ≡ t
           go true q u r = sym r ∙ ap (λ (b : ℕ). on bbs b k) (sym (eqb-true (getD bytes k 0) c q)) ∙ o .there
-          go false q true r = absurd (eqb-false (getD bytes k 0) c q (apart-everywhere bbs consistent-apart k h .same (getD bytes k 0) c (o .piece) p (o .there) r))
+          go false q true r = absurd (eqb-false (getD bytes k 0) c q (apart-everywhere bbs consistent-apart k h .same (getD bytes k 0) c (o .piece) p
+              (o .there) r))
           go false q false r = refl
 
   -- and each byte is 0 or a piece's code

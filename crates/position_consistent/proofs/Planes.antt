@@ -32,7 +32,8 @@ or-none a b =
     iff (eqb (bitOr a b) 0) (eqb a 0 && eqb b 0)
     (λ t.
     let z = eqb-true (bitOr a b) 0 (T-true (eqb (bitOr a b) 0) t) in
-    and-i (eqb a 0) (eqb b 0) (true-T (eq-eqb a 0 (omega (arith, or-add-and a b, and-le-l a b, and-le-r a b)))) (true-T (eq-eqb b 0 (omega (arith, or-add-and a b, and-le-l a b, and-le-r a b)))))
+    and-i (eqb a 0) (eqb b 0) (true-T (eq-eqb a 0 (omega (arith, or-add-and a b, and-le-l a b, and-le-r a b))))
+    (true-T (eq-eqb b 0 (omega (arith, or-add-and a b, and-le-l a b, and-le-r a b)))))
     (λ t.
     let za = eqb-true a 0 (T-true (eqb a 0) (and-l (eqb a 0) (eqb b 0) t)) in
     let zb = eqb-true b 0 (T-true (eqb b 0) (and-r (eqb a 0) (eqb b 0) t)) in
@@ -51,7 +52,8 @@ pub more-amiss : (f : ℕ → Bool) (n amiss wrong : ℕ) → eqb amiss 0 ≡ al
 unfolding allBelow
 more-amiss f n amiss wrong e w = or-none wrong amiss ∙ ap₂ _&&_ w e
 
-pub byte-amiss : (f : ℕ → Bool) (n amiss byte code : ℕ) → eqb amiss 0 ≡ allBelow n f → eqb byte code ≡ f n → eqb (bitOr (bitXor byte code) amiss) 0 ≡ allBelow (suc n) f
+pub byte-amiss : (f : ℕ → Bool) (n amiss byte code : ℕ) → eqb amiss 0 ≡ allBelow n f → eqb byte code ≡ f n
+    → eqb (bitOr (bitXor byte code) amiss) 0 ≡ allBelow (suc n) f
 byte-amiss f n amiss byte code e w = more-amiss f n amiss (bitXor byte code) e (xor-none byte code ∙ w)
 
 -- ---- a plane, one board after the other
@@ -62,11 +64,13 @@ pub no-digit : (bbs : List ℕ) (digit : ℕ) → 0 ≡ those 64 (amongDigit bbs
 unfolding some
 no-digit bbs digit = is-those 0 (λ k. false) (omega arith) (λ k h. has-zero k)
 
-pub digit-more : (bbs : List ℕ) (digit n : ℕ) → getD bbs (2 + n) 0 < 2 ^ 64 → bitOr (chosenBy (getD bbs (2 + n) 0) (2 + n) digit) (those 64 (amongDigit bbs digit n)) ≡ those 64 (amongDigit bbs digit (suc n))
+pub digit-more : (bbs : List ℕ) (digit n : ℕ) → getD bbs (2 + n) 0 < 2 ^ 64
+    → bitOr (chosenBy (getD bbs (2 + n) 0) (2 + n) digit) (those 64 (amongDigit bbs digit n)) ≡ those 64 (amongDigit bbs digit (suc n))
 unfolding some
 digit-more bbs digit n fits = go (has (2 + n) digit)
   where
-    go : (t : Bool) → bitOr (cond t (getD bbs (2 + n) 0) 0) (those 64 (amongDigit bbs digit n)) ≡ those 64 (λ k. (t && on bbs (2 + n) k) || amongDigit bbs digit n k)
+    go : (t : Bool) → bitOr (cond t (getD bbs (2 + n) 0) 0) (those 64 (amongDigit bbs digit n))
+        ≡ those 64 (λ k. (t && on bbs (2 + n) k) || amongDigit bbs digit n k)
     go true =
         ap (λ (b : ℕ). bitOr b (those 64 (amongDigit bbs digit n))) (sym (those-of (getD bbs (2 + n) 0) fits))
         ∙ those-or (on bbs (2 + n)) (amongDigit bbs digit n)
@@ -91,7 +95,8 @@ module _ (bbs bytes : List ℕ) (k : ℕ) (one : apart bbs k ≡ true) where
       (λ t.
       let s = some-where 12 (λ n. has (2 + n) j && stands n) (T-true (some 12 (λ n. has (2 + n) j && stands n)) t) in
       let both = true-T (s .holds) in
-      let q : s .at ≡ m = one-alone 12 stands (leb-true (boardsWith bbs k) 1 one) (s .at) m (s .below) h (T-true (stands (s .at)) (and-r (has (2 + s .at) j) (stands (s .at)) both)) e in
+      let q : s .at ≡ m = one-alone 12 stands (leb-true (boardsWith bbs k) 1 one) (s .at) m (s .below) h
+      (T-true (stands (s .at)) (and-r (has (2 + s .at) j) (stands (s .at)) both)) e in
       subst (λ (n : ℕ). T (has (2 + n) j)) q (and-l (has (2 + s .at) j) (stands (s .at)) both))
       (λ t. some-at 12 (λ n. has (2 + n) j && stands n) m h (and-i (has (2 + m) j) (stands m) t (true-T e)))
 
@@ -167,11 +172,13 @@ module _ (p file rank : ℕ) (hf : file < 8) (hr : rank < 8) where
   digit-term i j hi hj =
       has-shl (firstFile p file) i (8 * rank + j) (omega arith)
       ∙ ap (λ (t : Bool). leb i (8 * rank + j) && t)
-      (has-and (p / 2 ^ file) 0x0101010101010101 (8 * rank + j - i) ∙ ap (λ (t : Bool). t && has 0x0101010101010101 (8 * rank + j - i)) (has-shr p file (8 * rank + j - i)))
+      (has-and (p / 2 ^ file) 0x0101010101010101 (8 * rank + j - i) ∙ ap (λ (t : Bool). t && has 0x0101010101010101 (8 * rank + j - i))
+      (has-shr p file (8 * rank + j - i)))
       ∙ go (leb i (8 * rank + j)) (has 0x0101010101010101 (8 * rank + j - i)) (eqb i j) refl (first-file-at i j rank hi hj hr)
     where
       go : (l m t : Bool) → eqb i j ≡ t → (l && m) ≡ t → (l && (has p (file + (8 * rank + j - i)) && m)) ≡ (t && has p (8 * rank + file))
-      go true true true q e = let same : file + (8 * rank + j - i) ≡ 8 * rank + file = omega (arith, eqb-true i j q) in and-true (has p (file + (8 * rank + j - i))) ∙ ap (has p) same
+      go true true true q e = let same : file + (8 * rank + j - i) ≡ 8 * rank + file = omega (arith, eqb-true i j q) in
+          and-true (has p (file + (8 * rank + j - i))) ∙ ap (has p) same
       go true true false q e = absurd (subst T e tt)
       go true false true q e = absurd (subst T (sym e) tt)
       go true false false q e = and-false (has p (file + (8 * rank + j - i)))
@@ -194,7 +201,8 @@ module _ (plane : ℕ → ℕ) (file rank : ℕ) (hf : file < 8) (hr : rank < 8)
   all-terms : (j : ℕ) → j < 4 → has word (8 * rank + j) ≡ (((eqb 0 j && there 0) || (eqb 1 j && there 1)) || ((eqb 2 j && there 2) || (eqb 3 j && there 3)))
   unfolding fileCodes
   all-terms j h =
-      has-or (bitOr (firstFile (plane 0) file) (firstFile (plane 1) file * 2 ^ 1 % 2 ^ 64)) (bitOr (firstFile (plane 2) file * 2 ^ 2 % 2 ^ 64) (firstFile (plane 3) file * 2 ^ 3 % 2 ^ 64)) (8 * rank + j)
+      has-or (bitOr (firstFile (plane 0) file) (firstFile (plane 1) file * 2 ^ 1 % 2 ^ 64))
+      (bitOr (firstFile (plane 2) file * 2 ^ 2 % 2 ^ 64) (firstFile (plane 3) file * 2 ^ 3 % 2 ^ 64)) (8 * rank + j)
       ∙ ap₂ _||_
       (has-or (firstFile (plane 0) file) (firstFile (plane 1) file * 2 ^ 1 % 2 ^ 64) (8 * rank + j)
       ∙ ap₂ _||_ (first-term (plane 0) file rank hf hr j h) (digit-term (plane 1) file rank hf hr 1 j (omega arith) h))
@@ -233,7 +241,8 @@ module _ (bbs bytes : List ℕ) (one : T (allBelow 64 (apart bbs))) where
       (λ file hf. all-of 8 (rankRight bytes (codesOn file) file)
       (λ rank hr. subst T (sym (square-agrees file rank hf hr)) (all-at 64 (agrees bbs bytes) t (8 * rank + file) (omega arith)))))
     where
-      by-file : T (allBelow 8 (λ file. allBelow 8 (rankRight bytes (codesOn file) file))) → (k rank file : ℕ) → rank < 8 → file < 8 → 8 * rank + file ≡ k → T (agrees bbs bytes k)
+      by-file : T (allBelow 8 (λ file. allBelow 8 (rankRight bytes (codesOn file) file))) → (k rank file : ℕ) → rank < 8 → file < 8
+          → 8 * rank + file ≡ k → T (agrees bbs bytes k)
       by-file t k rank file hr hf q =
           subst (λ (n : ℕ). T (agrees bbs bytes n)) q
           (subst T (square-agrees file rank hf hr)

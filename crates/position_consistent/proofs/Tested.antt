@@ -44,5 +44,6 @@ module _ (bbs bytes : List ℕ) where
       (eq-eqb (length bytes) 64 n)
 
   pub bytes-decide : sound bbs ≡ true → length bytes ≡ 64
-      → filesRight bytes (planeOf bbs 0) (planeOf bbs 1) (planeOf bbs 2) (planeOf bbs 3) ≡ (eqb (length bbs) 14 && eqb (length bytes) 64 && consistent bbs bytes)
+      → filesRight bytes (planeOf bbs 0) (planeOf bbs 1) (planeOf bbs 2) (planeOf bbs 3)
+      ≡ (eqb (length bbs) 14 && eqb (length bytes) 64 && consistent bbs bytes)
   bytes-decide e n = files-agree bbs bytes (sound-apart bbs e) ∙ at-last e n

@@ -25,7 +25,8 @@ right short long black-short black-long =
 rights : List Bool
 unfolding atHome home
 rights =
-    atHome bare (right false false false false) ∷ atHome (rookOn white 7) (right true false false false) ∷ atHome (rookOn white 0) (right true false false false)
+    atHome bare (right false false false false) ∷ atHome (rookOn white 7) (right true false false false)
+    ∷ atHome (rookOn white 0) (right true false false false)
     ∷ atHome (rookOn white 8) (right true false false false) ∷ atHome (rookOn white 0) (right false true false false)
     ∷ atHome (rookOn black 63) (right false false true false) ∷ atHome (rookOn black 7) (right false false true false)
     ∷ atHome (rookOn black 56) (right false false false true) ∷ atHome (rookOn black 7) (right true false false false) ∷ []
@@ -43,7 +44,8 @@ pawnOn colour s = set bare s (codeOf pawn colour)
 squares : List Bool
 unfolding justPassed
 squares =
-    justPassed bare white Nowhere ∷ justPassed (pawnOn black 36) white (On 44) ∷ justPassed (pawnOn white 36) white (On 44) ∷ justPassed (pawnOn black 52) white (On 44)
+    justPassed bare white Nowhere ∷ justPassed (pawnOn black 36) white (On 44) ∷ justPassed (pawnOn white 36) white (On 44)
+    ∷ justPassed (pawnOn black 52) white (On 44)
     ∷ justPassed (pawnOn black 28) white (On 36) ∷ justPassed (set (pawnOn black 36) 44 (codeOf pawn black)) white (On 44) ∷ justPassed bare white (On 64)
     ∷ justPassed (pawnOn white 28) black (On 20) ∷ justPassed (pawnOn white 28) white (On 20) ∷ []
 

@@ -27,7 +27,8 @@ module _ (bbs bytes : List ℕ) where
 
   pub no-bytes : (length bytes ≡ 64 → ⊥) → Tells bbs bytes R.Shape
   no-bytes n =
-      sym (ap (λ (t : Bool). orRefuse t R.Shape found) (ap (λ (t : Bool). eqb (length bbs) 14 && t) (ne-eqb (length bytes) 64 n) ∙ and-false (eqb (length bbs) 14)))
+      sym (ap (λ (t : Bool). orRefuse t R.Shape found) (ap (λ (t : Bool). eqb (length bbs) 14 && t) (ne-eqb (length bytes) 64 n)
+      ∙ and-false (eqb (length bbs) 14)))
 
   module _ (l : length bbs ≡ 14) (m : length bytes ≡ 64) where
     in-size : (x : Answer Unit) → x ≡ found → x ≡ orRefuse (sized bbs bytes) R.Shape found
@@ -55,4 +56,5 @@ module _ (bbs bytes : List ℕ) where
       pub byteboard-told : (b s : ℕ) → b ≡ splitOf bbs → b ≡ 0 → s ≡ lowestWrong (agrees bbs bytes) → Tells bbs bytes (R.Byteboard s)
       byteboard-told b s e z q =
           in-size (refusedAs (R.Byteboard s))
-          (last (agrees bbs bytes) (λ x. R.Byteboard x) s q ∙ passed (united bbs) (λ x. R.Union x) after-unions b (e ∙ sym (split-of-14 bbs l)) z ∙ past-overlap)
+          (last (agrees bbs bytes) (λ x. R.Byteboard x) s q ∙ passed (united bbs) (λ x. R.Union x) after-unions b (e ∙ sym (split-of-14 bbs l)) z
+          ∙ past-overlap)

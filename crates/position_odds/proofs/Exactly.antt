@@ -23,13 +23,15 @@ module _ (bbs bytes : List ℕ) where
   -- the order with the outcomes of the three tests put in
   abbrev by : {A : Type 0} → Answer A → Bool → Bool → Bool → Answer A
   by rest o u b =
-      orRefuse o (R.Overlap (lowestWrong (apart bbs))) (orRefuse u (R.Union (lowestWrong (united bbs))) (orRefuse b (R.Byteboard (lowestWrong (agrees bbs bytes))) rest))
+      orRefuse o (R.Overlap (lowestWrong (apart bbs))) (orRefuse u (R.Union (lowestWrong (united bbs)))
+      (orRefuse b (R.Byteboard (lowestWrong (agrees bbs bytes))) rest))
 
   either : GoesOn bbs bytes ⊎ AtOdds bbs bytes
   unfolding orOdds consistent
   either = go (allBelow 64 (apart bbs)) refl (allBelow 64 (united bbs)) refl (allBelow 64 (agrees bbs bytes)) refl
     where
-      go : (o : Bool) → allBelow 64 (apart bbs) ≡ o → (u : Bool) → allBelow 64 (united bbs) ≡ u → (b : Bool) → allBelow 64 (agrees bbs bytes) ≡ b → GoesOn bbs bytes ⊎ AtOdds bbs bytes
+      go : (o : Bool) → allBelow 64 (apart bbs) ≡ o → (u : Bool) → allBelow 64 (united bbs) ≡ u → (b : Bool) → allBelow 64 (agrees bbs bytes) ≡ b
+          → GoesOn bbs bytes ⊎ AtOdds bbs bytes
       go false eo u eu b eb = inr (record {
         consistency = ap (λ (o : Bool). o && allBelow 64 (united bbs) && allBelow 64 (agrees bbs bytes)) eo;
         refusal = R.Overlap (lowestWrong (apart bbs));
@@ -39,7 +41,13 @@ module _ (bbs bytes : List ℕ) where
       go true eo false eu b eb = inr (record {
         consistency = ap₂ (λ (o u : Bool). o && u && allBelow 64 (agrees bbs bytes)) eo eu;
         refusal = R.Union (lowestWrong (united bbs));
-        one-of = inr (inl (record { square = lowestWrong (united bbs); named = refl; alone = everywhere (apart bbs) eo; lowest = lowest-there (united bbs) eu }));
+        one-of = inr (inl (record {
+          square = lowestWrong (united bbs);
+          named = refl;
+          alone = everywhere (apart bbs) eo;
+          lowest =
+              lowest-there (united bbs) eu;
+        }));
         refuses = λ rest. ap₂ (λ (o u : Bool). by rest o u (allBelow 64 (agrees bbs bytes))) eo eu;
       })
       go true eo true eu false eb = inr (record {

@@ -88,7 +88,8 @@ module _ (f : ℕ → Bool) where
       at : (s : ℕ) → s ≡ trailingZeros 64 (wrongOf f) → Lowest f (lowestWrong f)
       at s q = rw (← lowest-of, ← scan-is (wrongOf f)) record {
         below = inside;
-        wrong = not-true (f (trailingZeros 64 (wrongOf f))) (sym (has-those 64 (λ k. not (f k)) (trailingZeros 64 (wrongOf f)) inside) ∙ scanned-lowest 64 (wrongOf f) .found inside);
+        wrong = not-true (f (trailingZeros 64 (wrongOf f))) (sym (has-those 64 (λ k. not (f k)) (trailingZeros 64 (wrongOf f)) inside)
+            ∙ scanned-lowest 64 (wrongOf f) .found inside);
         before = λ k h. not-false (f k) (sym (has-those 64 (λ j. not (f j)) k (omega (arith, inside))) ∙ scanned-lowest 64 (wrongOf f) .clear k h);
       }
 

@@ -44,7 +44,8 @@ has-stack f (suc n) l small k h =
       | no q ↦
           ap₂ (λ (s t : Bool). (s && has (f (k / 8)) (k % 8)) || (t && has (f n) (k - 8 * n))) (le-ltb k (8 * n) (omega arith)) (le-leb (8 * n) k (omega arith))
           ∙ elim (decLt k (8 * suc n)) [
-            | yes p ↦ inside (let e : n ≡ k / 8 = omega arith in e) (let e : k - 8 * n ≡ k % 8 = omega arith in e) ∙ sym (ap (λ (t : Bool). t && has (f (k / 8)) (k % 8)) (lt-ltb k (8 * suc n) p))
+            | yes p ↦ inside (let e : n ≡ k / 8 = omega arith in e) (let e : k - 8 * n ≡ k % 8 = omega arith in e)
+                ∙ sym (ap (λ (t : Bool). t && has (f (k / 8)) (k % 8)) (lt-ltb k (8 * suc n) p))
             | no p ↦
                 has-high (f n) 8 (k - 8 * n) (small n (omega arith)) (omega arith)
                 ∙ sym (ap (λ (t : Bool). t && has (f (k / 8)) (k % 8)) (le-ltb k (8 * suc n) (omega arith)))
@@ -74,9 +75,11 @@ rows-next : (bytes : List ℕ) (n : ℕ) → Rows bytes n → Row bytes n 8 → 
 rows-next bytes n r h =
     record { rows = λ rank l. elim (ℕ-discrete rank n) [ yes e ↦ subst (λ (i : ℕ). Row bytes i 8) (sym e) h | no e ↦ r .rows rank (omega arith) ] }
 
-pub rows-8 : (bytes : List ℕ) → Row bytes 0 8 → Row bytes 1 8 → Row bytes 2 8 → Row bytes 3 8 → Row bytes 4 8 → Row bytes 5 8 → Row bytes 6 8 → Row bytes 7 8 → Rows bytes 8
+pub rows-8 : (bytes : List ℕ) → Row bytes 0 8 → Row bytes 1 8 → Row bytes 2 8 → Row bytes 3 8 → Row bytes 4 8 → Row bytes 5 8 → Row bytes 6 8
+    → Row bytes 7 8 → Rows bytes 8
 rows-8 bytes a b c d e f g h =
-    rows-next bytes 7 (rows-next bytes 6 (rows-next bytes 5 (rows-next bytes 4 (rows-next bytes 3 (rows-next bytes 2 (rows-next bytes 1 (rows-next bytes 0 (rows-none bytes) a) b) c) d) e) f) g) h
+    rows-next bytes 7 (rows-next bytes 6 (rows-next bytes 5 (rows-next bytes 4
+    (rows-next bytes 3 (rows-next bytes 2 (rows-next bytes 1 (rows-next bytes 0 (rows-none bytes) a) b) c) d) e) f) g) h
 
 pub words-8 : (f : ℕ → ℕ) (a b c d e i j k : ℕ) → a ≡ f 0 → b ≡ f 1 → c ≡ f 2 → d ≡ f 3 → e ≡ f 4 → i ≡ f 5 → j ≡ f 6 → k ≡ f 7
     → a ∷ b ∷ c ∷ d ∷ e ∷ i ∷ j ∷ k ∷ [] ≡ tabulate 8 f
@@ -114,7 +117,8 @@ sliced-none word =
 
 pub sliced-next : (word : ℕ → ℕ) (n a b c d all p q r s : ℕ) → Sliced word n a b c d all
     → p ≡ digitsOf (word n) 0 → q ≡ digitsOf (word n) 1 → r ≡ digitsOf (word n) 2 → s ≡ digitsOf (word n) 3
-    → Sliced word (n + 1) (bitOr a (p * 2 ^ (8 * n) % 2 ^ 64)) (bitOr b (q * 2 ^ (8 * n) % 2 ^ 64)) (bitOr c (r * 2 ^ (8 * n) % 2 ^ 64)) (bitOr d (s * 2 ^ (8 * n) % 2 ^ 64)) (bitOr all (word n))
+    → Sliced word (n + 1) (bitOr a (p * 2 ^ (8 * n) % 2 ^ 64)) (bitOr b (q * 2 ^ (8 * n) % 2 ^ 64)) (bitOr c (r * 2 ^ (8 * n) % 2 ^ 64))
+    (bitOr d (s * 2 ^ (8 * n) % 2 ^ 64)) (bitOr all (word n))
 sliced-next word n a b c d all p q r s t ep eq er es =
     record {
       first = stack-next (λ rank. digitsOf (word rank) 0) n (t .first) ep;
@@ -230,10 +234,12 @@ module _ (word d : ℕ) where
   pub gather : bitAnd (twice (twice (twice apart 7) 14) 28) 255 ≡ digitsOf word d
   unfolding digitsOf
   gather =
-      ext 8 (bitAnd (twice (twice (twice apart 7) 14) 28) 255) (those 8 (λ j. has word (8 * j + d))) (omega (arith, and-le-r (twice (twice (twice apart 7) 14) 28) 255)) (those-lt 8 (λ j. has word (8 * j + d)))
+      ext 8 (bitAnd (twice (twice (twice apart 7) 14) 28) 255) (those 8 (λ j. has word (8 * j + d)))
+      (omega (arith, and-le-r (twice (twice (twice apart 7) 14) 28) 255)) (those-lt 8 (λ j. has word (8 * j + d)))
       (λ k h.
       has-and (twice (twice (twice apart 7) 14) 28) 255 k
-      ∙ ap₂ (λ (s t : Bool). s && t) (all-eight k ∙ eight-same (has apart) (λ m. has mask m && has word (d + m)) apart-at k ∙ pick k h (λ m. has word (d + m))) (low-eight k h)
+      ∙ ap₂ (λ (s t : Bool). s && t) (all-eight k ∙ eight-same (has apart) (λ m. has mask m && has word (d + m)) apart-at k
+      ∙ pick k h (λ m. has word (d + m))) (low-eight k h)
       ∙ and-comm (has word (d + 8 * k)) true
       ∙ ap (has word) (let e : d + 8 * k ≡ 8 * k + d = omega arith in e)
       ∙ sym (has-those 8 (λ j. has word (8 * j + d)) k h))
@@ -277,7 +283,8 @@ module _ (bytes : List ℕ) (small : Rows bytes 8) where
       stacked-at (λ rank. highOf (rankWord bytes rank)) 4 k h
       ∙ has-or (bitOr w (w / 2 ^ 1)) (bitOr (w / 2 ^ 2) (w / 2 ^ 3)) m
       ∙ ap₂ (λ (s t : Bool). s || t)
-      (has-or w (w / 2 ^ 1) m ∙ ap₂ (λ (s t : Bool). s || t) (here k 4 h (omega arith)) (has-shr w 1 m ∙ ap (has w) (let e : 1 + m ≡ 8 * (k % 8) + 5 = omega arith in e) ∙ here k 5 h (omega arith)))
+      (has-or w (w / 2 ^ 1) m ∙ ap₂ (λ (s t : Bool). s || t) (here k 4 h (omega arith))
+      (has-shr w 1 m ∙ ap (has w) (let e : 1 + m ≡ 8 * (k % 8) + 5 = omega arith in e) ∙ here k 5 h (omega arith)))
       (has-or (w / 2 ^ 2) (w / 2 ^ 3) m
       ∙ ap₂ (λ (s t : Bool). s || t)
       (has-shr w 2 m ∙ ap (has w) (let e : 2 + m ≡ 8 * (k % 8) + 6 = omega arith in e) ∙ here k 6 h (omega arith))
@@ -313,7 +320,8 @@ module _ (bytes : List ℕ) (small : Rows bytes 8) where
         (ap₂ (λ (s t : Bool). s || t) (unset k 6 h (omega arith) (omega arith)) (unset k 7 h (omega arith) (omega arith)))))
 
   byte-at : (k : ℕ) → k < 64 → getD bytes k 0 < 256
-  byte-at k h = subst (λ (i : ℕ). getD bytes i 0 < 256) (let e : 8 * (k / 8) + k % 8 ≡ k = omega arith in e) (small .rows (k / 8) (omega arith) .each (k % 8) (omega arith))
+  byte-at k h = subst (λ (i : ℕ). getD bytes i 0 < 256) (let e : 8 * (k / 8) + k % 8 ≡ k = omega arith in e)
+      (small .rows (k / 8) (omega arith) .each (k % 8) (omega arith))
 
 -- ---- the place of a byte by its digits: one test over all bytes
 abbrev byDigits : ℕ → ℕ
@@ -324,20 +332,30 @@ unfolding allBelow has
 by-digits b h = eqb→eq (byDigits b) (tablePlace b) (all-at 256 (λ c. eqb (byDigits c) (tablePlace c)) tt b h)
 
 sorted-by : (bytes : List ℕ) → Rows bytes 8
-    → placesBy (has (digitPlane bytes 0)) (has (digitPlane bytes 1)) (has (digitPlane bytes 2)) (has (digitPlane bytes 3)) (has (beyondOf bytes)) ≡ sortedBy bytes
+    → placesBy (has (digitPlane bytes 0)) (has (digitPlane bytes 1)) (has (digitPlane bytes 2)) (has (digitPlane bytes 3)) (has (beyondOf bytes))
+    ≡ sortedBy bytes
 unfolding sortedBy
 sorted-by bytes small =
-    let f : ℕ → ℕ = λ k. placeBy (has (digitPlane bytes 0) k) (has (digitPlane bytes 1) k) (has (digitPlane bytes 2) k) (has (digitPlane bytes 3) k) (has (beyondOf bytes) k) in
+    let f : ℕ → ℕ = λ k. placeBy (has (digitPlane bytes 0) k) (has (digitPlane bytes 1) k) (has (digitPlane bytes 2) k) (has (digitPlane bytes 3) k)
+    (has (beyondOf bytes) k) in
     tabulate-same 15 (λ place. those 64 (λ k. eqb (f k) place)) (λ place. those 64 (λ k. eqb (tablePlace (getD bytes k 0)) place))
     (λ place hp. those-same (λ k. eqb (f k) place) (λ k. eqb (tablePlace (getD bytes k 0)) place) (λ k hk. ap (λ (p : ℕ). eqb p place) (at k hk)))
   where
     at : (k : ℕ) → k < 64
-        → placeBy (has (digitPlane bytes 0) k) (has (digitPlane bytes 1) k) (has (digitPlane bytes 2) k) (has (digitPlane bytes 3) k) (has (beyondOf bytes) k) ≡ tablePlace (getD bytes k 0)
+        → placeBy (has (digitPlane bytes 0) k) (has (digitPlane bytes 1) k) (has (digitPlane bytes 2) k) (has (digitPlane bytes 3) k)
+        (has (beyondOf bytes) k) ≡ tablePlace (getD bytes k 0)
     at k h =
-        rw (plane-at bytes small k 0 h (omega arith), plane-at bytes small k 1 h (omega arith), plane-at bytes small k 2 h (omega arith), plane-at bytes small k 3 h (omega arith), beyond-at bytes small k h)
+        rw (
+          plane-at bytes small k 0 h (omega arith),
+          plane-at bytes small k 1 h (omega arith),
+          plane-at bytes small k 2 h (omega arith),
+          plane-at bytes small k 3 h (omega arith),
+          beyond-at bytes small k h,
+        )
         (by-digits (getD bytes k 0) (byte-at bytes small k h))
 
-pub sorted-from : (bytes : List ℕ) → Rows bytes 8 → (a b c d h : ℕ) → a ≡ digitPlane bytes 0 → b ≡ digitPlane bytes 1 → c ≡ digitPlane bytes 2 → d ≡ digitPlane bytes 3 → h ≡ beyondOf bytes
+pub sorted-from : (bytes : List ℕ) → Rows bytes 8 → (a b c d h : ℕ) → a ≡ digitPlane bytes 0 → b ≡ digitPlane bytes 1 → c ≡ digitPlane bytes 2
+    → d ≡ digitPlane bytes 3 → h ≡ beyondOf bytes
     → placesBy (has a) (has b) (has c) (has d) (has h) ≡ sortedBy bytes
 sorted-from bytes small a b c d h ea eb ec ed eh = rw (ea, eb, ec, ed, eh) (sorted-by bytes small)
 
@@ -435,7 +453,8 @@ module _ (xa xb xc xd xh : ℕ) (fa : xa < 2 ^ 64) (fb : xb < 2 ^ 64) (fc : xc <
   place k = placeBy (has xa k) (has xb k) (has xc k) (has xd k) (has xh k)
 
   five : (sa sb sc sd : Bool) → (sd && (sc && sb)) ≡ false
-      → bitAnd (bitAnd (bitAnd (bitAnd (sign false xh) (sign sd xd)) (sign sc xc)) (sign sb xb)) (sign sa xa) ≡ those 64 (λ k. eqb (place k) (codeBy sa sb sc sd))
+      → bitAnd (bitAnd (bitAnd (bitAnd (sign false xh) (sign sd xd)) (sign sc xc)) (sign sb xb)) (sign sa xa)
+      ≡ those 64 (λ k. eqb (place k) (codeBy sa sb sc sd))
   five sa sb sc sd ok =
       is-those (bitAnd (bitAnd (bitAnd (bitAnd (sign false xh) (sign sd xd)) (sign sc xc)) (sign sb xb)) (sign sa xa)) (λ k. eqb (place k) (codeBy sa sb sc sd))
       (and-lt 64 (bitAnd (bitAnd (bitAnd (sign false xh) (sign sd xd)) (sign sc xc)) (sign sb xb)) (sign sa xa)
@@ -456,11 +475,14 @@ module _ (xa xb xc xd xh : ℕ) (fa : xa < 2 ^ 64) (fb : xb < 2 ^ 64) (fc : xc <
       ∙ told k)
     where
       told : (k : ℕ)
-          → ((((Bool·beq false (has xh k) && Bool·beq sd (has xd k)) && Bool·beq sc (has xc k)) && Bool·beq sb (has xb k)) && Bool·beq sa (has xa k)) ≡ eqb (place k) (codeBy sa sb sc sd)
+          → ((((Bool·beq false (has xh k) && Bool·beq sd (has xd k)) && Bool·beq sc (has xc k)) && Bool·beq sb (has xb k)) && Bool·beq sa (has xa k))
+          ≡ eqb (place k) (codeBy sa sb sc sd)
       told k =
-          let all : Bool = (((Bool·beq false (has xh k) && Bool·beq sd (has xd k)) && Bool·beq sc (has xc k)) && Bool·beq sb (has xb k)) && Bool·beq sa (has xa k) in
+          let all : Bool = (((Bool·beq false (has xh k) && Bool·beq sd (has xd k)) && Bool·beq sc (has xc k)) && Bool·beq sb (has xb k))
+          && Bool·beq sa (has xa k) in
           is-beq all (eqb (place k) (codeBy sa sb sc sd))
-          (subst (λ (t : Bool). T (t || Bool·beq all (eqb (place k) (codeBy sa sb sc sd)))) ok (at9 says says-all sa sb sc sd (has xa k) (has xb k) (has xc k) (has xd k) (has xh k)))
+          (subst (λ (t : Bool). T (t || Bool·beq all (eqb (place k) (codeBy sa sb sc sd)))) ok
+          (at9 says says-all sa sb sc sd (has xa k) (has xb k) (has xc k) (has xd k) (has xh k)))
 
   others-say : T (every5 (λ a b c d h. Bool·beq (h || ((d && c) && b)) (eqb (placeBy a b c d h) 14)))
   others-say = tt

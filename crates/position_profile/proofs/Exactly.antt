@@ -30,7 +30,8 @@ module _ (bbs : List ℕ) (state : State) where
   -- an answer after the profile is a refusal, or what comes next
   pub either : {A : Type 0} (rest : Answer A) (P : Answer A → Type 0) → ((r : Refusal) → P (refusalOf r)) → P rest → P (orProfile bbs state rest)
   unfolding orProfile
-  either {A} rest P out on = go (ofBoth (oneKing bbs)) (ofBoth (fewPawns bbs)) (ofBoth (fewPieces bbs)) (allBelow 64 (offEnds bbs)) (isCheck bbs (justMoved state))
+  either {A} rest P out on = go (ofBoth (oneKing bbs)) (ofBoth (fewPawns bbs)) (ofBoth (fewPieces bbs)) (allBelow 64 (offEnds bbs))
+      (isCheck bbs (justMoved state))
     where
       go : (k p m r t : Bool) → P (by rest k p m r t)
       go true true true true false = on
@@ -44,7 +45,8 @@ module _ (bbs : List ℕ) (state : State) where
   pub carried : {A B : Type 0} (f : Answer A → Answer B) → ((r : Refusal) → f (refusalOf r) ≡ refusalOf r) → (rest : Answer A)
       → f (orProfile bbs state rest) ≡ orProfile bbs state (f rest)
   unfolding orProfile
-  carried {A} {B} f same rest = go (ofBoth (oneKing bbs)) (ofBoth (fewPawns bbs)) (ofBoth (fewPieces bbs)) (allBelow 64 (offEnds bbs)) (isCheck bbs (justMoved state))
+  carried {A} {B} f same rest = go (ofBoth (oneKing bbs)) (ofBoth (fewPawns bbs)) (ofBoth (fewPieces bbs)) (allBelow 64 (offEnds bbs))
+      (isCheck bbs (justMoved state))
     where
       go : (k p m r t : Bool) → f (by rest k p m r t) ≡ by (f rest) k p m r t
       go true true true true false = refl
@@ -72,9 +74,11 @@ module _ (bbs : List ℕ) (state : State) where
   pub exactly : PassesExactly bbs state
   unfolding orProfile
   exactly = record {
-    passes = λ a b e. gone a b (ofBoth (oneKing bbs)) refl (ofBoth (fewPawns bbs)) refl (ofBoth (fewPieces bbs)) refl (allBelow 64 (offEnds bbs)) refl (isCheck bbs (justMoved state)) refl e;
+    passes = λ a b e. gone a b (ofBoth (oneKing bbs)) refl (ofBoth (fewPawns bbs)) refl (ofBoth (fewPieces bbs)) refl (allBelow 64 (offEnds bbs)) refl
+        (isCheck bbs (justMoved state)) refl e;
     all-hold = λ rest f.
         ap₂ (λ (k p : Bool). by rest k p (ofBoth (fewPieces bbs)) (allBelow 64 (offEnds bbs)) (isCheck bbs (justMoved state))) (f .kings) (f .pawns)
-        ∙ ap₂ (λ (m r : Bool). by rest true true m r (isCheck bbs (justMoved state))) (f .pieces) (T-true (allBelow 64 (offEnds bbs)) (all-of 64 (offEnds bbs) (λ k h. true-T (f .ranks .holds k h))))
+        ∙ ap₂ (λ (m r : Bool). by rest true true m r (isCheck bbs (justMoved state))) (f .pieces)
+        (T-true (allBelow 64 (offEnds bbs)) (all-of 64 (offEnds bbs) (λ k h. true-T (f .ranks .holds k h))))
         ∙ ap (by rest true true true true) (f .quiet);
   }

@@ -50,6 +50,8 @@ orders-are = refl
 abbrev rookBoards : List ℕ
 rookBoards = 0x1010 ∷ 0x1000000000000000 ∷ 0 ∷ 0 ∷ 0 ∷ 0 ∷ 0x10 ∷ 0x1000000000000000 ∷ 0 ∷ 0 ∷ 0x1000 ∷ 0 ∷ 0 ∷ 0 ∷ []
 
-left-in-check : orProfile {A = ℕ} rookBoards (ofSide 1) (given 11) ∷ orProfile {A = ℕ} rookBoards (ofSide 0) (given 11) ∷ [] ≡ given 11 ∷ refused 28 (60 ∷ []) ∷ []
-unfolding orProfile oneKing fewPawns fewPieces count lowestWrong firstFrom allBelow howMany has isCheck isAttacked attackers lowestOf occupied some those reached board seen isIn
+left-in-check : orProfile {A = ℕ} rookBoards (ofSide 1) (given 11) ∷ orProfile {A = ℕ} rookBoards (ofSide 0) (given 11) ∷ [] ≡ given 11
+    ∷ refused 28 (60 ∷ []) ∷ []
+unfolding orProfile oneKing fewPawns fewPieces count lowestWrong firstFrom allBelow howMany has isCheck isAttacked attackers lowestOf occupied some
+    those reached board seen isIn
 left-in-check = refl

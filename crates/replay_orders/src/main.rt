@@ -1,4 +1,5 @@
-// Answers the oracle's questions with an order of the kinds on standard input, one a line: the file stdout holds what the reference answered (oracle/README.md).
+// Answers the oracle's questions with an order of the kinds on standard input, one a line: the file stdout holds what the reference answered
+// (oracle/README.md).
 use crate::reply::Reply;
 use chess::kind::Kind;
 use exchange::Exchanged;

@@ -47,7 +47,8 @@ module _ (s front : List ℕ) (n m : ℕ) (e : front ≡ before space s) (d : n 
 
   picked : (t : Bool) → eqb m 0 ≡ t → cond t (negativeBits n) n ≡ leadingNumber s
   unfolding leadingNumber
-  picked t q = ap (λ (k : ℕ). cond t (negativeBits k) k) read ∙ ap (λ (u : Bool). cond u (negativeBits (digits 0 (before space s))) (digits 0 (before space s))) (sym q ∙ ap (λ (k : ℕ). eqb k 0) f)
+  picked t q = ap (λ (k : ℕ). cond t (negativeBits k) k) read ∙ ap (λ (u : Bool). cond u (negativeBits (digits 0 (before space s)))
+      (digits 0 (before space s))) (sym q ∙ ap (λ (k : ℕ). eqb k 0) f)
 
   pub minus-first : m ≡ 0 → negativeBits n ≡ leadingNumber s
   minus-first h = picked true (eq-eqb m 0 h)

@@ -39,7 +39,8 @@ later (suc n) s = later n (after space s)
 -- the five parts after the word
 unfoldable pub numbersOf : List ℕ → List ℕ
 unfolding later leadingNumber
-numbersOf question = leadingNumber (later 1 question) ∷ leadingNumber (later 2 question) ∷ leadingNumber (later 3 question) ∷ leadingNumber (later 4 question) ∷ leadingNumber (later 5 question) ∷ []
+numbersOf question = leadingNumber (later 1 question) ∷ leadingNumber (later 2 question) ∷ leadingNumber (later 3 question)
+    ∷ leadingNumber (later 4 question) ∷ leadingNumber (later 5 question) ∷ []
 
 -- with a part before a text: the part where a slash comes next, else the text's own part with one
 unfoldable pub slashed : List ℕ → List ℕ → List ℕ

@@ -35,7 +35,8 @@ record Goes (m : CutSoFar Sum) (p : Piece) (line′ : List ℕ) : Type 0 where
   piece : p ≡ T.Lines (gatheredOf m)
   kept : line′ ≡ m .left .line
 
-goes : (g : Gathered) (line chunk : List ℕ) (p : Piece) (line′ : List ℕ) → length line ≡ 256 → Gathers g line chunk p line′ → Goes (runBy closeMore (opened (g .begun) line) (g .sum) chunk) p line′
+goes : (g : Gathered) (line chunk : List ℕ) (p : Piece) (line′ : List ℕ) → length line ≡ 256 → Gathers g line chunk p line′
+    → Goes (runBy closeMore (opened (g .begun) line) (g .sum) chunk) p line′
 goes g line chunk p line′ size f =
     let m : CutSoFar Sum = runBy closeMore (opened (g .begun) line) (g .sum) chunk in
     let e : gatherOf g line chunk ≡ given m = ap (λ (t : Bool). orRefuse t R.Shape (given m)) (eq-eqb (length line) 256 size) in
@@ -46,18 +47,21 @@ goes g line chunk p line′ size f =
 
 ends : (g : Gathered) (line : List ℕ) → length line ≡ 256 → endOf g line ≡ outcomeOf (endBy closeMore (record { left = opened (g .begun) line; kept = g .sum }))
 ends g line size =
-    ap (λ (t : Bool). orRefuse t R.Shape (outcomeOf (endBy closeMore (record { left = opened (g .begun) line; kept = g .sum })))) (eq-eqb (length line) 256 size)
+    ap (λ (t : Bool). orRefuse t R.Shape (outcomeOf (endBy closeMore (record { left = opened (g .begun) line; kept = g .sum }))))
+    (eq-eqb (length line) 256 size)
 
 -- ---- one call after another: whatever is done last finds what the machine leaves of the whole input
 pub come : (last : Gathered → List ℕ → Type 0) (g : Gathered) (line : List ℕ) (calls : List PieceCall) → length line ≡ 256 → PiecesThen last g line calls
-    → last (gatheredOf (runBy closeMore (opened (g .begun) line) (g .sum) (wholeInput calls))) (runBy closeMore (opened (g .begun) line) (g .sum) (wholeInput calls) .left .line)
+    → last (gatheredOf (runBy closeMore (opened (g .begun) line) (g .sum) (wholeInput calls)))
+    (runBy closeMore (opened (g .begun) line) (g .sum) (wholeInput calls) .left .line)
 unfolding runBy PiecesThen wholeInput
 come last g line [] size made = made
 come last g line (c ∷ cs) size made =
     let m : CutSoFar Sum = runBy closeMore (opened (g .begun) line) (g .sum) (c .chunk) in
     let k = goes g line (c .chunk) (c .piece) (c .line′) size (made .0) in
     let rest : PiecesThen last (gatheredOf m) (m .left .line) cs =
-    subst (λ (l : List ℕ). PiecesThen last (gatheredOf m) l cs) (k .kept) (subst (λ (p : Piece). PiecesThen last (handedOn p g) (c .line′) cs) (k .piece) (made .1)) in
+    subst (λ (l : List ℕ). PiecesThen last (gatheredOf m) l cs) (k .kept)
+    (subst (λ (p : Piece). PiecesThen last (handedOn p g) (c .line′) cs) (k .piece) (made .1)) in
     subst (λ (x : CutSoFar Sum). last (gatheredOf x) (x .left .line)) (sym (run-append closeMore (opened (g .begun) line) (g .sum) (c .chunk) (wholeInput cs)))
     (come last (gatheredOf m) (m .left .line) cs (run-size closeMore (opened (g .begun) line) (g .sum) (c .chunk) ∙ size) rest)
 

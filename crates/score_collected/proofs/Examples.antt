@@ -20,7 +20,8 @@ use Rattle.score_collected.specs.Collected.{shownIn, collectedOf}
 
 -- scores 117 with White to move and a win, −95 with Black to move and a draw; a verdict; a line with no result
 collected : List ℕ → Answer (Totals × ℕ)
-unfolding linesFrom endsInCR shownIn scoredIn apartIn sumIn refusedIn table lineOf fieldsSay every holds before after without withoutLast trim placeIn areRanks stacked nthWord rightsFit passantFits countersFitFields stateSaid scoreOf tabulate bitboardsOf
+unfolding linesFrom endsInCR shownIn scoredIn apartIn sumIn refusedIn table lineOf fieldsSay every holds before after without withoutLast trim placeIn
+    areRanks stacked nthWord rightsFit passantFits countersFitFields stateSaid scoreOf tabulate bitboardsOf
 collected input = collectedOf input
 
 paper :

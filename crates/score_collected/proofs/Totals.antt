@@ -75,26 +75,32 @@ joined-past (refused n v) k h = refl
 joined-within : (u : Totals) (k : ℕ) → k < 2 ^ 64 → given (u, k) ≡ joined (given u) k
 joined-within u k h = sym (ap (λ (t : Bool). orRefuse t R.Many (given (u, k))) (lt-ltb k (2 ^ 64) h))
 
-on : (ls : List (List ℕ)) (t : Totals) (n : ℕ) → n < 2 ^ 64 → outcomeOf (foldLines more (sumOf t n false) ls) ≡ joined (addAll t (shownIn ls)) (n + refusedIn P.Any ls)
+on : (ls : List (List ℕ)) (t : Totals) (n : ℕ) → n < 2 ^ 64 → outcomeOf (foldLines more (sumOf t n false) ls)
+    ≡ joined (addAll t (shownIn ls)) (n + refusedIn P.Any ls)
 unfolding addAll shownIn foldLines refusedIn
 on [] t n h = joined-within t n h ∙ ap (joined (given t)) (let s : n ≡ n + 0 = omega arith in s)
 on (l ∷ ls) t n h = go (lineOf l) (on ls)
   where
-    go : (a : Answer Line) → ((u : Totals) (k : ℕ) → k < 2 ^ 64 → outcomeOf (foldLines more (sumOf u k false) ls) ≡ joined (addAll u (shownIn ls)) (k + refusedIn P.Any ls))
-        → outcomeOf (foldLines more (lineMore (sumOf t n false) a) ls) ≡ joined (addAll t (shownBefore a (shownIn ls))) (n + (cond (isLoaded a) 0 1 + refusedIn P.Any ls))
+    go : (a : Answer Line) → ((u : Totals) (k : ℕ) → k < 2 ^ 64 → outcomeOf (foldLines more (sumOf u k false) ls)
+        ≡ joined (addAll u (shownIn ls)) (k + refusedIn P.Any ls))
+        → outcomeOf (foldLines more (lineMore (sumOf t n false) a) ls)
+        ≡ joined (addAll t (shownBefore a (shownIn ls))) (n + (cond (isLoaded a) 0 1 + refusedIn P.Any ls))
     go (refused k v) f = room (ltb (n + 1) (2 ^ 64)) refl
       where
         room : (b : Bool) → ltb (n + 1) (2 ^ 64) ≡ b
             → outcomeOf (foldLines more (cond b (sumOf t (n + 1) false) (sumOf t n true)) ls) ≡ joined (addAll t (shownIn ls)) (n + (1 + refusedIn P.Any ls))
         room true e =
-            f t (n + 1) (ltb-true (n + 1) (2 ^ 64) e) ∙ ap (joined (addAll t (shownIn ls))) (let s : n + 1 + refusedIn P.Any ls ≡ n + (1 + refusedIn P.Any ls) = omega arith in s)
-        room false e = full-stays ls t n ∙ joined-past (addAll t (shownIn ls)) (n + (1 + refusedIn P.Any ls)) (past (refusedIn P.Any ls) (ltb-false (n + 1) (2 ^ 64) e))
+            f t (n + 1) (ltb-true (n + 1) (2 ^ 64) e) ∙ ap (joined (addAll t (shownIn ls)))
+            (let s : n + 1 + refusedIn P.Any ls ≡ n + (1 + refusedIn P.Any ls) = omega arith in s)
+        room false e = full-stays ls t n ∙ joined-past (addAll t (shownIn ls)) (n + (1 + refusedIn P.Any ls))
+            (past (refusedIn P.Any ls) (ltb-false (n + 1) (2 ^ 64) e))
           where
             past : (r : ℕ) → 2 ^ 64 ≤ n + 1 → 2 ^ 64 ≤ n + (1 + r)
             past r q = omega arith
     go (given x) f = took (totalsWith t (x .state .side) (scoreOf (bitboardsOf (x .board)) (x .state)) (x .half))
       where
-        took : (a : Answer Totals) → outcomeOf (foldLines more (noted (sumOf t n false) a) ls) ≡ joined (goOn a (λ u. addAll u (shownIn ls))) (n + (0 + refusedIn P.Any ls))
+        took : (a : Answer Totals) → outcomeOf (foldLines more (noted (sumOf t n false) a) ls)
+            ≡ joined (goOn a (λ u. addAll u (shownIn ls))) (n + (0 + refusedIn P.Any ls))
         took (given u) = f u n h ∙ ap (joined (addAll u (shownIn ls))) (let s : n + refusedIn P.Any ls ≡ n + (0 + refusedIn P.Any ls) = omega arith in s)
         took (refused k v) = full-stays ls t n
 

@@ -31,7 +31,8 @@ unfoldable pub shownIn : List (List ℕ) → List LoadedLine
 shownIn [] = []
 shownIn (l ∷ ls) = shownBefore (lineOf l) (shownIn ls)
 
--- THE TOTALS OF A COLLECTION: each worked out afresh from its lines, and how many lines were refused; "22 MANY at the 1,000,001st of either kind or past 64 bits"
+-- THE TOTALS OF A COLLECTION: each worked out afresh from its lines, and how many lines were refused; "22 MANY at the 1,000,001st of either kind or
+-- past 64 bits"
 abbrev pub collectionTotals : List (List ℕ) → Answer (Totals × ℕ)
 collectionTotals ls =
     orRefuse ((leb (scoredIn (shownIn ls)) 1000000 && leb (apartIn (shownIn ls)) 1000000) && ltb (refusedIn P.Any ls) (2 ^ 64)) R.Many

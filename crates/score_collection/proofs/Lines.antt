@@ -79,7 +79,8 @@ comes-sum sum e = sym (ap (λ (t : Bool). orRefuse (not t) R.Many (given (sum .t
 module _ (gathered : Gathered) (line chunk : List ℕ) where
   pub feed-shape : (length line ≡ 256 → ⊥) → Gathers gathered line chunk (T.Refused R.Shape) line
   feed-shape n =
-      let e : gatherOf gathered line chunk ≡ refusalOf R.Shape = ap (λ (t : Bool). orRefuse t R.Shape (given (runBy closeMore (opened (gathered .begun) line) (gathered .sum) chunk))) (ne-eqb (length line) 256 n) in
+      let e : gatherOf gathered line chunk ≡ refusalOf R.Shape = ap (λ (t : Bool). orRefuse t R.Shape
+      (given (runBy closeMore (opened (gathered .begun) line) (gathered .sum) chunk))) (ne-eqb (length line) 256 n) in
       record { answer = sym (ap gatheredIn e); kept = sym (ap (λ (a : Answer (CutSoFar Sum)). lineKept a line) e) }
 
   pub feed-lines : length line ≡ 256 → (r : Gathered) (line′ : List ℕ) → r ≡ gatheredOf (runBy closeMore (opened (gathered .begun) line) (gathered .sum) chunk)
@@ -90,7 +91,10 @@ module _ (gathered : Gathered) (line chunk : List ℕ) where
       record { answer = ap given p ∙ sym (ap gatheredIn e); kept = q ∙ sym (ap (λ (a : Answer (CutSoFar Sum)). lineKept a line) e) }
 
   pub end-shape : (length line ≡ 256 → ⊥) → EndsCollection gathered line (E.Refused R.Shape)
-  end-shape n = sym (ap (λ (t : Bool). orRefuse t R.Shape (outcomeOf (endBy closeMore (record { left = opened (gathered .begun) line; kept = gathered .sum })))) (ne-eqb (length line) 256 n))
+  end-shape n = sym (ap (λ (t : Bool). orRefuse t R.Shape (outcomeOf (endBy closeMore
+      (record { left = opened (gathered .begun) line; kept = gathered .sum })))) (ne-eqb (length line) 256 n))
 
-  pub end-sum : length line ≡ 256 → (a : Answer (Totals × ℕ)) → a ≡ outcomeOf (endBy closeMore (record { left = opened (gathered .begun) line; kept = gathered .sum })) → a ≡ endOf gathered line
-  end-sum h a p = p ∙ sym (ap (λ (t : Bool). orRefuse t R.Shape (outcomeOf (endBy closeMore (record { left = opened (gathered .begun) line; kept = gathered .sum })))) (eq-eqb (length line) 256 h))
+  pub end-sum : length line ≡ 256 → (a : Answer (Totals × ℕ)) → a ≡ outcomeOf
+      (endBy closeMore (record { left = opened (gathered .begun) line; kept = gathered .sum })) → a ≡ endOf gathered line
+  end-sum h a p = p ∙ sym (ap (λ (t : Bool). orRefuse t R.Shape (outcomeOf
+      (endBy closeMore (record { left = opened (gathered .begun) line; kept = gathered .sum })))) (eq-eqb (length line) 256 h))

@@ -27,8 +27,10 @@ same = retract addedPaper from back
 pub start : (r s : Totals) → StartsTotals r → StartsTotals s → r ≡ s
 start r s = one
 
-pub add : (totals : Totals) (side : ℕ) (answer : Scored) (half : ℕ) (r s : Added) → AddsLine totals side answer half r → AddsLine totals side answer half s → r ≡ s
+pub add : (totals : Totals) (side : ℕ) (answer : Scored) (half : ℕ) (r s : Added) → AddsLine totals side answer half r
+    → AddsLine totals side answer half s → r ≡ s
 add totals side answer half r s p q = same r s (one p q)
 
-pub add-with : (t : List ℕ) (totals : Totals) (side : ℕ) (answer : Scored) (half : ℕ) (r s : Added) → AddsWith t totals side answer half r → AddsWith t totals side answer half s → r ≡ s
+pub add-with : (t : List ℕ) (totals : Totals) (side : ℕ) (answer : Scored) (half : ℕ) (r s : Added) → AddsWith t totals side answer half r
+    → AddsWith t totals side answer half s → r ≡ s
 add-with t totals side answer half r s p q = same r s (one p q)

@@ -18,16 +18,20 @@ unfolding table
 turned = refl
 
 -- White to move, 117, and White won: 660,999 is 339,001 from a million. A verdict and `over` stand apart
-kinds : totalsWith (three 4 7 9) 0 (given (score (pos 117))) 2 ∷ totalsWith (three 4 7 9) 0 (given (verdict won)) 0 ∷ totalsWith (three 4 7 9) 1 (refused 3 []) 1 ∷ []
+kinds : totalsWith (three 4 7 9) 0 (given (score (pos 117))) 2 ∷ totalsWith (three 4 7 9) 0 (given (verdict won)) 0
+    ∷ totalsWith (three 4 7 9) 1 (refused 3 []) 1 ∷ []
     ≡ given (three 5 7 114921678010) ∷ given (three 4 8 9) ∷ given (three 4 8 9) ∷ []
 unfolding table
 kinds = refl
 
 -- the millionth of its kind, and the 1,000,001st; a sum that 64 bits just hold, and one more; SHAPE before RESULT before MANY
-refusals : totalsWith (three 999999 0 0) 0 (given (score (pos 0))) 1 ∷ totalsWith (three 1000000 0 0) 0 (given (score (pos 0))) 1 ∷ totalsWith (three 1000000 0 0) 0 (given (verdict won)) 1
+refusals : totalsWith (three 999999 0 0) 0 (given (score (pos 0))) 1 ∷ totalsWith (three 1000000 0 0) 0 (given (score (pos 0))) 1
+    ∷ totalsWith (three 1000000 0 0) 0 (given (verdict won)) 1
     ∷ totalsWith (three 0 0 18446744073676408566) 1 (given (score (pos 3))) 1 ∷ totalsWith (three 0 0 18446744073676408567) 1 (given (score (pos 3))) 1
-    ∷ totalsWith (three 0 1000000 0) 2 (refused 3 []) 3 ∷ totalsWith (three 0 1000000 0) 1 (refused 3 []) 3 ∷ totalsWith (three 0 1000000 0) 1 (refused 3 []) 2 ∷ []
-    ≡ given (three 1000000 0 0) ∷ refused 22 [] ∷ given (three 1000000 1 0) ∷ given (three 1 0 18446744073709551615) ∷ refused 22 [] ∷ refused 1 [] ∷ refused 13 [] ∷ refused 22 [] ∷ []
+    ∷ totalsWith (three 0 1000000 0) 2 (refused 3 []) 3 ∷ totalsWith (three 0 1000000 0) 1 (refused 3 []) 3
+    ∷ totalsWith (three 0 1000000 0) 1 (refused 3 []) 2 ∷ []
+    ≡ given (three 1000000 0 0) ∷ refused 22 [] ∷ given (three 1000000 1 0) ∷ given (three 1 0 18446744073709551615) ∷ refused 22 [] ∷ refused 1 []
+    ∷ refused 13 [] ∷ refused 22 [] ∷ []
 unfolding table
 refusals = refl
 

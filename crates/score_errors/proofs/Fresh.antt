@@ -44,7 +44,12 @@ sum-most (l ∷ ls) e =
     let t : T ((ltb (l .side) 2 && ltb (l .half) 3) && wellLoaded ls) = true-T e in
     let w : T (ltb (l .side) 2 && ltb (l .half) 3) = and-l (ltb (l .side) 2 && ltb (l .half) 3) (wellLoaded ls) t in
     let h : l .half < 3 = ltb→lt (l .half) 3 (and-r (ltb (l .side) 2) (ltb (l .half) 3) w) in
-    omega (arith, squared-most (l .side) (l .half) (l .answer) h, sum-most ls (T-true (wellLoaded ls) (and-r (ltb (l .side) 2 && ltb (l .half) 3) (wellLoaded ls) t)))
+    omega (
+      arith,
+      squared-most (l .side) (l .half) (l .answer) h,
+      sum-most ls
+          (T-true (wellLoaded ls) (and-r (ltb (l .side) 2 && ltb (l .half) 3) (wellLoaded ls) t)),
+    )
 
 -- ---- what a list comes to from totals on: the sums, or MANY by the counts alone
 abbrev pub three : ℕ → ℕ → ℕ → Totals
@@ -80,7 +85,8 @@ kept t s a m = counts (t .scored + s) (t .apart + a) (t .sum + m)
 
 -- a line with a score, and then the rest
 scored-on : (t : Totals) (q s a m : ℕ) (rest : Totals → Answer Totals) → Met t → q ≤ 1000000000000
-    → (Met (three (t .scored + 1) (t .apart) (t .sum + q)) → rest (three (t .scored + 1) (t .apart) (t .sum + q)) ≡ kept (three (t .scored + 1) (t .apart) (t .sum + q)) s a m)
+    → (Met (three (t .scored + 1) (t .apart) (t .sum + q)) → rest (three (t .scored + 1) (t .apart) (t .sum + q))
+    ≡ kept (three (t .scored + 1) (t .apart) (t .sum + q)) s a m)
     → goOn (scoredOf t q) rest ≡ kept t (1 + s) a (q + m)
 scored-on t q s a m rest h k f = go (ltb (t .scored) 1000000) refl
   where
@@ -97,7 +103,8 @@ scored-on t q s a m rest h k f = go (ltb (t .scored) 1000000) refl
 
 -- a line apart, and then the rest
 apart-on : (t : Totals) (s a m : ℕ) (rest : Totals → Answer Totals) → Met t
-    → (Met (three (t .scored) (t .apart + 1) (t .sum)) → rest (three (t .scored) (t .apart + 1) (t .sum)) ≡ kept (three (t .scored) (t .apart + 1) (t .sum)) s a m)
+    → (Met (three (t .scored) (t .apart + 1) (t .sum)) → rest (three (t .scored) (t .apart + 1) (t .sum))
+    ≡ kept (three (t .scored) (t .apart + 1) (t .sum)) s a m)
     → goOn (apartOf t) rest ≡ kept t (0 + s) (1 + a) (0 + m)
 apart-on t s a m rest h f = go (ltb (t .apart) 1000000) refl
   where
@@ -106,10 +113,12 @@ apart-on t s a m rest h f = go (ltb (t .apart) 1000000) refl
         let l : t .apart < 1000000 = ltb-true (t .apart) 1000000 e in
         let w : Met (three (t .scored) (t .apart + 1) (t .sum)) = record { scored = h .scored; apart = omega arith; sum = h .sum } in
         ap (λ (x : Answer Totals). goOn x rest) (sym (one-apart t l)) ∙ f w
-        ∙ same (t .scored + s) (t .apart + 1 + a) (t .sum + m) (t .scored + (0 + s)) (t .apart + (1 + a)) (t .sum + (0 + m)) (omega arith) (omega arith) (omega arith)
+        ∙ same (t .scored + s) (t .apart + 1 + a) (t .sum + m) (t .scored + (0 + s)) (t .apart + (1 + a)) (t .sum + (0 + m)) (omega arith)
+        (omega arith) (omega arith)
     go false e =
         let l : 1000000 ≤ t .apart = ltb-false (t .apart) 1000000 e in
-        ap (λ (x : Answer Totals). goOn x rest) (sym (many-apart t l)) ∙ too-many-apart (t .scored + (0 + s)) (t .apart + (1 + a)) (t .sum + (0 + m)) (omega arith)
+        ap (λ (x : Answer Totals). goOn x rest) (sym (many-apart t l))
+        ∙ too-many-apart (t .scored + (0 + s)) (t .apart + (1 + a)) (t .sum + (0 + m)) (omega arith)
 
 -- one line of any kind, and then the rest
 line-on : (t : Totals) (side half : ℕ) (answer : Answer Outcome) (s a m : ℕ) (rest : Totals → Answer Totals) → Met t → side < 2 → half < 3
@@ -117,8 +126,10 @@ line-on : (t : Totals) (side half : ℕ) (answer : Answer Outcome) (s a m : ℕ)
     → goOn (totalsWith t side answer half) rest ≡ kept t (isScored answer + s) (isApart answer + a) (squared side answer half + m)
 line-on t side half (given (score z)) s a m rest h i k f =
     ap (λ (x : Answer Totals). goOn x rest) (sym (both table t side half (given (score z)) i k))
-    ∙ scored-on t (squareWith table side z half) s a m rest h (square-most side half z k) (f (three (t .scored + 1) (t .apart) (t .sum + squareWith table side z half)))
-    ∙ same (t .scored + (1 + s)) (t .apart + a) (t .sum + (squareWith table side z half + m)) (t .scored + (1 + s)) (t .apart + (0 + a)) (t .sum + (squareWith table side z half + m)) refl (omega arith) refl
+    ∙ scored-on t (squareWith table side z half) s a m rest h (square-most side half z k)
+    (f (three (t .scored + 1) (t .apart) (t .sum + squareWith table side z half)))
+    ∙ same (t .scored + (1 + s)) (t .apart + a) (t .sum + (squareWith table side z half + m)) (t .scored + (1 + s)) (t .apart + (0 + a))
+    (t .sum + (squareWith table side z half + m)) refl (omega arith) refl
 line-on t side half (given (verdict v)) s a m rest h i k f =
     ap (λ (x : Answer Totals). goOn x rest) (sym (both table t side half (given (verdict v)) i k))
     ∙ apart-on t s a m rest h (f (three (t .scored) (t .apart + 1) (t .sum)))

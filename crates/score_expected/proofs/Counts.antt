@@ -19,8 +19,16 @@ at-place z j k h e d =
 -- THE SCORE COUNTED, in document 02's words
 pub counts-as : (z : ℤ) → CountsAs z
 counts-as z = record {
-  below = λ h. at-place z (negsuc 399) 0 (omega arith) (omega (arith, place-is z, le-diff z (negsuc 1599) (aboveZero z) (belowZero z) 0 1600 (diff-of z) (omega arith) h)) (omega arith);
-  over = λ h. at-place z (pos 400) 800 (omega arith) (omega (arith, place-is z, le-diff (pos 1600) z 1600 0 (aboveZero z) (belowZero z) (omega arith) (diff-of z) h)) (omega arith);
+  below = λ h. at-place z (negsuc 399) 0 (omega arith) (omega (
+    arith,
+    place-is z,
+    le-diff z (negsuc 1599) (aboveZero z) (belowZero z) 0 1600 (diff-of z) (omega arith) h,
+  )) (omega arith);
+  over = λ h. at-place z (pos 400) 800 (omega arith) (omega (
+    arith,
+    place-is z,
+    le-diff (pos 1600) z 1600 0 (aboveZero z) (belowZero z) (omega arith) (diff-of z) h,
+  )) (omega arith);
   between = mid;
 }
   where
@@ -33,5 +41,6 @@ counts-as z = record {
         let m : a + 0 ≤ 400 + b = le-diff j (pos 400) a b 400 0 (diff-of j) (omega arith) hi in
         let n : a * 4 + belowZero z ≤ aboveZero z + b * 4 = le-diff (j *ℤ pos 4) z (a * 4) (b * 4) (aboveZero z) (belowZero z) four (diff-of z) h in
         let o : aboveZero z + (b * 4 + 0) ≤ (a * 4 + 3) + belowZero z =
-        le-diff z (j *ℤ pos 4 +ℤ pos 3) (aboveZero z) (belowZero z) (a * 4 + 3) (b * 4 + 0) (diff-of z) (diff-add (j *ℤ pos 4) (pos 3) (a * 4) (b * 4) 3 0 four (diff-pos 3)) k in
+        le-diff z (j *ℤ pos 4 +ℤ pos 3) (aboveZero z) (belowZero z) (a * 4 + 3) (b * 4 + 0) (diff-of z)
+        (diff-add (j *ℤ pos 4) (pos 3) (a * 4) (b * 4) 3 0 four (diff-pos 3)) k in
         at-place z j (a + 400 - b) (omega arith) (omega (arith, place-is z)) (diff-swap j a b (a + 400 - b) 400 (diff-of j) (omega arith))

@@ -70,7 +70,8 @@ module _ (z : ℤ) (f : SFits w32 z) (lo : ltZ (held w32 z) (negsuc 1599) ≡ fa
 
   sum : held w32 z +ℤ pos 1600 ≡ pos n
   unfolding n
-  sum = ap (λ (x : ℤ). x +ℤ pos 1600) is ∙ diff-eq (z +ℤ pos 1600) (pos n) (aboveZero z + 1600) (belowZero z + 0) n 0 (far z) (diff-pos n) (omega (arith, small))
+  sum = ap (λ (x : ℤ). x +ℤ pos 1600) is ∙ diff-eq (z +ℤ pos 1600) (pos n) (aboveZero z + 1600) (belowZero z + 0) n 0 (far z) (diff-pos n)
+      (omega (arith, small))
 
   pub sum-fits : SFits w32 (held w32 z +ℤ pos 1600)
   sum-fits = rw sum (fits-abs {w = w32} {z = pos n} 3200 tt within)

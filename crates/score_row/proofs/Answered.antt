@@ -48,6 +48,7 @@ place-within : (out : List ℕ) (a : Answer (Totals × ℕ)) → wroteIn (rowPla
 place-within out (given t) = in-room (0 + length (totalsRow t)) (length out)
 place-within out (refused number beside) = omega arith
 
-pub written-within : {gathered : Gathered} {line out : List ℕ} {r : ErrorWritten} {out′ : List ℕ} → WritesError gathered line out r out′ → (n : ℕ) → r ≡ W.Row n → n ≤ length out
+pub written-within : {gathered : Gathered} {line out : List ℕ} {r : ErrorWritten} {out′ : List ℕ} → WritesError gathered line out r out′ → (n : ℕ)
+    → r ≡ W.Row n → n ≤ length out
 written-within {gathered = gathered} {line = line} {out = out} p n told =
     subst (λ (q : Answer (List ℕ)). wroteIn q ≤ length out) (sym (p .answer) ∙ ap writtenPaper told) (place-within out (endOf gathered line))

@@ -13,7 +13,8 @@ zeros : ℕ → List ℕ
 unfolding tabulate
 zeros n = tabulate n (λ (k : ℕ). 0)
 
-places : rowPlace (zeros 64) (given (record { scored = 2; apart = 1; sum = 131662932545 }, 1)) ∷ rowPlace (zeros 63) (given (record { scored = 2; apart = 1; sum = 131662932545 }, 1)) ∷ []
+places : rowPlace (zeros 64) (given (record { scored = 2; apart = 1; sum = 131662932545 }, 1))
+    ∷ rowPlace (zeros 63) (given (record { scored = 2; apart = 1; sum = 131662932545 }, 1)) ∷ []
     ≡ given (64 ∷ []) ∷ given [] ∷ []
 unfolding zeros errorRow placesOf digitsUpTo
 places = refl

@@ -1,4 +1,5 @@
--- The row of a collection's error where the input ends, and that it is the whole collection's (document 02, W-210; its form is the program's own). Definitions only.
+-- The row of a collection's error where the input ends, and that it is the whole collection's (document 02, W-210; its form is the program's own).
+-- Definitions only.
 use mathlib.Core.Path.{_≡_}
 use mathlib.Core.List.{List, [], _∷_}
 use Prim.Native.Nat.{ℕ}

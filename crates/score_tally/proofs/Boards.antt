@@ -49,14 +49,16 @@ module _ (kind colour : ℕ) (hk : kind < 6) (hc : colour < 2) where
   walked (s ∷ l) i a n x y u =
       let hs : s < 64 = ltb→lt s 64 (and-l (ltb s 64) (inside l) i) in
       let m : n + 1 + length l ≡ n + suc (length l) = omega arith in
-      subst (λ (k : ℕ). Unpacked (counted (wordOf kind colour) (a + wordOf kind colour s) l) k (added (weighs kind colour 0) (x +ℤ weighs kind colour 0 s) l) (added (weighs kind colour 1) (y +ℤ weighs kind colour 1 s) l)) m
+      subst (λ (k : ℕ). Unpacked (counted (wordOf kind colour) (a + wordOf kind colour s) l) k
+      (added (weighs kind colour 0) (x +ℤ weighs kind colour 0 s) l) (added (weighs kind colour 1) (y +ℤ weighs kind colour 1 s) l)) m
       (walked l (and-r (ltb s 64) (inside l) i) (a + wordOf kind colour s) (n + 1) (x +ℤ weighs kind colour 0 s) (y +ℤ weighs kind colour 1 s)
       (more-pieces a n (wordOf kind colour s) 1 x y (weighs kind colour 0 s) (weighs kind colour 1 s) u (one-piece kind colour s hk hc hs)))
 
   board : (b : ℕ) → Unpacked (packedFrom kind colour b) (length (squares b)) (weighedFrom (weighs kind colour 0) b) (weighedFrom (weighs kind colour 1) b)
   unfolding packedFrom weighedFrom
   board b =
-      subst (λ (n : ℕ). Unpacked (packedFrom kind colour b) n (weighedFrom (weighs kind colour 0) b) (weighedFrom (weighs kind colour 1) b)) (zero-add (length (squares b)))
+      subst (λ (n : ℕ). Unpacked (packedFrom kind colour b) n (weighedFrom (weighs kind colour 0) b) (weighedFrom (weighs kind colour 1) b))
+      (zero-add (length (squares b)))
       (walked (squares b) (inside-squares b) 0 0 (pos 0) (pos 0) none-added)
 
 -- ---- the boards of a colour
@@ -119,7 +121,8 @@ module _ (bbs : List ℕ) (colour occ : ℕ) where
   unfolding attacks
   knights-same = refl
 
-  pub six : (pawns kings : ℕ) (knights bishops rooks queens : Walked) → pawns ≡ packed 0 → knights ≡ walkedOn 1 → bishops ≡ walkedOn 2 → rooks ≡ walkedOn 3 → queens ≡ walkedOn 4
+  pub six : (pawns kings : ℕ) (knights bishops rooks queens : Walked) → pawns ≡ packed 0 → knights ≡ walkedOn 1 → bishops ≡ walkedOn 2
+      → rooks ≡ walkedOn 3 → queens ≡ walkedOn 4
       → kings ≡ packed 5 → togetherOf pawns knights bishops rooks queens kings ≡ sumsOf bbs colour occ
   six pawns kings knights bishops rooks queens p n b r q k =
       cc (p, n, b, r, q, k) ∙ same _ _ _ _ (words-are packed) (moves-are (λ kind. attackedFrom (λ s. attacks kind colour s occ) (standing bbs kind colour)))

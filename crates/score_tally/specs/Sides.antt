@@ -9,7 +9,13 @@ use Rattle.score_tally.specs.Weights.{weightSum}
 use Rattle.score_tally.specs.declared.Sides.{Sides}
 
 abbrev pub sideOf : List ℕ → ℕ → Side
-sideOf bbs colour = record { opening = weightSum bbs colour 0; ending = weightSum bbs colour 1; material = material bbs colour; mobility = mobilitySum bbs colour }
+sideOf bbs colour = record {
+  opening = weightSum bbs colour 0;
+  ending = weightSum bbs colour 1;
+  material = material bbs colour;
+  mobility =
+      mobilitySum bbs colour;
+}
 
 abbrev pub sidesOf : List ℕ → Sides
 sidesOf bbs = record { white = sideOf bbs white; black = sideOf bbs black }

@@ -11,7 +11,8 @@ abbrev side : ℤ → ℤ → ℕ → ℕ → Side
 side y0 y1 w m = record { opening = y0; ending = y1; material = w; mobility = m }
 
 -- with 32 pieces a part is the opening's weight, with 2 the ending's; between them it is truncated toward zero, either way
-parts : partOf (pos 70) (pos 9) 32 ∷ partOf (pos 70) (pos 9) 2 ∷ partOf (pos 29) (pos 0) 3 ∷ partOf (negℤ (pos 29)) (pos 0) 3 ∷ [] ≡ pos 70 ∷ pos 9 ∷ pos 0 ∷ pos 0 ∷ []
+parts : partOf (pos 70) (pos 9) 32 ∷ partOf (pos 70) (pos 9) 2 ∷ partOf (pos 29) (pos 0) 3 ∷ partOf (negℤ (pos 29)) (pos 0) 3 ∷ [] ≡ pos 70 ∷ pos 9
+    ∷ pos 0 ∷ pos 0 ∷ []
 parts = refl
 
 -- kings e1, e8 and the pawn e2: 117 for White, −95 for Black
@@ -30,7 +31,8 @@ apart : pointsOf (side (pos 29) (pos 0) 0 0) (side (negℤ (pos 29)) (pos 0) 0 0
 apart = refl
 
 -- mobility is in tenths, and each side's is divided by itself
-tenths : pointsOf (side (pos 0) (pos 0) 0 19) (side (pos 0) (pos 0) 0 0) 3 ∷ pointsOf (side (pos 0) (pos 0) 0 20) (side (pos 0) (pos 0) 0 19) 3 ∷ [] ≡ given (pos 12) ∷ given (pos 12) ∷ []
+tenths : pointsOf (side (pos 0) (pos 0) 0 19) (side (pos 0) (pos 0) 0 0) 3 ∷ pointsOf (side (pos 0) (pos 0) 0 20) (side (pos 0) (pos 0) 0 19) 3 ∷ []
+    ≡ given (pos 12) ∷ given (pos 12) ∷ []
 tenths = refl
 
 -- 32767 is a score and 32768 is SCORE, of material, of mobility, of a product, and of a sum

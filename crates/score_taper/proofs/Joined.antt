@@ -39,8 +39,10 @@ module _ (p m q : ℤ) (h : Small p m q) where
 
   pub total-fits : SFits w64 (held w64 (held w64 (held w64 p +ℤ held w64 m) +ℤ held w64 q) +ℤ pos 11)
   total-fits =
-      plus-fits (held w64 (held w64 (held w64 p +ℤ held w64 m) +ℤ held w64 q)) (p +ℤ m +ℤ q) (pos 11) 12884901885 11 second-is second-abs (le-refl 11) (omega arith)
+      plus-fits (held w64 (held w64 (held w64 p +ℤ held w64 m) +ℤ held w64 q)) (p +ℤ m +ℤ q) (pos 11) 12884901885 11 second-is second-abs (le-refl 11)
+      (omega arith)
 
   pub total-is : held w64 (held w64 (held w64 (held w64 p +ℤ held w64 m) +ℤ held w64 q) +ℤ pos 11) ≡ p +ℤ m +ℤ q +ℤ pos 11
   total-is =
-      plus-is (held w64 (held w64 (held w64 p +ℤ held w64 m) +ℤ held w64 q)) (p +ℤ m +ℤ q) (pos 11) 12884901885 11 second-is second-abs (le-refl 11) (omega arith)
+      plus-is (held w64 (held w64 (held w64 p +ℤ held w64 m) +ℤ held w64 q)) (p +ℤ m +ℤ q) (pos 11) 12884901885 11 second-is second-abs (le-refl 11)
+      (omega arith)

@@ -25,7 +25,8 @@ pub record Brought (side : Side) (x : ℕ) (z : ℤ) : Type 0 where
 part-small : (side : Side) (x : ℕ) → sideFits side x ≡ true → natAbs (sidePart side x) ≤ 32768
 part-small side x e =
     let z : ℤ = productsOf (side .opening) (side .ending) x in
-    let rest : Bool = leb (side .material) 32767 && leb (side .mobility) 32767 && in16 (openingProduct (side .opening) x) && in16 (endingProduct (side .ending) x) in
+    let rest : Bool = leb (side .material) 32767 && leb (side .mobility) 32767 && in16 (openingProduct (side .opening) x)
+    && in16 (endingProduct (side .ending) x) in
     quot-abs z (negsuc 29) (T-true (in16 z) (and-r rest (in16 z) (true-T e)))
 
 pub brought : (side : Side) (x : ℕ) (r : Part) (z : ℤ) → part r ≡ broughtOf side x → r ≡ Is z → Brought side x z

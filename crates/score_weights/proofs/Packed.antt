@@ -26,7 +26,8 @@ lifted-diff z h =
     let low : belowZero z ≤ aboveZero z + 117 = near .1 in
     let high : aboveZero z ≤ belowZero z + 117 = near .0 in
     let w : z +ℤ pos 128 ≡ pos m =
-    diff-eq (z +ℤ pos 128) (pos m) (aboveZero z + 128) (belowZero z + 0) m 0 (diff-add z (pos 128) (aboveZero z) (belowZero z) 128 0 (diff-of z) (diff-pos 128)) (diff-pos m) (omega arith) in
+    diff-eq (z +ℤ pos 128) (pos m) (aboveZero z + 128) (belowZero z + 0) m 0
+    (diff-add z (pos 128) (aboveZero z) (belowZero z) 128 0 (diff-of z) (diff-pos 128)) (diff-pos m) (omega arith) in
     let e : lifted z ≡ m = ap natAbs w in
     (subst (λ (x : ℕ). Diff z x 128) (sym e) (diff-swap z (aboveZero z) (belowZero z) m 128 (diff-of z) (omega arith)), omega (arith, e))
 
@@ -37,7 +38,8 @@ unfolding packedAt allBelow allBelow2 pstOf
 own kind colour s hk hc hs =
     eqb→eq (packedAt kind (flipOf s colour)) (fields (lifted (pstOf (codeOf kind colour) s 0)) (lifted (pstOf (codeOf kind colour) s 1)) 1)
     (all2-at 6 64 (λ k t. eqb (packedAt k (flipOf t colour)) (fields (lifted (pstOf (codeOf k colour) t 0)) (lifted (pstOf (codeOf k colour) t 1)) 1))
-    (all-at 2 (λ c. allBelow2 6 64 (λ k t. eqb (packedAt k (flipOf t c)) (fields (lifted (pstOf (codeOf k c) t 0)) (lifted (pstOf (codeOf k c) t 1)) 1))) tt colour hc) kind s hk hs)
+    (all-at 2 (λ c. allBelow2 6 64 (λ k t. eqb (packedAt k (flipOf t c))
+    (fields (lifted (pstOf (codeOf k c) t 0)) (lifted (pstOf (codeOf k c) t 1)) 1))) tt colour hc) kind s hk hs)
 
 -- no word is more than 245 in both fields
 pub packed-le : (kind s : ℕ) → packedAt kind s ≤ 1099768529141

@@ -23,7 +23,8 @@ past (suc k) n h = let l : k ≤ n = past k n (h .0) in let f : n ≡ k → ⊥ 
 
 pub off-board : (kind s : ℕ) → 64 ≤ s → 0 ≡ packedAt kind s
 unfolding packedAt
-off-board kind s h = sym (ap (λ (t : Bool). cond (ltb kind 6 && t) (packed kind s) 0) (le-ltb s 64 h) ∙ ap (λ (t : Bool). cond t (packed kind s) 0) (and-false (ltb kind 6)))
+off-board kind s h = sym (ap (λ (t : Bool). cond (ltb kind 6 && t) (packed kind s) 0) (le-ltb s 64 h)
+    ∙ ap (λ (t : Bool). cond t (packed kind s) 0) (and-false (ltb kind 6)))
 
 pub no-kind : (kind s : ℕ) → 6 ≤ kind → 0 ≡ packedAt kind s
 unfolding packedAt

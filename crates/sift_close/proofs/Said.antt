@@ -44,13 +44,15 @@ said-given (refused n v) state half board e f = given-not e
 
 -- ---- what was read goes to one of the two buffers
 module _ (form : Form) (read : Loaded) (number : ℕ) (made : List ℕ) (at : ℕ) (rows : List ℕ) (from : ℕ) where
-  pub tell-refused : (q : Refusal) → read .answer ≡ A.Refused q → (rows′ : List ℕ) (p : Placed) → PutsRefused rows rows′ from number q p → (end : ℕ) → end ≡ afterOf (place p) from
+  pub tell-refused : (q : Refusal) → read .answer ≡ A.Refused q → (rows′ : List ℕ) (p : Placed) → PutsRefused rows rows′ from number q p → (end : ℕ)
+      → end ≡ afterOf (place p) from
       → TellsRead form read number made at rows from (record { loaded = 0; refused = 1; made = at; rows = end }) made rows′
   tell-refused q told rows′ p puts end after = record {
     loaded = sym (ap (λ (x : Read). cond (isRead x) 1 0) told);
     refused = sym (ap (λ (x : Read). cond (isRead x) 0 1) told);
     making = subst (λ (x : Read). Adds made at (madeRead form (read .bitboards) (read .board) x) made at) (sym told) (adds-none made at);
-    rowing = subst (λ (x : Read). Adds rows from (rowRead number x) rows′ end) (sym told) (adds-or rows from (refusedRow number (numberOf q)) rows′ p end puts after);
+    rowing = subst (λ (x : Read). Adds rows from (rowRead number x) rows′ end) (sym told)
+        (adds-or rows from (refusedRow number (numberOf q)) rows′ p end puts after);
   }
 
   pub tell-loaded : (state : State) (half : ℕ) → read .answer ≡ A.Position state half → (made′ : List ℕ) (p : Placed)
@@ -66,7 +68,8 @@ module _ (form : Form) (read : Loaded) (number : ℕ) (made : List ℕ) (at : �
 
   -- and what was read is what was said
   pub told-said : (said : Answer Line) → Reads said (bitboardsOf emptyBoard) emptyBoard (read .answer) (read .bitboards) (read .board)
-      → (r : Closed) (made′ rows′ : List ℕ) → TellsRead form read number made at rows from r made′ rows′ → ClosesSaid form said number made at rows from r made′ rows′
+      → (r : Closed) (made′ rows′ : List ℕ) → TellsRead form read number made at rows from r made′ rows′
+      → ClosesSaid form said number made at rows from r made′ rows′
   told-said said h r made′ rows′ t = go (read .answer) refl
     where
       go : (x : Read) → read .answer ≡ x → ClosesSaid form said number made at rows from r made′ rows′

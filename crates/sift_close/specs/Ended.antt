@@ -27,7 +27,8 @@ refusedRowOf number (given l) = []
 refusedRowOf number (refused n beside) = rowOf number (refused n beside)
 
 -- whatever said it: one of the two is added to its buffer, and the line is counted as loaded or as refused
-pub record ClosesSaid (form : Form) (said : Answer Line) (number : ℕ) (made : List ℕ) (at : ℕ) (rows : List ℕ) (from : ℕ) (r : Closed) (made′ rows′ : List ℕ) : Type 0 where
+pub record ClosesSaid (form : Form) (said : Answer Line) (number : ℕ) (made : List ℕ) (at : ℕ) (rows : List ℕ) (from : ℕ) (r : Closed)
+    (made′ rows′ : List ℕ) : Type 0 where
   pub loaded : r .loaded ≡ cond (isLoaded said) 1 0
   pub refused : r .refused ≡ cond (isLoaded said) 0 1
   pub making : Adds made at (madeBy (madeOf form) said) made′ (r .made)
@@ -51,7 +52,8 @@ rowRead number (A.Position state half) = []
 rowRead number (A.Refused q) = refusedRow number (numberOf q)
 
 -- what `tell` promises
-pub record TellsRead (form : Form) (read : Loaded) (number : ℕ) (made : List ℕ) (at : ℕ) (rows : List ℕ) (from : ℕ) (r : Closed) (made′ rows′ : List ℕ) : Type 0 where
+pub record TellsRead (form : Form) (read : Loaded) (number : ℕ) (made : List ℕ) (at : ℕ) (rows : List ℕ) (from : ℕ) (r : Closed)
+    (made′ rows′ : List ℕ) : Type 0 where
   pub loaded : r .loaded ≡ cond (isRead (read .answer)) 1 0
   pub refused : r .refused ≡ cond (isRead (read .answer)) 0 1
   pub making : Adds made at (madeRead form (read .bitboards) (read .board) (read .answer)) made′ (r .made)

@@ -56,13 +56,16 @@ module _ (state : SoFar) (form : Form) (line chunk made rows : List ℕ) where
   nothing = record { loaded = 0; refused = 0; made = []; rows = [] }
 
   -- an answer of its own, with nothing changed
-  unchanged : (r : Sifted) (a : Came (CutSoFar Sifting)) → siftOf state form line chunk made rows ≡ a → sifted r ≡ siftedByValue a → lineSifted a line ≡ line → siftingIn a ≡ nothing
+  unchanged : (r : Sifted) (a : Came (CutSoFar Sifting)) → siftOf state form line chunk made rows ≡ a → sifted r ≡ siftedByValue a
+      → lineSifted a line ≡ line → siftingIn a ≡ nothing
       → siftedBytes (sifted r) ≡ (0, 0) → Sifts state form line chunk made rows r line made rows
   unchanged r a e f k t z = record {
     answer = f ∙ sym (ap siftedByValue e);
     kept = sym (ap (λ (b : Came (CutSoFar Sifting)). lineSifted b line) e ∙ k);
-    making = written-nothing made ∙ sym (ap (λ (b : Came (CutSoFar Sifting)). writtenOf made 0 (siftingIn b .made)) e ∙ ap (λ (x : Sifting). writtenOf made 0 (x .made)) t);
-    rowing = written-nothing rows ∙ sym (ap (λ (b : Came (CutSoFar Sifting)). writtenOf rows 0 (siftingIn b .rows)) e ∙ ap (λ (x : Sifting). writtenOf rows 0 (x .rows)) t);
+    making = written-nothing made ∙ sym (ap (λ (b : Came (CutSoFar Sifting)). writtenOf made 0 (siftingIn b .made)) e
+        ∙ ap (λ (x : Sifting). writtenOf made 0 (x .made)) t);
+    rowing = written-nothing rows ∙ sym (ap (λ (b : Came (CutSoFar Sifting)). writtenOf rows 0 (siftingIn b .rows)) e
+        ∙ ap (λ (x : Sifting). writtenOf rows 0 (x .rows)) t);
     madeWithin = subst (λ (x : ℕ × ℕ). x .0 ≤ length made) (sym z) (omega arith);
     rowsWithin = subst (λ (x : ℕ × ℕ). x .1 ≤ length rows) (sym z) (omega arith);
   }
@@ -80,20 +83,29 @@ module _ (state : SoFar) (form : Form) (line chunk made rows : List ℕ) where
 
       pub feed-full : length made / roomOf form < ends chunk → Sifts state form line chunk made rows S.Full line made rows
       feed-full h =
-          too-full (ap (λ (t : Bool). t && leb (32 * ends chunk) (length rows)) (lt-leb (roomOf form * ends chunk) (length made) (room-lacks (roomOf form) (length made) (ends chunk) (room-some form) h)))
+          too-full (ap (λ (t : Bool). t && leb (32 * ends chunk) (length rows))
+          (lt-leb (roomOf form * ends chunk) (length made) (room-lacks (roomOf form) (length made) (ends chunk) (room-some form) h)))
 
       pub feed-rows-full : length rows / 32 < ends chunk → Sifts state form line chunk made rows S.Full line made rows
       feed-rows-full h =
-          too-full (and-false (leb (roomOf form * ends chunk) (length made)) (leb (32 * ends chunk) (length rows)) (lt-leb (32 * ends chunk) (length rows) (omega arith)))
+          too-full (and-false (leb (roomOf form * ends chunk) (length made)) (leb (32 * ends chunk) (length rows))
+          (lt-leb (32 * ends chunk) (length rows) (omega arith)))
 
       module _ (wide : ends chunk ≤ length made / roomOf form) (long : ends chunk ≤ length rows / 32) where
         enough : roomOf form * ends chunk ≤ length made
         enough = room-holds (roomOf form) (length made) (ends chunk) (room-some form) wide
 
         pub feed-ready : ReadyToSift state form line chunk made rows
-        feed-ready = record { size = size; counts = ltb-true (state .loaded + state .refused + ends chunk) (2 ^ 64) counts; making = enough; rowing = omega arith }
+        feed-ready = record {
+          size = size;
+          counts = ltb-true (state .loaded + state .refused + ends chunk) (2 ^ 64) counts;
+          making = enough;
+          rowing =
+              omega arith;
+        }
 
-        pub feed-lines : (r : Sifted) (line′ made′ rows′ : List ℕ) → TakesSifted state form line chunk made rows r line′ made′ rows′ → Sifts state form line chunk made rows r line′ made′ rows′
+        pub feed-lines : (r : Sifted) (line′ made′ rows′ : List ℕ) → TakesSifted state form line chunk made rows r line′ made′ rows′
+            → Sifts state form line chunk made rows r line′ made′ rows′
         feed-lines r line′ made′ rows′ t =
             let e : siftOf state form line chunk made rows ≡ came run =
             fit-came line lines room run size counts

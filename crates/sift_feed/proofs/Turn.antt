@@ -49,7 +49,8 @@ fill-none most more old h = record { same = refl; room = start (most * more) (le
 pub fill-same : (most more more′ : ℕ) (old new : List ℕ) (w : ℕ) → more ≡ more′ → Filling most more old new w → Filling most more′ old new w
 fill-same most more more′ old new w e f = subst (λ (n : ℕ). Filling most n old new w) e f
 
-module _ (most more more′ : ℕ) (old new : List ℕ) (w : ℕ) (f : Filling most more old new w) (one : more ≡ more′ + 1) (text new′ : List ℕ) (w′ : ℕ) (a : Adds new w text new′ w′)
+module _ (most more more′ : ℕ) (old new : List ℕ) (w : ℕ) (f : Filling most more old new w) (one : more ≡ more′ + 1) (text new′ : List ℕ) (w′ : ℕ)
+    (a : Adds new w text new′ w′)
     (short : length text ≤ most) where
   apart : most * more ≡ most * more′ + most
   apart = ap (λ (n : ℕ). most * n) one ∙ mul-add most more′ 1 ∙ ap (λ (n : ℕ). most * more′ + n) (mul-one most)
@@ -91,7 +92,8 @@ module _ (most more : ℕ) (old new : List ℕ) (w : ℕ) (f : Filling most more
   fill-written =
       let size = fill-size in
       let fits : 0 + length (take w new) ≤ length old = omega (arith, fill-within) in
-      sym (take-append-drop w new) ∙ ap (λ (l : List ℕ). take w new ++ l) (f .rest ∙ ap (λ (k : ℕ). drop k old) (let z : w ≡ 0 + length (take w new) = omega arith in z))
+      sym (take-append-drop w new) ∙ ap (λ (l : List ℕ). take w new ++ l)
+      (f .rest ∙ ap (λ (k : ℕ). drop k old) (let z : w ≡ 0 + length (take w new) = omega arith in z))
       ∙ sym (written-is old 0 (take w new) fits)
 
 -- ---- a line more, loaded or refused
@@ -140,7 +142,8 @@ module _ (form : Form) (whole : CutSoFar Sifting) (chunk made₀ rows₀ line ma
   turn-on e =
       let b = Lines.next-none begun line chunk i r line′ p e in
       record {
-        lines = Lines.turn-next close whole 256 chunk line begun so-far i (t .lines) h r line′ p so-far (sym (ap (λ (x : Bool). cond x (close so-far line′ (r .size)) so-far) e));
+        lines = Lines.turn-next close whole 256 chunk line begun so-far i (t .lines) h r line′ p so-far
+            (sym (ap (λ (x : Bool). cond x (close so-far line′ (r .size)) so-far) e));
         making = fill-same (roomOf form) (ends (drop i chunk)) (ends (drop (r .at) chunk)) made₀ made w b (t .making);
         rowing = fill-same 32 (ends (drop i chunk)) (ends (drop (r .at) chunk)) rows₀ rows v b (t .rowing);
         counts = omega (arith, t .counts);
@@ -167,7 +170,8 @@ module _ (form : Form) (whole : CutSoFar Sifting) (chunk made₀ rows₀ line ma
       (fill-front 32 many fewer rows₀ rows v (t .rowing) b d rows′ (c .rows) (k .rowing) low) in
       let both = tally-either (isLoaded said) (c .loaded) (c .refused) loaded refused (k .loaded) (k .refused) in
       record {
-        lines = Lines.turn-next close whole 256 chunk line begun so-far i (t .lines) h r line′ p s′ (next ∙ sym (ap (λ (x : Bool). cond x (close so-far line′ (r .size)) so-far) e));
+        lines = Lines.turn-next close whole 256 chunk line begun so-far i (t .lines) h r line′ p s′
+            (next ∙ sym (ap (λ (x : Bool). cond x (close so-far line′ (r .size)) so-far) e));
         making = fill-more (roomOf form) many fewer made₀ made w (t .making) b a made′ (c .made) (k .making) short;
         rowing = fill-more 32 many fewer rows₀ rows v (t .rowing) b d rows′ (c .rows) (k .rowing) low;
         counts = omega (arith, t .counts);
@@ -185,7 +189,8 @@ module _ (form : Form) (whole : CutSoFar Sifting) (chunk made₀ rows₀ line ma
 pub turn-none : (state : SoFar) (form : Form) (line chunk made rows : List ℕ) → ReadyToSift state form line chunk made rows
     → Turn form (siftRun (madeOf form) state line chunk) chunk made rows line made rows (begunIn state) (state .loaded) (state .refused) 0 0 0
 turn-none state form line chunk made rows r = record {
-  lines = subst (λ (n : ℕ). Lines.Turn (closeSift (madeOf form)) (siftRun (madeOf form) state line chunk) n chunk line (begunIn state) (sifting (state .loaded) (state .refused) [] []) 0) (r .size)
+  lines = subst (λ (n : ℕ). Lines.Turn (closeSift (madeOf form)) (siftRun (madeOf form) state line chunk) n chunk line (begunIn state)
+      (sifting (state .loaded) (state .refused) [] []) 0) (r .size)
       (Lines.turn-none (closeSift (madeOf form)) chunk line (begunIn state) (sifting (state .loaded) (state .refused) [] []));
   making = fill-none (roomOf form) (ends chunk) made (r .making);
   rowing = fill-none 32 (ends chunk) rows (r .rowing);
@@ -195,7 +200,8 @@ turn-none state form line chunk made rows r = record {
 -- after the last
 pub turn-end : (state : SoFar) (form : Form) (line₀ chunk made₀ rows₀ line made rows : List ℕ) (begun : Begun) (loaded refused w v i : ℕ) → length chunk ≤ i
     → Turn form (siftRun (madeOf form) state line₀ chunk) chunk made₀ rows₀ line made rows begun loaded refused w v i
-    → TakesSifted state form line₀ chunk made₀ rows₀ (S.Lines (record { held = begun .held; cr = begun .cr; loaded = loaded; refused = refused }) w v) line made rows
+    → TakesSifted state form line₀ chunk made₀ rows₀ (S.Lines (record { held = begun .held; cr = begun .cr; loaded = loaded; refused = refused }) w v)
+    line made rows
 turn-end state form line₀ chunk made₀ rows₀ line made rows begun loaded refused w v i h t =
     let run : CutSoFar Sifting = siftRun (madeOf form) state line₀ chunk in
     let m : run ≡ record { left = opened begun line; kept = sifting loaded refused (take w made) (take v rows) } =

@@ -75,7 +75,8 @@ pub record ReadyToSift (state : SoFar) (form : Form) (line chunk made rows : Lis
   pub rowing : 32 * ends chunk ≤ length rows
 
 pub record TakesSifted (state : SoFar) (form : Form) (line chunk made rows : List ℕ) (r : Sifted) (line′ made′ rows′ : List ℕ) : Type 0 where
-  pub answer : r ≡ S.Lines (soFarIn (siftRun (madeOf form) state line chunk)) (length (siftRun (madeOf form) state line chunk .kept .made)) (length (siftRun (madeOf form) state line chunk .kept .rows))
+  pub answer : r ≡ S.Lines (soFarIn (siftRun (madeOf form) state line chunk)) (length (siftRun (madeOf form) state line chunk .kept .made))
+      (length (siftRun (madeOf form) state line chunk .kept .rows))
   pub kept : line′ ≡ siftRun (madeOf form) state line chunk .left .line
   pub making : made′ ≡ writtenOf made 0 (siftRun (madeOf form) state line chunk .kept .made)
   pub rowing : rows′ ≡ writtenOf rows 0 (siftRun (madeOf form) state line chunk .kept .rows)

@@ -20,7 +20,8 @@ use Rattle.sift_form.specs.declared.Form.{Form}
 use Rattle.sift_form.proofs.Rooms.{room-some}
 use Rattle.sift_feed.specs.Sifting.{Sifting}
 use Rattle.sift_feed.proofs.Doors.{room-lacks, room-holds, and-false}
-use Rattle.sift_finish.specs.Last.{siftEnd, allRows, lastRoom, siftedLast, lastPaper, lastLengths, lastMade, lastRows, lastBytes, FinishesSifted, ReadyToEnd, EndsSifted}
+use Rattle.sift_finish.specs.Last.{siftEnd, allRows, lastRoom, siftedLast, lastPaper, lastLengths, lastMade, lastRows, lastBytes}
+use Rattle.sift_finish.specs.Last.{FinishesSifted, ReadyToEnd, EndsSifted}
 use Rattle.sift_finish.specs.declared.Finished.{Finished}
 use Rattle.sift_finish.specs.declared.Finished.the-variants as E
 use Rattle.sift_finish.proofs.Ends.{end-made, end-rows}
@@ -33,7 +34,8 @@ module _ (state : SoFar) (form : Form) (line made rows : List ℕ) where
   end = siftEnd (madeOf form) state line
 
   -- an answer of its own, with nothing changed
-  unchanged : (r : Finished) (a : Came Sifting) → siftedLast state form line made rows ≡ a → lastPaper r ≡ lastLengths a → lastMade a ≡ [] → lastRows a ≡ [] → lastBytes (lastPaper r) ≡ (0, 0)
+  unchanged : (r : Finished) (a : Came Sifting) → siftedLast state form line made rows ≡ a → lastPaper r ≡ lastLengths a → lastMade a ≡ []
+      → lastRows a ≡ [] → lastBytes (lastPaper r) ≡ (0, 0)
       → FinishesSifted state form line made rows r made rows
   unchanged r a e f m t z = record {
     answer = f ∙ sym (ap lastLengths e);
@@ -56,10 +58,12 @@ module _ (state : SoFar) (form : Form) (line made rows : List ℕ) where
 
       pub finish-full : length made / roomOf form < unfinished (state .held) → FinishesSifted state form line made rows E.Full made rows
       finish-full h =
-          too-full (ap (λ (t : Bool). t && leb 116 (length rows)) (lt-leb (roomOf form * unfinished (state .held)) (length made) (room-lacks (roomOf form) (length made) (unfinished (state .held)) (room-some form) h)))
+          too-full (ap (λ (t : Bool). t && leb 116 (length rows)) (lt-leb (roomOf form * unfinished (state .held)) (length made)
+          (room-lacks (roomOf form) (length made) (unfinished (state .held)) (room-some form) h)))
 
       pub finish-rows-full : length rows < 116 → FinishesSifted state form line made rows E.Full made rows
-      finish-rows-full h = too-full (and-false (leb (roomOf form * unfinished (state .held)) (length made)) (leb 116 (length rows)) (lt-leb 116 (length rows) h))
+      finish-rows-full h = too-full (and-false (leb (roomOf form * unfinished (state .held)) (length made)) (leb 116 (length rows))
+          (lt-leb 116 (length rows) h))
 
       module _ (wide : unfinished (state .held) ≤ length made / roomOf form) (long : 116 ≤ length rows) where
         enough : roomOf form * unfinished (state .held) ≤ length made
@@ -68,15 +72,19 @@ module _ (state : SoFar) (form : Form) (line made rows : List ℕ) where
         pub finish-ready : ReadyToEnd state form made rows
         finish-ready = record { counts = ltb-true (lastLines state) (2 ^ 64) counts; making = enough; rowing = long }
 
-        pub finish-rows : (r : Finished) (made′ rows′ : List ℕ) → EndsSifted state form line made rows r made′ rows′ → FinishesSifted state form line made rows r made′ rows′
+        pub finish-rows : (r : Finished) (made′ rows′ : List ℕ) → EndsSifted state form line made rows r made′ rows′
+            → FinishesSifted state form line made rows r made′ rows′
         finish-rows r made′ rows′ t =
             let e : siftedLast state form line made rows ≡ came end =
             fit-came line (lastLines state) room end size counts
             (ap₂ _&&_ (le-leb (roomOf form * unfinished (state .held)) (length made) enough) (le-leb 116 (length rows) long)) in
-            let m : length (end .made) ≤ length made = most (length (end .made)) (roomOf form * unfinished (state .held)) (length made) (end-made form state line) enough in
+            let m : length (end .made) ≤ length made = most (length (end .made)) (roomOf form * unfinished (state .held)) (length made)
+            (end-made form state line) enough in
             let q : length (allRows end) ≤ length rows = most (length (allRows end)) 116 (length rows) (end-rows form state line) long in
-            let a : t .w ≡ length (end .made) = adds-to (t .written .making) (subst (λ (n : ℕ). n ≤ length made) (sym (zero-add (length (end .made)))) m) ∙ zero-add (length (end .made)) in
-            let b : t .v ≡ length (allRows end) = adds-to (t .written .rowing) (subst (λ (n : ℕ). n ≤ length rows) (sym (zero-add (length (allRows end)))) q) ∙ zero-add (length (allRows end)) in
+            let a : t .w ≡ length (end .made) = adds-to (t .written .making)
+            (subst (λ (n : ℕ). n ≤ length made) (sym (zero-add (length (end .made)))) m) ∙ zero-add (length (end .made)) in
+            let b : t .v ≡ length (allRows end) = adds-to (t .written .rowing)
+            (subst (λ (n : ℕ). n ≤ length rows) (sym (zero-add (length (allRows end)))) q) ∙ zero-add (length (allRows end)) in
             let is : r ≡ E.Rows (length (end .made)) (length (allRows end)) = t .is ∙ ap₂ E.Rows a b in
             record {
               answer = ap lastPaper is ∙ sym (ap lastLengths e);

@@ -40,7 +40,8 @@ pub end-made : (form : Form) (state : SoFar) (line : List ℕ) → length (siftE
 end-made form state line = go (ltb 0 (state .held))
   where
     go : (t : Bool) → length (cond t (closeSift (madeOf form) (siftingAt state) line (state .held)) (siftingAt state) .made) ≤ roomOf form * cond t 1 0
-    go true = subst (λ (n : ℕ). length (madeBy (madeOf form) (saidOf line (state .held))) ≤ n) (sym (mul-one (roomOf form))) (made-most form (saidOf line (state .held)))
+    go true = subst (λ (n : ℕ). length (madeBy (madeOf form) (saidOf line (state .held))) ≤ n) (sym (mul-one (roomOf form)))
+        (made-most form (saidOf line (state .held)))
     go false = omega arith
 
 pub end-rows : (form : Form) (state : SoFar) (line : List ℕ) → length (allRows (siftEnd (madeOf form) state line)) ≤ 116
@@ -50,12 +51,19 @@ end-rows form state line = go (ltb 0 (state .held))
     go true =
         let s : Sifting = closeSift (madeOf form) (siftingAt state) line (state .held) in
         let row : List ℕ = refusedRowOf (state .loaded + state .refused + 1) (saidOf line (state .held)) in
-        let low = row-most (state .loaded + state .refused + 1) (saidOf line (state .held)) (said-32 P.Any (state .loaded + state .refused + 1) line (state .held)) in
-        omega (arith, length-append row (lastRow (s .loaded + s .refused) (s .loaded) (s .refused)), low, fits-last (s .loaded + s .refused) (s .loaded) (s .refused))
+        let low = row-most (state .loaded + state .refused + 1) (saidOf line (state .held))
+        (said-32 P.Any (state .loaded + state .refused + 1) line (state .held)) in
+        omega (
+          arith,
+          length-append row (lastRow (s .loaded + s .refused) (s .loaded) (s .refused)),
+          low,
+          fits-last (s .loaded + s .refused) (s .loaded) (s .refused),
+        )
     go false = omega (arith, fits-last (state .loaded + state .refused) (state .loaded) (state .refused))
 
 -- ---- no line is unfinished
-pub last-none : (form : Form) (state : SoFar) (line made rows rows′ : List ℕ) → state .held ≡ 0 → (p : Placed) → Puts rows rows′ 0 (lastRow (state .loaded + state .refused) (state .loaded) (state .refused)) p
+pub last-none : (form : Form) (state : SoFar) (line made rows rows′ : List ℕ) → state .held ≡ 0 → (p : Placed)
+    → Puts rows rows′ 0 (lastRow (state .loaded + state .refused) (state .loaded) (state .refused)) p
     → (end : ℕ) → end ≡ afterOf (place p) 0 → EndsSifted state form line made rows (E.Rows 0 end) made rows′
 last-none form state line made rows rows′ none p puts end after =
     let s : siftEnd (madeOf form) state line ≡ siftingAt state =
@@ -65,7 +73,11 @@ last-none form state line made rows rows′ none p puts end after =
       v = end;
       is = refl;
       written = subst (λ (x : Sifting). WritesLast x made rows 0 end made rows′) (sym s)
-          (record { making = adds-none made 0; rowing = adds-or rows 0 (lastRow (state .loaded + state .refused) (state .loaded) (state .refused)) rows′ p end puts after });
+          (record {
+            making = adds-none made 0;
+            rowing = adds-or rows 0 (lastRow (state .loaded + state .refused) (state .loaded) (state .refused))
+                rows′ p end puts after;
+          });
     }
 
 -- ---- a line is unfinished
@@ -83,7 +95,8 @@ module _ (form : Form) (state : SoFar) (line made rows : List ℕ) (ready : Read
         let h = last-counts in
         (omega arith, omega arith)
 
-    pub last-some : (rows″ : List ℕ) (p : Placed) → Puts rows′ rows″ (c .rows) (lastRow (state .loaded + state .refused + 1) (state .loaded + c .loaded) (state .refused + c .refused)) p
+    pub last-some : (rows″ : List ℕ) (p : Placed) → Puts rows′ rows″ (c .rows)
+        (lastRow (state .loaded + state .refused + 1) (state .loaded + c .loaded) (state .refused + c .refused)) p
         → (end : ℕ) → end ≡ afterOf (place p) (c .rows) → EndsSifted state form line made rows (E.Rows (c .made) end) made′ rows″
     last-some rows″ p puts end after =
         let t : Bool = isLoaded said in
@@ -99,7 +112,8 @@ module _ (form : Form) (state : SoFar) (line made rows : List ℕ) (ready : Read
         ap (λ (u : Bool). cond u (closeSift (madeOf form) (siftingAt state) line (state .held)) (siftingAt state)) (lt-ltb 0 (state .held) (omega arith)) in
         let second : Adds rows′ (c .rows) (lastRow (x + y) x y) rows″ end =
         subst (λ (l : List ℕ). Adds rows′ (c .rows) l rows″ end) same
-        (adds-or rows′ (c .rows) (lastRow (state .loaded + state .refused + 1) (state .loaded + c .loaded) (state .refused + c .refused)) rows″ p end puts after) in
+        (adds-or rows′ (c .rows) (lastRow (state .loaded + state .refused + 1) (state .loaded + c .loaded) (state .refused + c .refused)) rows″ p end
+        puts after) in
         let low = row-most (state .loaded + state .refused + 1) said (said-32 P.Any (state .loaded + state .refused + 1) line (state .held)) in
         record {
           w = c .made;

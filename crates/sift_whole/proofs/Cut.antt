@@ -29,7 +29,8 @@ use Rattle.sift_feed.specs.declared.Sifted.the-variants as S
 use Rattle.sift_finish.specs.Last.{siftEnd, allRows, lastRoom, siftedLast, lastPaper, lastLengths, lastMade, lastRows, lastBytes, FinishesSifted}
 use Rattle.sift_finish.specs.declared.Finished.{Finished}
 use Rattle.sift_finish.specs.declared.Finished.the-variants as E
-use Rattle.sift_whole.specs.Calls.{SiftCall, SiftLast, nextSoFar, madeIs, rowsAre, lastMadeIs, lastRowsAre, SiftedBy, allMade, allSiftRows, siftInput, RoomToSift, SiftedWhole}
+use Rattle.sift_whole.specs.Calls.{SiftCall, SiftLast, nextSoFar, madeIs, rowsAre, lastMadeIs, lastRowsAre, SiftedBy, allMade, allSiftRows}
+use Rattle.sift_whole.specs.Calls.{siftInput, RoomToSift, SiftedWhole}
 use Rattle.sift_whole.proofs.Machine.{counted, ended, rest, run-counts, end-counts, cut, ended-made, ended-rows, ended-counts}
 
 -- ---- a call with room
@@ -53,7 +54,8 @@ record Given (m : CutSoFar Sifting) (r : Sifted) (line′ made′ rows′ : List
   making : madeIs r made′ ≡ m .kept .made
   rowing : rowsAre r rows′ ≡ m .kept .rows
 
-feed-given : (form : Form) (state : SoFar) (line chunk made rows : List ℕ) (r : Sifted) (line′ made′ rows′ : List ℕ) → Sifts state form line chunk made rows r line′ made′ rows′
+feed-given : (form : Form) (state : SoFar) (line chunk made rows : List ℕ) (r : Sifted) (line′ made′ rows′ : List ℕ)
+    → Sifts state form line chunk made rows r line′ made′ rows′
     → length line ≡ 256 → state .loaded + state .refused + ends chunk < 2 ^ 64 → roomOf form * ends chunk ≤ length made → 32 * ends chunk ≤ length rows
     → Given (siftRun (madeOf form) state line chunk) r line′ made′ rows′
 feed-given form state line chunk made rows r line′ made′ rows′ f size counts wide long =
@@ -62,14 +64,17 @@ feed-given form state line chunk made rows r line′ made′ rows′ f size coun
     fit-came line (state .loaded + state .refused + ends chunk) (siftRoom form chunk made rows) m size
     (lt-ltb (state .loaded + state .refused + ends chunk) (2 ^ 64) counts)
     (ap₂ _&&_ (le-leb (roomOf form * ends chunk) (length made) wide) (le-leb (32 * ends chunk) (length rows) long)) in
-    let a : r ≡ S.Lines (soFarIn m) (length (m .kept .made)) (length (m .kept .rows)) = lines-of r (soFarIn m) (length (m .kept .made)) (length (m .kept .rows)) (f .answer ∙ ap siftedByValue e) in
+    let a : r ≡ S.Lines (soFarIn m) (length (m .kept .made)) (length (m .kept .rows)) =
+    lines-of r (soFarIn m) (length (m .kept .made)) (length (m .kept .rows)) (f .answer ∙ ap siftedByValue e) in
     let h : length (m .kept .made) ≤ length made = subst (λ (q : Sifted). siftedBytes (sifted q) .0 ≤ length made) a (f .madeWithin) in
     let k : length (m .kept .rows) ≤ length rows = subst (λ (q : Sifted). siftedBytes (sifted q) .1 ≤ length rows) a (f .rowsWithin) in
     record {
       answer = a;
       kept = f .kept ∙ ap (λ (x : Came (CutSoFar Sifting)). lineSifted x line) e;
-      making = ap (λ (q : Sifted). madeIs q made′) a ∙ taken made made′ (m .kept .made) (f .making ∙ ap (λ (x : Came (CutSoFar Sifting)). writtenOf made 0 (siftingIn x .made)) e) h;
-      rowing = ap (λ (q : Sifted). rowsAre q rows′) a ∙ taken rows rows′ (m .kept .rows) (f .rowing ∙ ap (λ (x : Came (CutSoFar Sifting)). writtenOf rows 0 (siftingIn x .rows)) e) k;
+      making = ap (λ (q : Sifted). madeIs q made′) a ∙ taken made made′ (m .kept .made)
+          (f .making ∙ ap (λ (x : Came (CutSoFar Sifting)). writtenOf made 0 (siftingIn x .made)) e) h;
+      rowing = ap (λ (q : Sifted). rowsAre q rows′) a ∙ taken rows rows′ (m .kept .rows)
+          (f .rowing ∙ ap (λ (x : Came (CutSoFar Sifting)). writtenOf rows 0 (siftingIn x .rows)) e) k;
     }
 
 one-at-most : (n k held : ℕ) → n ≤ k → n * unfinished held ≤ k
@@ -79,7 +84,8 @@ one-at-most n k held h = go (ltb 0 held)
     go true = subst (λ (m : ℕ). m ≤ k) (sym (mul-one n)) h
     go false = omega arith
 
-module _ (form : Form) (state : SoFar) (line made rows : List ℕ) (r : Finished) (made′ rows′ : List ℕ) (f : FinishesSifted state form line made rows r made′ rows′)
+module _ (form : Form) (state : SoFar) (line made rows : List ℕ) (r : Finished) (made′ rows′ : List ℕ)
+    (f : FinishesSifted state form line made rows r made′ rows′)
     (size : length line ≡ 256) (counts : lastLines state < 2 ^ 64) (wide : roomOf form ≤ length made) (long : 116 ≤ length rows) where
   abbrev end : Sifting
   end = siftEnd (madeOf form) state line
@@ -87,7 +93,8 @@ module _ (form : Form) (state : SoFar) (line made rows : List ℕ) (r : Finished
   came-end : siftedLast state form line made rows ≡ came end
   came-end =
       fit-came line (lastLines state) (lastRoom state form made rows) end size (lt-ltb (lastLines state) (2 ^ 64) counts)
-      (ap₂ _&&_ (le-leb (roomOf form * unfinished (state .held)) (length made) (one-at-most (roomOf form) (length made) (state .held) wide)) (le-leb 116 (length rows) long))
+      (ap₂ _&&_ (le-leb (roomOf form * unfinished (state .held)) (length made) (one-at-most (roomOf form) (length made) (state .held) wide))
+      (le-leb 116 (length rows) long))
 
   is : r ≡ E.Rows (length (end .made)) (length (allRows end))
   is = rows-of r (length (end .made)) (length (allRows end)) (f .answer ∙ ap lastLengths came-end)
@@ -107,10 +114,12 @@ module _ (form : Form) (state : SoFar) (line made rows : List ℕ) (r : Finished
 -- ---- all calls
 all : (form : Form) (state : SoFar) (line : List ℕ) (calls : List SiftCall) (last : SiftLast) → length line ≡ 256 → RoomToSift form calls last
     → counted (ended (madeOf form) state line (siftInput calls)) < 2 ^ 64 → SiftedBy form state line calls last
-    → (allMade calls last ≡ ended (madeOf form) state line (siftInput calls) .made) × (allSiftRows calls last ≡ allRows (ended (madeOf form) state line (siftInput calls)))
+    → (allMade calls last ≡ ended (madeOf form) state line (siftInput calls) .made)
+    × (allSiftRows calls last ≡ allRows (ended (madeOf form) state line (siftInput calls)))
 unfolding runBy siftInput RoomToSift SiftedBy allMade allSiftRows
 all form state line [] last size room counts made =
-    let few : lastLines state < 2 ^ 64 = subst (λ (n : ℕ). n < 2 ^ 64) (end-counts (madeOf form) (record { left = openAt state line; kept = siftingAt state })) counts in (
+    let few : lastLines state < 2 ^ 64 = subst (λ (n : ℕ). n < 2 ^ 64)
+    (end-counts (madeOf form) (record { left = openAt state line; kept = siftingAt state })) counts in (
       finish-made form state line (last .made) (last .rows) (last .finished) (last .made′) (last .rows′) made size few (room .0) (room .1),
       finish-rows form state line (last .made) (last .rows) (last .finished) (last .made′) (last .rows′) made size few (room .0) (room .1),
     )

@@ -19,7 +19,8 @@ three = text "8/8/8/8/8/8/8/8 b;1/2-1/2\nx\n4k3/8/8/8/8/8/4P3/4K3 w;1-0"
 
 -- what is made of a line here: its half points and its side
 halves : List ℕ → List ℕ
-unfolding linesFrom endsInCR madeIn lineOf fieldsSay every holds before after without withoutLast trim placeIn areRanks stacked nthWord rightsFit passantFits countersFitFields stateSaid
+unfolding linesFrom endsInCR madeIn lineOf fieldsSay every holds before after without withoutLast trim placeIn areRanks stacked nthWord rightsFit
+    passantFits countersFitFields stateSaid
 halves input = madeOfAll (λ (l : Line). l .half ∷ l .state .side ∷ []) input
 
 made : halves three ≡ 1 ∷ 1 ∷ 2 ∷ 0 ∷ []
@@ -27,7 +28,8 @@ unfolding three halves
 made = refl
 
 row-text : List ℕ → List ℕ
-unfolding linesFrom endsInCR refusedRowsFrom loadedIn refusedIn lineOf fieldsSay every holds before after without withoutLast trim placeIn areRanks stacked nthWord rightsFit passantFits countersFitFields stateSaid refusedRow lastRow digitsUpTo
+unfolding linesFrom endsInCR refusedRowsFrom loadedIn refusedIn lineOf fieldsSay every holds before after without withoutLast trim placeIn areRanks
+    stacked nthWord rightsFit passantFits countersFitFields stateSaid refusedRow lastRow digitsUpTo
 row-text input = rowsOfAll input
 
 rows : row-text three ≡ text "2 refused 10\nlines 3 loaded 2 refused 1\n"

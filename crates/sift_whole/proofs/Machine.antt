@@ -61,7 +61,8 @@ module _ (make : Line → List ℕ) where
   pub run-counts : (state : SoFar) (line s : List ℕ) → counted (siftRun make state line s .kept) ≡ state .loaded + state .refused + ends s
   run-counts state line s =
       sym (ap (λ (x : CutSoFar ℕ). x .kept)
-      (run-told counted close (λ (k : ℕ) (line : List ℕ) (size : ℕ). k + 1) (λ (x : Sifting) (line : List ℕ) (size : ℕ). sym (tally-both (isLoaded (saidOf line size)) (x .loaded) (x .refused)))
+      (run-told counted close (λ (k : ℕ) (line : List ℕ) (size : ℕ). k + 1)
+      (λ (x : Sifting) (line : List ℕ) (size : ℕ). sym (tally-both (isLoaded (saidOf line size)) (x .loaded) (x .refused)))
       (openAt state line) (siftingAt state) s))
       ∙ plain-run (openAt state line) (state .loaded + state .refused) s
 
@@ -85,12 +86,14 @@ module _ (make : Line → List ℕ) where
   end-shift : (m t : List ℕ) (r : CutSoFar Sifting) → endBy close (record { left = r .left; kept = shift m t (r .kept) }) ≡ shift m t (endBy close r)
   end-shift m t r = go (ltb 0 (r .left .held))
     where
-      go : (x : Bool) → cond x (close (shift m t (r .kept)) (r .left .line) (r .left .held)) (shift m t (r .kept)) ≡ shift m t (cond x (close (r .kept) (r .left .line) (r .left .held)) (r .kept))
+      go : (x : Bool) → cond x (close (shift m t (r .kept)) (r .left .line) (r .left .held)) (shift m t (r .kept))
+          ≡ shift m t (cond x (close (r .kept) (r .left .line) (r .left .held)) (r .kept))
       go true = close-shift m t (r .kept) (r .left .line) (r .left .held)
       go false = refl
 
   split : (s : Sifting) → s ≡ shift (s .made) (s .rows) (record { loaded = s .loaded; refused = s .refused; made = []; rows = [] })
-  split s = ap₂ (λ (u v : List ℕ). record { loaded = s .loaded; refused = s .refused; made = u; rows = v }) (sym (append-nil (s .made))) (sym (append-nil (s .rows)))
+  split s = ap₂ (λ (u v : List ℕ). record { loaded = s .loaded; refused = s .refused; made = u; rows = v }) (sym (append-nil (s .made)))
+      (sym (append-nil (s .rows)))
 
   module _ (state : SoFar) (line a b : List ℕ) where
     abbrev first : CutSoFar Sifting
@@ -103,7 +106,8 @@ module _ (make : Line → List ℕ) where
     cut =
         ap (endBy close) (run-append close (openAt state line) (siftingAt state) a b)
         ∙ ap (λ (k : Sifting). endBy close (runBy close (first .left) k b)) (split (first .kept))
-        ∙ ap (endBy close) (run-told (shift (first .kept .made) (first .kept .rows)) close close (close-shift (first .kept .made) (first .kept .rows)) (first .left) (siftingAt (soFarIn first)) b)
+        ∙ ap (endBy close) (run-told (shift (first .kept .made) (first .kept .rows)) close close (close-shift (first .kept .made) (first .kept .rows))
+        (first .left) (siftingAt (soFarIn first)) b)
         ∙ end-shift (first .kept .made) (first .kept .rows) (runBy close (first .left) (siftingAt (soFarIn first)) b)
 
   -- ---- line after line
@@ -111,7 +115,13 @@ module _ (make : Line → List ℕ) where
   more s l = siftMore make s (lineOf l)
 
   all-lines : (s : Sifting) (ls : List (List ℕ))
-      → foldLines more s ls ≡ record { loaded = s .loaded + loadedIn P.Any ls; refused = s .refused + refusedIn P.Any ls; made = s .made ++ madeIn make ls; rows = s .rows ++ refusedRowsFrom (counted s + 1) ls }
+      → foldLines more s ls ≡ record {
+        loaded = s .loaded + loadedIn P.Any ls;
+        refused = s .refused + refusedIn P.Any ls;
+        made =
+            s .made ++ madeIn make ls;
+        rows = s .rows ++ refusedRowsFrom (counted s + 1) ls;
+      }
   unfolding foldLines loadedIn refusedIn madeIn refusedRowsFrom
   all-lines s [] =
       let p = add-zero (s .loaded) in
@@ -124,9 +134,11 @@ module _ (make : Line → List ℕ) where
       let t : Bool = isLoaded a in
       let row : List ℕ = refusedRowOf (counted s + 1) a in
       let p : tally (s .loaded) t + loadedIn P.Any ls ≡ s .loaded + (cond t 1 0 + loadedIn P.Any ls) = loaded-more t (s .loaded) (loadedIn P.Any ls) in
-      let q : tally (s .refused) (not t) + refusedIn P.Any ls ≡ s .refused + (cond t 0 1 + refusedIn P.Any ls) = refused-more t (s .refused) (refusedIn P.Any ls) in
+      let q : tally (s .refused) (not t) + refusedIn P.Any ls ≡ s .refused + (cond t 0 1 + refusedIn P.Any ls) =
+      refused-more t (s .refused) (refusedIn P.Any ls) in
       let u = append-assoc (s .made) (madeBy make a) (madeIn make ls) in
-      let v = ap (λ (n : ℕ). (s .rows ++ row) ++ refusedRowsFrom (n + 1) ls) (tally-both t (s .loaded) (s .refused)) ∙ append-assoc (s .rows) row (refusedRowsFrom (counted s + 1 + 1) ls) in
+      let v = ap (λ (n : ℕ). (s .rows ++ row) ++ refusedRowsFrom (n + 1) ls) (tally-both t (s .loaded) (s .refused))
+      ∙ append-assoc (s .rows) row (refusedRowsFrom (counted s + 1 + 1) ls) in
       all-lines (more s l) ls ∙ (λ i. record { loaded = p i; refused = q i; made = u i; rows = v i })
 
   -- THE MACHINE: from nothing, whatever the buffer held
@@ -134,7 +146,13 @@ module _ (make : Line → List ℕ) where
     abbrev lines : List (List ℕ)
     lines = linesOf input
 
-    all : ended fresh line input ≡ record { loaded = 0 + loadedIn P.Any lines; refused = 0 + refusedIn P.Any lines; made = [] ++ madeIn make lines; rows = [] ++ refusedRowsFrom (0 + 0 + 1) lines }
+    all : ended fresh line input ≡ record {
+      loaded = 0 + loadedIn P.Any lines;
+      refused = 0 + refusedIn P.Any lines;
+      made =
+          [] ++ madeIn make lines;
+      rows = [] ++ refusedRowsFrom (0 + 0 + 1) lines;
+    }
     all = folded close more (follows (siftMore make)) line (siftingAt fresh) input size ∙ all-lines (siftingAt fresh) lines
 
     pub ended-made : ended fresh line input .made ≡ madeOfAll make input
@@ -149,4 +167,5 @@ module _ (make : Line → List ℕ) where
         ∙ ap₂ (λ (x y : ℕ). refusedRowsFrom 1 lines ++ lastRow (length lines) x y) (zero-add (loadedIn P.Any lines)) (zero-add (refusedIn P.Any lines)))
 
     pub ended-counts : counted (ended fresh line input) ≡ length lines
-    ended-counts = ap counted all ∙ (let e = either P.Any lines in let p : (0 + loadedIn P.Any lines) + (0 + refusedIn P.Any lines) ≡ length lines = omega arith in p)
+    ended-counts = ap counted all ∙ (let e = either P.Any lines in let p : (0 + loadedIn P.Any lines) + (0 + refusedIn P.Any lines) ≡ length lines =
+        omega arith in p)

@@ -73,7 +73,8 @@ lastRowsAre (E.Refused r) rows′ = []
 unfoldable pub SiftedBy : Form → SoFar → List ℕ → List SiftCall → SiftLast → Type 0
 SiftedBy form state line [] last = FinishesSifted state form line (last .made) (last .rows) (last .finished) (last .made′) (last .rows′)
 SiftedBy form state line (c ∷ cs) last =
-    Sifts state form line (c .chunk) (c .made) (c .rows) (c .sifted) (c .line′) (c .made′) (c .rows′) × SiftedBy form (nextSoFar (c .sifted) state) (c .line′) cs last
+    Sifts state form line (c .chunk) (c .made) (c .rows) (c .sifted) (c .line′) (c .made′) (c .rows′)
+    × SiftedBy form (nextSoFar (c .sifted) state) (c .line′) cs last
 
 -- all that is made, and all rows, call after call
 unfoldable pub allMade : List SiftCall → SiftLast → List ℕ

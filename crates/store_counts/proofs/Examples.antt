@@ -12,7 +12,8 @@ use Rattle.store_counts.specs.Summary.{countPlace, recordBrings, summary
 places : countPlace 2 0 ∷ countPlace 3 0 ∷ countPlace 13 63 ∷ [] ≡ 2 ∷ 66 ∷ 769 ∷ []
 places = refl
 
-brings : recordBrings drawnBytes 0 ∷ recordBrings drawnBytes 1 ∷ recordBrings drawnBytes (countPlace 2 0) ∷ recordBrings drawnBytes (countPlace 13 1) ∷ recordBrings drawnBytes (countPlace 13 0) ∷ []
+brings : recordBrings drawnBytes 0 ∷ recordBrings drawnBytes 1 ∷ recordBrings drawnBytes (countPlace 2 0) ∷ recordBrings drawnBytes (countPlace 13 1)
+    ∷ recordBrings drawnBytes (countPlace 13 0) ∷ []
     ≡ 1 ∷ 1 ∷ 1 ∷ 1 ∷ 0 ∷ []
 brings = refl
 

@@ -36,7 +36,8 @@ pub mark-piece : (s : List ℕ) (code square once : ℕ) → 2 ≤ code → code
     → v ≡ (getD s place 0 + once) % 2 ^ 64 → set s place v ≡ markedOn s code square once
 mark-piece s code square once l h place v e q =
     ap (set s place) q ∙ ap (λ (p : ℕ). set s p ((getD s p 0 + once) % 2 ^ 64)) e
-    ∙ sym (ap₂ (λ (t u : Bool). cond (t && u) (set s (countPlace code square) ((getD s (countPlace code square) 0 + once) % 2 ^ 64)) s) (le-leb 2 code l) (le-leb code 13 h))
+    ∙ sym (ap₂ (λ (t u : Bool). cond (t && u) (set s (countPlace code square) ((getD s (countPlace code square) 0 + once) % 2 ^ 64)) s)
+    (le-leb 2 code l) (le-leb code 13 h))
 
 -- ---- what the first k squares bring to a place
 abbrev pub standsAt : List ℕ → ℕ → Bool
@@ -67,7 +68,8 @@ stays once bytes k place away = go (leb 2 place) refl
         absurd (away h e (ap (codeIn bytes) (sym e) ∙ eqb-true (codeIn bytes (countedSquare place)) (countedCode place) r))
 
     go : (t : Bool) → leb 2 place ≡ t
-        → cond t (cond (ltb (countedSquare place) k) (cond (standsAt bytes place) once 0) 0) 0 ≡ cond t (cond (ltb (countedSquare place) (k + 1)) (cond (standsAt bytes place) once 0) 0) 0
+        → cond t (cond (ltb (countedSquare place) k) (cond (standsAt bytes place) once 0) 0) 0
+        ≡ cond t (cond (ltb (countedSquare place) (k + 1)) (cond (standsAt bytes place) once 0) 0) 0
     go true e = inner (leb-true 2 place e) (ltb (countedSquare place) k) (ltb (countedSquare place) (k + 1)) (standsAt bytes place) refl refl refl
     go false e = refl
 
@@ -76,7 +78,9 @@ module _ (s : List ℕ) (once : ℕ) (bytes : List ℕ) where
   pub marks-none : length s ≡ 770 → ((p : ℕ) → getD s p 0 < 2 ^ 64) → s ≡ marksTo s once bytes 0
   marks-none n small =
       ext-getD 0 s (marksTo s once bytes 0) (n ∙ sym (tabulate-length 770 (marked s once bytes 0)))
-      (λ p h. sym (entry 770 (marked s once bytes 0) 0 p (omega arith) ∙ ap (λ (m : ℕ). (getD s p 0 + m) % 2 ^ 64) (nothing p (leb 2 p) (ltb (countedSquare p) 0) refl) ∙ ap (λ (m : ℕ). m % 2 ^ 64) (add-zero (getD s p 0)) ∙ mod-eq-of-lt (small p)))
+      (λ p h. sym (entry 770 (marked s once bytes 0) 0 p (omega arith)
+      ∙ ap (λ (m : ℕ). (getD s p 0 + m) % 2 ^ 64) (nothing p (leb 2 p) (ltb (countedSquare p) 0) refl)
+      ∙ ap (λ (m : ℕ). m % 2 ^ 64) (add-zero (getD s p 0)) ∙ mod-eq-of-lt (small p)))
     where
       nothing : (p : ℕ) (t u : Bool) → ltb (countedSquare p) 0 ≡ u → cond t (cond u (cond (standsAt bytes p) once 0) 0) 0 ≡ 0
       nothing p false u e = refl
@@ -112,7 +116,8 @@ module _ (s : List ℕ) (once : ℕ) (bytes : List ℕ) where
           ap₂ (λ (a b : Bool). cond a (cond b (cond (standsAt bytes p) once 0) 0) 0) (le-leb 2 p (omega arith)) (lt-ltb (countedSquare p) (k + 1) (omega arith))
           ∙ ap (λ (t : Bool). cond t once 0) (eq-eqb (codeIn bytes (countedSquare p)) (countedCode p) (ap (codeIn bytes) q ∙ sym r))
 
-      one-there : set (marksTo s once bytes k) (countPlace (codeIn bytes k) k) ((getD (marksTo s once bytes k) (countPlace (codeIn bytes k) k) 0 + once) % 2 ^ 64)
+      one-there : set (marksTo s once bytes k) (countPlace (codeIn bytes k) k)
+          ((getD (marksTo s once bytes k) (countPlace (codeIn bytes k) k) 0 + once) % 2 ^ 64)
           ≡ marksTo s once bytes (k + 1)
       one-there =
           let p : ℕ = countPlace (codeIn bytes k) k in
@@ -134,7 +139,8 @@ module _ (s : List ℕ) (once : ℕ) (bytes : List ℕ) where
         p = countPlace (codeIn bytes k) k
 
         go : (a b : Bool) → leb 2 (codeIn bytes k) ≡ a → leb (codeIn bytes k) 13 ≡ b
-            → cond (a && b) (set (marksTo s once bytes k) (countPlace (codeIn bytes k) k) ((getD (marksTo s once bytes k) (countPlace (codeIn bytes k) k) 0 + once) % 2 ^ 64)) (marksTo s once bytes k)
+            → cond (a && b) (set (marksTo s once bytes k) (countPlace (codeIn bytes k) k)
+            ((getD (marksTo s once bytes k) (countPlace (codeIn bytes k) k) 0 + once) % 2 ^ 64)) (marksTo s once bytes k)
             ≡ marksTo s once bytes (k + 1)
         go true true x y = one-there (leb-true 2 (codeIn bytes k) x) (leb-true (codeIn bytes k) 13 y)
         go true false x y = none-there (ap₂ _&&_ x y)
@@ -183,7 +189,8 @@ module _ (s : List ℕ) (once : ℕ) (bytes : List ℕ) where
             low : (p : ℕ) → (p ≡ 0 → ⊥) → (p ≡ 1 → ⊥) → 2 ≤ p
             low p z o = omega arith
 
-    pub marks-all : (t : List ℕ) (k v w : ℕ) → k ≡ 64 → t ≡ marksTo s once bytes k → v ≡ (getD t 0 0 + once) % 2 ^ 64 → w ≡ (getD (set t 0 v) 1 0 + points) % 2 ^ 64
+    pub marks-all : (t : List ℕ) (k v w : ℕ) → k ≡ 64 → t ≡ marksTo s once bytes k → v ≡ (getD t 0 0 + once) % 2 ^ 64
+        → w ≡ (getD (set t 0 v) 1 0 + points) % 2 ^ 64
         → set (set t 0 v) 1 w ≡ summaryMoved s once points bytes
     unfolding summaryMoved halfway target
     marks-all t k v w z e a b =

@@ -27,7 +27,8 @@ module _ (summary bytes : List ℕ) (m : length summary ≡ 770) (n : length byt
   pub counted-more : points ≡ halfIn bytes → summary′ ≡ summaryMoved summary 1 points bytes → summary′ ≡ ifSized summary bytes (summaryMore summary bytes)
   counted-more q e = e ∙ ap (λ (x : ℕ). summaryMoved summary 1 x bytes) q ∙ sized summary bytes (summaryMore summary bytes) m n
 
-  pub counted-less : points ≡ wrapsOff (halfIn bytes) → summary′ ≡ summaryMoved summary 0xffffffffffffffff points bytes → summary′ ≡ ifSized summary bytes (summaryLess summary bytes)
+  pub counted-less : points ≡ wrapsOff (halfIn bytes) → summary′ ≡ summaryMoved summary 0xffffffffffffffff points bytes
+      → summary′ ≡ ifSized summary bytes (summaryLess summary bytes)
   counted-less q e = e ∙ ap (λ (x : ℕ). summaryMoved summary 0xffffffffffffffff x bytes) q ∙ sized summary bytes (summaryLess summary bytes) m n
 
 -- a summary with a record more or less is 770 numbers too

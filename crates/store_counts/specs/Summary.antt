@@ -33,7 +33,8 @@ summaryAfresh run records = tabulate 770 (λ place. sumN records (λ i. recordBr
 -- ---- one record more, or one less
 -- so much to each place: `once` for the record and each of its pieces, `points` for the half points
 abbrev pub movedBy : ℕ → ℕ → List ℕ → ℕ → ℕ
-movedBy once points bytes place = cond (eqb place 0) once (cond (eqb place 1) points (cond (eqb (codeIn bytes (countedSquare place)) (countedCode place)) once 0))
+movedBy once points bytes place = cond (eqb place 0) once (cond (eqb place 1) points
+    (cond (eqb (codeIn bytes (countedSquare place)) (countedCode place)) once 0))
 
 -- "Sums are 64 bits, wrapping where a summary isn't its store's."
 abbrev pub wrappedSum : ℕ → ℕ → ℕ

@@ -9,6 +9,7 @@ sizes : List ℕ → List ℕ
 unfolding recordsFrom
 sizes input = map length (piecesOf input)
 
-cuts : sizes [] ∷ sizes (replicate 33 7) ∷ sizes (replicate 34 7) ∷ sizes (replicate 35 7) ∷ sizes (replicate 68 7) ∷ [] ≡ [] ∷ (33 ∷ []) ∷ (34 ∷ []) ∷ (34 ∷ 1 ∷ []) ∷ (34 ∷ 34 ∷ []) ∷ []
+cuts : sizes [] ∷ sizes (replicate 33 7) ∷ sizes (replicate 34 7) ∷ sizes (replicate 35 7) ∷ sizes (replicate 68 7) ∷ [] ≡ [] ∷ (33 ∷ []) ∷ (34 ∷ [])
+    ∷ (34 ∷ 1 ∷ []) ∷ (34 ∷ 34 ∷ []) ∷ []
 unfolding sizes
 cuts = refl

@@ -36,7 +36,13 @@ module _ (o : OpenPiece) (l : List ℕ) (b : ℕ) (v : Holds o l) where
 
   held-more : o .held < 33 → Holds (filled o b) (l ++ (b ∷ []))
   held-more h =
-      record { count = ap (λ (n : ℕ). n + 1) (v .count) ∙ sym (length-append l (b ∷ [])); short = omega arith; size = length-set (o .piece) (o .held) b ∙ v .size; front = longer }
+      record {
+        count = ap (λ (n : ℕ). n + 1) (v .count) ∙ sym (length-append l (b ∷ []));
+        short = omega arith;
+        size = length-set (o .piece) (o .held) b
+            ∙ v .size;
+        front = longer;
+      }
 
   -- the 34th byte: the buffer is the piece
   held-all : 33 ≤ o .held → filled o b .piece ≡ l ++ (b ∷ [])
@@ -63,14 +69,16 @@ module _ {S : Type 0} (close : S → List ℕ → S) where
     where
       go : (x : Bool) → ltb (o .held) 33 ≡ x
           → (o .held < 33 → endPieces close (runPieces close (filled o b) s t) ≡ foldLines close s (recordsFrom (l ++ (b ∷ [])) t))
-          → endPieces close (runPieces close (pieceEmptied (filled o b)) (close s (filled o b .piece)) t) ≡ foldLines close (close s (filled o b .piece)) (recordsFrom [] t)
+          → endPieces close (runPieces close (pieceEmptied (filled o b)) (close s (filled o b .piece)) t)
+          ≡ foldLines close (close s (filled o b .piece)) (recordsFrom [] t)
           → endPieces close (cond x (runPieces close (filled o b) s t) (runPieces close (pieceEmptied (filled o b)) (close s (filled o b .piece)) t))
           ≡ foldLines close s (cond x (recordsFrom (l ++ (b ∷ [])) t) ((l ++ (b ∷ [])) ∷ recordsFrom [] t))
       go true q p r = p (ltb-true (o .held) 33 q)
       go false q p r = r ∙ ap (λ (z : List ℕ). foldLines close (close s z) (recordsFrom [] t)) (held-all o l b v (ltb-false (o .held) 33 q))
 
   -- from nothing, whatever the buffer held
-  pub folded-pieces : (piece : List ℕ) (s : S) (t : List ℕ) → length piece ≡ 34 → endPieces close (runPieces close (holdingPiece piece 0) s t) ≡ foldLines close s (piecesOf t)
+  pub folded-pieces : (piece : List ℕ) (s : S) (t : List ℕ) → length piece ≡ 34
+      → endPieces close (runPieces close (holdingPiece piece 0) s t) ≡ foldLines close s (piecesOf t)
   folded-pieces piece s t h = folds (holdingPiece piece 0) [] s t (none-held piece h)
 
 -- ---- the pieces of records put one after another are the records
@@ -81,6 +89,7 @@ filled-up begun [] s h e = absurd (omega arith)
 filled-up begun (b ∷ []) s h e =
     ap (λ (x : Bool). cond x (recordsFrom (begun ++ (b ∷ [])) s) ((begun ++ (b ∷ [])) ∷ recordsFrom [] s)) (le-ltb (length begun) 33 (omega arith))
 filled-up begun (b ∷ (c ∷ t)) s h e =
-    ap (λ (x : Bool). cond x (recordsFrom (begun ++ (b ∷ [])) (c ∷ (t ++ s))) ((begun ++ (b ∷ [])) ∷ recordsFrom [] (c ∷ (t ++ s)))) (lt-ltb (length begun) 33 (omega arith))
+    ap (λ (x : Bool). cond x (recordsFrom (begun ++ (b ∷ [])) (c ∷ (t ++ s))) ((begun ++ (b ∷ [])) ∷ recordsFrom [] (c ∷ (t ++ s))))
+    (lt-ltb (length begun) 33 (omega arith))
     ∙ filled-up (begun ++ (b ∷ [])) (c ∷ t) s (omega arith) (let n = length-append begun (b ∷ []) in omega arith)
     ∙ ap (λ (l : List ℕ). l ∷ recordsFrom [] s) (append-assoc begun (b ∷ []) (c ∷ t))

@@ -74,7 +74,8 @@ module _ {S : Type 0} (close : S → List ℕ → S) (whole : PiecesSoFar S) (n 
         runs =
             t .runs ∙ pieces-find close (holdingPiece piece held) s (drop at chunk)
             ∙ ap (runPieces close (found .left) (closedPiece close s found)) (drop-drop (found .passed) at chunk)
-            ∙ sym (ap₂ (λ (x : OpenPiece) (y : S). runPieces close x y (drop (r .at) chunk)) o c ∙ ap (λ (k : ℕ). runPieces close (found .left) (closedPiece close s found) (drop k chunk)) a);
+            ∙ sym (ap₂ (λ (x : OpenPiece) (y : S). runPieces close x y (drop (r .at) chunk)) o c
+            ∙ ap (λ (k : ℕ). runPieces close (found .left) (closedPiece close s found) (drop k chunk)) a);
       }
 
   -- it goes on by a byte at least

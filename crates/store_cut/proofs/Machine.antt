@@ -97,7 +97,8 @@ pub left-piece : {S : Type 0} (close : S → List ℕ → S) (o : OpenPiece) (s 
 unfolding runPieces
 left-piece close o s [] h = record { size = refl; short = h }
 left-piece {S} close o s (b ∷ t) h =
-    go (ltb (o .held) 33) refl (λ l. left-piece close (filled o b) s t (omega arith)) (left-piece close (pieceEmptied (filled o b)) (close s (filled o b .piece)) t (omega arith))
+    go (ltb (o .held) 33) refl (λ l. left-piece close (filled o b) s t (omega arith))
+    (left-piece close (pieceEmptied (filled o b)) (close s (filled o b .piece)) t (omega arith))
   where
     f : PiecesSoFar S
     f = runPieces close (filled o b) s t
@@ -105,7 +106,8 @@ left-piece {S} close o s (b ∷ t) h =
     e : PiecesSoFar S
     e = runPieces close (pieceEmptied (filled o b)) (close s (filled o b .piece)) t
 
-    go : (x : Bool) → ltb (o .held) 33 ≡ x → (o .held < 33 → Left (filled o b) (f .left)) → Left (pieceEmptied (filled o b)) (e .left) → Left o (cond x f e .left)
+    go : (x : Bool) → ltb (o .held) 33 ≡ x → (o .held < 33 → Left (filled o b) (f .left)) → Left (pieceEmptied (filled o b)) (e .left)
+        → Left o (cond x f e .left)
     go true q p r =
         let k = p (ltb-true (o .held) 33 q) in
         record { size = k .size ∙ length-set (o .piece) (o .held) b; short = k .short }
@@ -121,7 +123,8 @@ unfolding runPieces
 pieces-told h c d e o s [] = refl
 pieces-told {S} {R} h c d e o s (b ∷ t) =
     go (ltb (o .held) 33) (pieces-told h c d e (filled o b) s t)
-    (ap (λ (x : R). runPieces d (pieceEmptied (filled o b)) x t) (e s (filled o b .piece)) ∙ pieces-told h c d e (pieceEmptied (filled o b)) (c s (filled o b .piece)) t)
+    (ap (λ (x : R). runPieces d (pieceEmptied (filled o b)) x t) (e s (filled o b .piece))
+    ∙ pieces-told h c d e (pieceEmptied (filled o b)) (c s (filled o b .piece)) t)
   where
     p : PiecesSoFar S
     p = runPieces c (filled o b) s t
@@ -129,7 +132,8 @@ pieces-told {S} {R} h c d e o s (b ∷ t) =
     q : PiecesSoFar S
     q = runPieces c (pieceEmptied (filled o b)) (c s (filled o b .piece)) t
 
-    go : (x : Bool) → runPieces d (filled o b) (h s) t ≡ toldBeside h p → runPieces d (pieceEmptied (filled o b)) (d (h s) (filled o b .piece)) t ≡ toldBeside h q
+    go : (x : Bool) → runPieces d (filled o b) (h s) t ≡ toldBeside h p
+        → runPieces d (pieceEmptied (filled o b)) (d (h s) (filled o b .piece)) t ≡ toldBeside h q
         → cond x (runPieces d (filled o b) (h s) t) (runPieces d (pieceEmptied (filled o b)) (d (h s) (filled o b .piece)) t) ≡ toldBeside h (cond x p q)
     go true x y = x
     go false x y = y

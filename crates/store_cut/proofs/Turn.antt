@@ -23,7 +23,8 @@ pub record Turn (start : FoundPiece) (from size : ℕ) (chunk piece : List ℕ) 
   pub finds : start ≡ aheadPiece (i - from) (findPiece (holdingPiece piece held) (drop i chunk))
 
 find-at : (o : OpenPiece) (s : List ℕ) (i : ℕ) → i < length s
-    → findPiece o (drop i s) ≡ cond (ltb (o .held) 33) (laterPiece (findPiece (filled o (getD s i 0)) (drop (i + 1) s))) (record { passed = 1; left = pieceEmptied (filled o (getD s i 0)); ended = true })
+    → findPiece o (drop i s) ≡ cond (ltb (o .held) 33) (laterPiece (findPiece (filled o (getD s i 0)) (drop (i + 1) s)))
+    (record { passed = 1; left = pieceEmptied (filled o (getD s i 0)); ended = true })
 unfolding findPiece
 find-at o s i h = rw (drop-cons s i 0, add-one i)
 
@@ -31,10 +32,12 @@ find-end : (o : OpenPiece) (s : List ℕ) (i : ℕ) → length s ≤ i → findP
 unfolding findPiece
 find-end o s i h = rw (drop-of-length-le s h)
 
-same : (p q : ℕ) (o : OpenPiece) (ended : Bool) → p ≡ q → _≡_ {A = FoundPiece} (record { passed = p; left = o; ended = ended }) (record { passed = q; left = o; ended = ended })
+same : (p q : ℕ) (o : OpenPiece) (ended : Bool) → p ≡ q → _≡_ {A = FoundPiece} (record { passed = p; left = o; ended = ended })
+    (record { passed = q; left = o; ended = ended })
 same p q o ended e = cc
 
-pub turn-none : (from : ℕ) (chunk piece : List ℕ) (held : ℕ) → Turn (findPiece (holdingPiece piece held) (drop from chunk)) from (length piece) chunk piece held from
+pub turn-none : (from : ℕ) (chunk piece : List ℕ) (held : ℕ) → Turn (findPiece (holdingPiece piece held) (drop from chunk)) from (length piece) chunk
+    piece held from
 turn-none from chunk piece held =
     let f : FoundPiece = findPiece (holdingPiece piece held) (drop from chunk) in
     record { least = omega arith; long = refl; finds = same (f .passed) (f .passed + (from - from)) (f .left) (f .ended) (omega arith) }
@@ -52,7 +55,12 @@ module _ (start : FoundPiece) (from n : ℕ) (chunk piece : List ℕ) (held i : 
               t .finds
               ∙ ap (aheadPiece (i - from))
               (find-at (holdingPiece piece held) chunk i h
-              ∙ ap (λ (x : Bool). cond x (laterPiece f) (record { passed = 1; left = pieceEmptied (filled (holdingPiece piece held) (getD chunk i 0)); ended = true })) (lt-ltb held 33 l))
+              ∙ ap (λ (x : Bool). cond x (laterPiece f) (record {
+                passed = 1;
+                left =
+                    pieceEmptied (filled (holdingPiece piece held) (getD chunk i 0));
+                ended = true;
+              })) (lt-ltb held 33 l))
               ∙ same (f .passed + 1 + (i - from)) (f .passed + (i + 1 - from)) (f .left) (f .ended) (omega arith)
               ∙ rw (← p);
         }
@@ -65,7 +73,12 @@ module _ (start : FoundPiece) (from n : ℕ) (chunk piece : List ℕ) (held i : 
         t .finds
         ∙ ap (aheadPiece (i - from))
         (find-at (holdingPiece piece held) chunk i h
-        ∙ ap (λ (x : Bool). cond x (laterPiece f) (record { passed = 1; left = pieceEmptied (filled (holdingPiece piece held) (getD chunk i 0)); ended = true })) (le-ltb held 33 l))
+        ∙ ap (λ (x : Bool). cond x (laterPiece f) (record {
+          passed = 1;
+          left =
+              pieceEmptied (filled (holdingPiece piece held) (getD chunk i 0));
+          ended = true;
+        })) (le-ltb held 33 l))
         ∙ same (1 + (i - from)) (i + 1 - from) (pieceEmptied (filled (holdingPiece piece held) (getD chunk i 0))) true (omega arith) in
         let q : from + (i + 1 - from) ≡ i + 1 = omega arith in
         (a ∙ sym (ap (cutPieceOf from) z ∙ rw q), p ∙ sym (ap (λ (x : FoundPiece). x .left .piece) z))
@@ -74,6 +87,7 @@ module _ (start : FoundPiece) (from n : ℕ) (chunk piece : List ℕ) (held i : 
   turn-end h r a =
       let m : from ≤ i = t .least in
       let z : start ≡ record { passed = i - from; left = holdingPiece piece held; ended = false } =
-      t .finds ∙ ap (aheadPiece (i - from)) (find-end (holdingPiece piece held) chunk i h) ∙ same (0 + (i - from)) (i - from) (holdingPiece piece held) false (omega arith) in
+      t .finds ∙ ap (aheadPiece (i - from)) (find-end (holdingPiece piece held) chunk i h)
+      ∙ same (0 + (i - from)) (i - from) (holdingPiece piece held) false (omega arith) in
       let q : from + (i - from) ≡ i = omega arith in
       (a ∙ sym (ap (cutPieceOf from) z ∙ rw q), sym (ap (λ (x : FoundPiece). x .left .piece) z))

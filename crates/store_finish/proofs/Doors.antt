@@ -63,7 +63,12 @@ module _ (state : StoreSoFar) where
       go : (t : Bool) → 0 + length (withTotals (cond t (rowMore (storeCounts state) (refusalOf R.Length)) (storeCounts state))) ≤ 116
       go true =
           let m : Kept = rowMore (storeCounts state) (refusalOf R.Length) in
-          omega (arith, length-append (refusedRow lines 18) (lastRow (m .loaded + m .refused) (m .loaded) (m .refused)), refused-32 lines 18 (let q : 18 < 100 = omega arith in q), fits-last (m .loaded + m .refused) (m .loaded) (m .refused))
+          omega (
+            arith,
+            length-append (refusedRow lines 18) (lastRow (m .loaded + m .refused) (m .loaded) (m .refused)),
+            refused-32 lines 18 (let q : 18 < 100 = omega arith in q),
+            fits-last (m .loaded + m .refused) (m .loaded) (m .refused),
+          )
       go false = omega (arith, fits-last (state .loaded + state .refused) (state .loaded) (state .refused))
 
 -- ---- finish
@@ -71,8 +76,10 @@ module _ (state : StoreSoFar) (out : List ℕ) where
   last : List ℕ
   last = storeFinished state
 
-  pub by-tests : (s t u : Bool) → ltb (state .held) 34 ≡ s → ltb (lastPieces state) (2 ^ 64) ≡ t → roomFor out 0 (storeFinished state) ≡ u → storeFinishOf state out ≡ fitLast s t u (storeFinished state)
-  by-tests s t u p q r = ap₂ (λ (x y : Bool). fitLast x y (roomFor out 0 (storeFinished state)) (storeFinished state)) p q ∙ ap (λ (z : Bool). fitLast s t z (storeFinished state)) r
+  pub by-tests : (s t u : Bool) → ltb (state .held) 34 ≡ s → ltb (lastPieces state) (2 ^ 64) ≡ t → roomFor out 0 (storeFinished state) ≡ u
+      → storeFinishOf state out ≡ fitLast s t u (storeFinished state)
+  by-tests s t u p q r = ap₂ (λ (x y : Bool). fitLast x y (roomFor out 0 (storeFinished state)) (storeFinished state)) p q
+      ∙ ap (λ (z : Bool). fitLast s t z (storeFinished state)) r
 
   silent : (r : Finished) (a : Came (List ℕ)) → storeFinishOf state out ≡ a → finishPaper r ≡ lengthOf a → lastText a ≡ [] → lastWrote (finishPaper r) ≡ 0
       → (out′ : List ℕ) → out′ ≡ out → FinishesStore state out r out′
@@ -89,7 +96,8 @@ module _ (state : StoreSoFar) (out : List ℕ) where
     pub finish-many : ltb (lastPieces state) (2 ^ 64) ≡ false → FinishesStore state out E.Many out
     finish-many n = silent E.Many many (by-tests true false _ (lt-ltb (state .held) 34 short) n refl) refl refl refl out refl
 
-    module _ (counts : ltb (lastPieces state) (2 ^ 64) ≡ true) (text : List ℕ) (is : text ≡ storeFinished state) (out′ : List ℕ) (p : Placed) (put : Puts out out′ 0 text p) where
+    module _ (counts : ltb (lastPieces state) (2 ^ 64) ≡ true) (text : List ℕ) (is : text ≡ storeFinished state) (out′ : List ℕ) (p : Placed)
+        (put : Puts out out′ 0 text p) where
       puts : Puts out out′ 0 (storeFinished state) p
       puts = subst (λ (t : List ℕ). Puts out out′ 0 t p) is put
 

@@ -9,5 +9,6 @@ use Rattle.ledger_finish.specs.declared.Finished.the-variants as E
 use Rattle.store_rows.specs.declared.StoreSoFar.{StoreSoFar}
 use Rattle.store_finish.specs.Promises.{FinishesStore}
 
-pub store-last-within : {state : StoreSoFar} {out : List ℕ} {r : Finished} {out′ : List ℕ} → FinishesStore state out r out′ → (n : ℕ) → r ≡ E.Rows n → n ≤ length out
+pub store-last-within : {state : StoreSoFar} {out : List ℕ} {r : Finished} {out′ : List ℕ} → FinishesStore state out r out′ → (n : ℕ) → r ≡ E.Rows n
+    → n ≤ length out
 store-last-within {out = out} f n told = subst (λ (q : Finished). lastWrote (finishPaper q) ≤ length out) told (f .within)

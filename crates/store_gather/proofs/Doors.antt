@@ -16,28 +16,39 @@ use Rattle.store_gather.specs.declared.GatheredSoFar.{GatheredSoFar}
 use Rattle.store_gather.specs.declared.Gathering.the-variants as G
 
 module _ (state : GatheredSoFar) (piece chunk summary : List ℕ) where
-  refuses : (eqb (length piece) 34 && eqb (length summary) 770) && ltb (state .held) 34 ≡ false → FeedsSummary state piece chunk summary (G.Refused R.Shape) piece summary
+  refuses : (eqb (length piece) 34 && eqb (length summary) 770) && ltb (state .held) 34 ≡ false
+      → FeedsSummary state piece chunk summary (G.Refused R.Shape) piece summary
   refuses e =
-      let a : refusalOf R.Shape ≡ piecesGathered state piece chunk summary = sym (ap (λ (t : Bool). orRefuse t R.Shape (given (runGather state piece chunk summary))) e) in
-      record { answer = ap stateIn a; kept = ap (λ (x : Answer (PiecesSoFar Gathered)). gatheredPiece x piece) a; counts = ap (λ (x : Answer (PiecesSoFar Gathered)). summaryAfter x summary) a }
+      let a : refusalOf R.Shape ≡ piecesGathered state piece chunk summary =
+      sym (ap (λ (t : Bool). orRefuse t R.Shape (given (runGather state piece chunk summary))) e) in
+      record {
+        answer = ap stateIn a;
+        kept = ap (λ (x : Answer (PiecesSoFar Gathered)). gatheredPiece x piece) a;
+        counts =
+            ap (λ (x : Answer (PiecesSoFar Gathered)). summaryAfter x summary) a;
+      }
 
   pub no-buffer : (length piece ≡ 34 → ⊥) → FeedsSummary state piece chunk summary (G.Refused R.Shape) piece summary
   no-buffer n = refuses (ap (λ (t : Bool). (t && eqb (length summary) 770) && ltb (state .held) 34) (ne-eqb (length piece) 34 n))
 
   pub no-summary : (length summary ≡ 770 → ⊥) → FeedsSummary state piece chunk summary (G.Refused R.Shape) piece summary
   no-summary n =
-      refuses (ap (λ (t : Bool). (eqb (length piece) 34 && t) && ltb (state .held) 34) (ne-eqb (length summary) 770 n) ∙ ap (λ (t : Bool). t && ltb (state .held) 34) (and-false (eqb (length piece) 34)))
+      refuses (ap (λ (t : Bool). (eqb (length piece) 34 && t) && ltb (state .held) 34) (ne-eqb (length summary) 770 n)
+      ∙ ap (λ (t : Bool). t && ltb (state .held) 34) (and-false (eqb (length piece) 34)))
 
   pub holds-all : 34 ≤ state .held → FeedsSummary state piece chunk summary (G.Refused R.Shape) piece summary
   holds-all n =
-      refuses (ap (λ (t : Bool). (eqb (length piece) 34 && eqb (length summary) 770) && t) (le-ltb (state .held) 34 n) ∙ and-false (eqb (length piece) 34 && eqb (length summary) 770))
+      refuses (ap (λ (t : Bool). (eqb (length piece) 34 && eqb (length summary) 770) && t) (le-ltb (state .held) 34 n)
+      ∙ and-false (eqb (length piece) 34 && eqb (length summary) 770))
 
-  pub fed : length piece ≡ 34 → length summary ≡ 770 → state .held < 34 → (next : GatheredSoFar) (piece′ summary′ : List ℕ) → TakesPieces state piece chunk summary next piece′ summary′
+  pub fed : length piece ≡ 34 → length summary ≡ 770 → state .held < 34 → (next : GatheredSoFar) (piece′ summary′ : List ℕ)
+      → TakesPieces state piece chunk summary next piece′ summary′
       → FeedsSummary state piece chunk summary (G.More next) piece′ summary′
   fed p s h next piece′ summary′ t =
       let held : (eqb (length piece) 34 && eqb (length summary) 770) && ltb (state .held) 34 ≡ true =
       ap₂ _&&_ (ap₂ _&&_ (eq-eqb (length piece) 34 p) (eq-eqb (length summary) 770 s)) (lt-ltb (state .held) 34 h) in
-      let a : given (runGather state piece chunk summary) ≡ piecesGathered state piece chunk summary = sym (ap (λ (t : Bool). orRefuse t R.Shape (given (runGather state piece chunk summary))) held) in
+      let a : given (runGather state piece chunk summary) ≡ piecesGathered state piece chunk summary =
+      sym (ap (λ (t : Bool). orRefuse t R.Shape (given (runGather state piece chunk summary))) held) in
       record {
         answer = ap given (t .answer) ∙ ap stateIn a;
         kept = t .kept ∙ ap (λ (x : Answer (PiecesSoFar Gathered)). gatheredPiece x piece) a;
@@ -69,9 +80,11 @@ module _ (state : GatheredSoFar) (records : ℕ) where
       pub past-most : 10000000 ≤ records → (n : ℕ) → n ≡ 22 → (r : First) → r ≡ record { number = 10000001; refusal = n } → EndsSummary state records r
       unfolding endBy
       past-most m n q r e =
-          e ∙ ap (λ (j : ℕ). record { number = 10000001; refusal = j }) q ∙ tests true false false (eq-eqb (state .number) 0 z) (ne-eqb (state .held) 0 h) (le-ltb records 10000000 m)
+          e ∙ ap (λ (j : ℕ). record { number = 10000001; refusal = j }) q
+          ∙ tests true false false (eq-eqb (state .number) 0 z) (ne-eqb (state .held) 0 h) (le-ltb records 10000000 m)
 
       pub short-piece : records < 10000000 → (n : ℕ) → n ≡ 18 → (r : First) → r ≡ record { number = records + 1; refusal = n } → EndsSummary state records r
       unfolding endBy
       short-piece m n q r e =
-          e ∙ ap (λ (j : ℕ). record { number = records + 1; refusal = j }) q ∙ tests true false true (eq-eqb (state .number) 0 z) (ne-eqb (state .held) 0 h) (lt-ltb records 10000000 m)
+          e ∙ ap (λ (j : ℕ). record { number = records + 1; refusal = j }) q
+          ∙ tests true false true (eq-eqb (state .number) 0 z) (ne-eqb (state .held) 0 h) (lt-ltb records 10000000 m)

@@ -21,7 +21,11 @@ BeginsSummary r = r ≡ record { held = 0; number = 0; refusal = 0 }
 
 -- a piece, by the code's words
 pub record CountsPiece (number refusal : ℕ) (piece summary : List ℕ) (r : First) (summary′ : List ℕ) : Type 0 where
-  pub answer : r ≡ record { number = countPiece (gathered summary number refusal) piece .number; refusal = countPiece (gathered summary number refusal) piece .refusal }
+  pub answer : r ≡ record {
+    number = countPiece (gathered summary number refusal) piece .number;
+    refusal =
+        countPiece (gathered summary number refusal) piece .refusal;
+  }
   pub counts : summary′ ≡ countPiece (gathered summary number refusal) piece .summary
 
 -- the machine's run over a chunk

@@ -71,19 +71,29 @@ module _ (state : GatheredSoFar) (piece summary : List ℕ) (short : state .held
   -- by how its tests came out
   closed : (x z : Bool) → eqb (state .number) 0 ≡ x
       → Ended (cond x (cond z (gathered summary (recordsIn summary + 1) 18) (gathered summary 10000001 22)) s)
-      (cond x (cond z (record { number = recordsIn summary + 1; refusal = 18 }) (record { number = 10000001; refusal = 22 })) (record { number = state .number; refusal = state .refusal })) summary
+      (cond x (cond z (record { number = recordsIn summary + 1; refusal = 18 }) (record { number = 10000001; refusal = 22 }))
+      (record { number = state .number; refusal = state .refusal })) summary
   closed true true e =
       let here : First = record { number = recordsIn summary + 1; refusal = 18 } in
-      record { told = sym (ap (λ (t : Bool). cond t (record { number = 0; refusal = 0 }) here) (ne-eqb (recordsIn summary + 1) 0 (λ n. omega arith))); counts = refl }
+      record {
+        told = sym (ap (λ (t : Bool). cond t (record { number = 0; refusal = 0 }) here) (ne-eqb (recordsIn summary + 1) 0 (λ n. omega arith)));
+        counts = refl;
+      }
   closed true false e = record { told = refl; counts = refl }
-  closed false z e = record { told = sym (ap (λ (t : Bool). cond t (record { number = 0; refusal = 0 }) (record { number = state .number; refusal = state .refusal })) e); counts = refl }
+  closed false z e = record {
+    told = sym (ap (λ (t : Bool). cond t (record { number = 0; refusal = 0 })
+        (record { number = state .number; refusal = state .refusal })) e);
+    counts = refl;
+  }
 
-  finished : (y : Bool) → eqb (state .held) 0 ≡ y → Ended (endPieces countPiece (record { left = holdingPiece piece (state .held); kept = s })) (endFirst state (recordsIn summary)) summary
+  finished : (y : Bool) → eqb (state .held) 0 ≡ y → Ended (endPieces countPiece (record { left = holdingPiece piece (state .held); kept = s }))
+      (endFirst state (recordsIn summary)) summary
   finished true e =
       let none : state .held ≡ 0 = eqb-true (state .held) 0 e in
       subst₂ (λ (t u : Bool). Ended (cond t (countPiece s lastPiece) s)
       (cond (eqb (state .number) 0)
-      (cond u (record { number = 0; refusal = 0 }) (cond (ltb (recordsIn summary) 10000000) (record { number = recordsIn summary + 1; refusal = 18 }) (record { number = 10000001; refusal = 22 })))
+      (cond u (record { number = 0; refusal = 0 }) (cond (ltb (recordsIn summary) 10000000) (record { number = recordsIn summary + 1; refusal = 18 })
+      (record { number = 10000001; refusal = 22 })))
       (record { number = state .number; refusal = state .refusal })) summary)
       (sym (le-ltb 0 (state .held) (omega arith))) (sym e)
       (record { told = refl; counts = refl })
@@ -92,11 +102,14 @@ module _ (state : GatheredSoFar) (piece summary : List ℕ) (short : state .held
       let says : pieceSays lastPiece ≡ refusalOf R.Length = short-piece piece (state .held) short in
       subst₂ (λ (t u : Bool). Ended (cond t (countPiece s lastPiece) s)
       (cond (eqb (state .number) 0)
-      (cond u (record { number = 0; refusal = 0 }) (cond (ltb (recordsIn summary) 10000000) (record { number = recordsIn summary + 1; refusal = 18 }) (record { number = 10000001; refusal = 22 })))
+      (cond u (record { number = 0; refusal = 0 }) (cond (ltb (recordsIn summary) 10000000) (record { number = recordsIn summary + 1; refusal = 18 })
+      (record { number = 10000001; refusal = 22 })))
       (record { number = state .number; refusal = state .refusal })) summary)
       (sym (lt-ltb 0 (state .held) (omega arith))) (sym e)
-      (subst (λ (a : Answer Line). Ended (cond (eqb (state .number) 0) (cond (ltb (recordsIn summary) 10000000) (orFirst summary lastPiece a) (gathered summary 10000001 22)) s)
-      (cond (eqb (state .number) 0) (cond (ltb (recordsIn summary) 10000000) (record { number = recordsIn summary + 1; refusal = 18 }) (record { number = 10000001; refusal = 22 }))
+      (subst (λ (a : Answer Line). Ended (cond (eqb (state .number) 0)
+      (cond (ltb (recordsIn summary) 10000000) (orFirst summary lastPiece a) (gathered summary 10000001 22)) s)
+      (cond (eqb (state .number) 0) (cond (ltb (recordsIn summary) 10000000) (record { number = recordsIn summary + 1; refusal = 18 })
+      (record { number = 10000001; refusal = 22 }))
       (record { number = state .number; refusal = state .refusal })) summary)
       (sym says) (closed (eqb (state .number) 0) (ltb (recordsIn summary) 10000000) refl))
 
@@ -110,7 +123,8 @@ record Fed (m : PiecesSoFar Gathered) (r : Gathering) (piece′ summary′ : Lis
   kept : piece′ ≡ m .left .piece
   counts : summary′ ≡ m .kept .summary
 
-fed : (state : GatheredSoFar) (piece chunk summary : List ℕ) (r : Gathering) (piece′ summary′ : List ℕ) → FeedsSummary state piece chunk summary r piece′ summary′
+fed : (state : GatheredSoFar) (piece chunk summary : List ℕ) (r : Gathering) (piece′ summary′ : List ℕ)
+    → FeedsSummary state piece chunk summary r piece′ summary′
     → length piece ≡ 34 → state .held < 34 → length summary ≡ 770 → Fed (runGather state piece chunk summary) r piece′ summary′
 fed state piece chunk summary r piece′ summary′ f size short numbers =
     let m : PiecesSoFar Gathered = runGather state piece chunk summary in
@@ -124,11 +138,16 @@ fed state piece chunk summary r piece′ summary′ f size short numbers =
     }
 
 -- ---- all calls
-all : (state : GatheredSoFar) (piece summary : List ℕ) (calls : List GatherCall) (first : First) (last : List ℕ) → length piece ≡ 34 → state .held < 34 → length summary ≡ 770
+all : (state : GatheredSoFar) (piece summary : List ℕ) (calls : List GatherCall) (first : First) (last : List ℕ) → length piece ≡ 34 → state .held < 34
+    → length summary ≡ 770
     → GatherCallsMade state piece summary calls first last → Ended (endPieces countPiece (runGather state piece (gatherInput calls) summary)) first last
 unfolding runPieces gatherInput GatherCallsMade
 all state piece summary [] first last size short numbers made =
-    subst₂ (Ended (endPieces countPiece (record { left = holdingPiece piece (state .held); kept = gathered summary (state .number) (state .refusal) }))) (sym (made .0)) (made .1)
+    subst₂ (Ended (endPieces countPiece (record {
+      left = holdingPiece piece (state .held);
+      kept =
+          gathered summary (state .number) (state .refusal);
+    }))) (sym (made .0)) (made .1)
     (finished state piece summary short (eqb (state .held) 0) refl)
 all state piece summary (c ∷ cs) first last size short numbers made =
     let m : PiecesSoFar Gathered = runGather state piece (c .chunk) summary in
@@ -164,7 +183,8 @@ whole piece calls first last size made =
     let f : First = firstRefused 1 (piecesOf input) in
     let none = kept-none input in
     let e : endPieces countPiece (runGather freshGather piece input emptySummary) ≡ upTo input f =
-    folded-pieces countPiece piece (gathered emptySummary 0 0) input size ∙ from input (length input / 34) 0 emptySummary none (sym (ap recordsIn (none .is) ∙ records-are input (none .n))) (zero-add (length input / 34)) in
+    folded-pieces countPiece piece (gathered emptySummary 0 0) input size
+    ∙ from input (length input / 34) 0 emptySummary none (sym (ap recordsIn (none .is) ∙ records-are input (none .n))) (zero-add (length input / 34)) in
     let g = subst (λ (x : Gathered). Ended x first last) e (all freshGather piece emptySummary calls first last size (omega arith) refl made) in
     let told : first ≡ f = g .told ∙ first-has 1 (piecesOf input) (summaryAfresh input (readBefore f input)) (λ z. omega arith) in
     record { told = told; afresh = g .counts ∙ ap (λ (x : First). summaryAfresh input (readBefore x input)) (sym told) }

@@ -34,7 +34,8 @@ stays : (summary : List ℕ) (number refusal : ℕ) (ps : List (List ℕ)) → (
 unfolding foldLines
 stays summary number refusal [] n = refl
 stays summary number refusal (p ∷ ps) n =
-    ap (λ (t : Bool). foldLines countPiece (cond t (cond (ltb (recordsIn summary) 10000000) (orFirst summary p (pieceSays p)) (gathered summary 10000001 22)) (gathered summary number refusal)) ps)
+    ap (λ (t : Bool). foldLines countPiece (cond t (cond (ltb (recordsIn summary) 10000000) (orFirst summary p (pieceSays p))
+    (gathered summary 10000001 22)) (gathered summary number refusal)) ps)
     (ne-eqb number 0 n)
     ∙ stays summary number refusal ps n
 
@@ -54,7 +55,8 @@ module _ (input : List ℕ) where
     ended ps = foldLines countPiece (gathered summary 0 0) ps ≡ upTo (firstRefused (i + 1) ps)
 
     -- a piece that is refused is the first
-    first-here : (p : List ℕ) (ps : List (List ℕ)) (n : ℕ) (v : List ℕ) → countPiece (gathered summary 0 0) p ≡ gathered summary (i + 1) n → saysAt (i + 1) p ≡ refused n v → ended (p ∷ ps)
+    first-here : (p : List ℕ) (ps : List (List ℕ)) (n : ℕ) (v : List ℕ) → countPiece (gathered summary 0 0) p ≡ gathered summary (i + 1) n
+        → saysAt (i + 1) p ≡ refused n v → ended (p ∷ ps)
     unfolding foldLines firstRefused
     first-here p ps n v c s =
         let here : First = record { number = i + 1; refusal = n } in
@@ -70,7 +72,8 @@ module _ (input : List ℕ) where
     says-by true e p = let l = ltb-true i 10000000 e in ap (λ (t : Bool). orRefuse t R.Many (pieceSays p)) (lt-ltb (i + 1) 10000001 (omega arith))
     says-by false e p = let l = ltb-false i 10000000 e in ap (λ (t : Bool). orRefuse t R.Many (pieceSays p)) (le-ltb (i + 1) 10000001 (omega arith))
 
-    piece-by : (t : Bool) → ltb i 10000000 ≡ t → (p : List ℕ) → countPiece (gathered summary 0 0) p ≡ cond t (orFirst summary p (pieceSays p)) (gathered summary 10000001 22)
+    piece-by : (t : Bool) → ltb i 10000000 ≡ t → (p : List ℕ) → countPiece (gathered summary 0 0) p
+        ≡ cond t (orFirst summary p (pieceSays p)) (gathered summary 10000001 22)
     piece-by t e p = ap (λ (x : Bool). cond x (orFirst summary p (pieceSays p)) (gathered summary 10000001 22)) (ap (λ (n : ℕ). ltb n 10000000) counts-i ∙ e)
 
     past-most : ltb i 10000000 ≡ false → (p : List ℕ) (ps : List (List ℕ)) → ended (p ∷ ps)
@@ -106,7 +109,8 @@ module _ (input : List ℕ) where
           → foldLines countPiece (gathered (summaryMore summary here) 0 0) ps ≡ upTo (firstRefused (i + 1 + 1) ps) → ended (here ∷ ps)
       unfolding foldLines firstRefused
       read-here e l s ps r =
-          let both = ap₂ (λ (x y : Bool). cond (x && y) (summaryMore summary here) summary) (eq-eqb (length summary) 770 numbers) (eq-eqb (length here) 34 size) in
+          let both = ap₂ (λ (x y : Bool). cond (x && y) (summaryMore summary here) summary) (eq-eqb (length summary) 770 numbers)
+          (eq-eqb (length here) 34 size) in
           ap (λ (g : Gathered). foldLines countPiece g ps)
           (piece-by true e here ∙ ap (orFirst summary here) s ∙ ap (λ (x : List ℕ). gathered x 0 0) both) ∙ r
           ∙ sym (ap (λ (a : Answer Line). upTo (orLater (i + 1) a (firstRefused (i + 1 + 1) ps))) (says-by true e here ∙ s))

@@ -90,6 +90,7 @@ said-none = refl
 pub rows-of-parts : (parts : List (List ℕ)) → RowsOfParts parts
 rows-of-parts parts = record {
   whole = λ e.
-      join-said (λ (t : List ℕ). map pieceSays (piecesOf t)) (λ (t : List ℕ). all-for-rows pieceSays piece-for-row (piecesOf t)) said-none atRecordEnds said-joined
+      join-said (λ (t : List ℕ). map pieceSays (piecesOf t)) (λ (t : List ℕ). all-for-rows pieceSays piece-for-row (piecesOf t)) said-none atRecordEnds
+      said-joined
       storeLedgerOf store-said parts e;
 }

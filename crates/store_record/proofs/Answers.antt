@@ -31,7 +31,8 @@ module _ (piece : List ℕ) where
       orRefuse length R.Length
       (orRefuse code (R.Code (lowestWrong (isCode (boardIn piece)))) (orRefuse side R.Side (orRefuse half R.Result (given (positionIn piece)))))
 
-  all-tests : (a b c d : Bool) → eqb (length piece) 34 ≡ a → coded (boardIn piece) ≡ b → ltb (sideIn piece) 2 ≡ c → ltb (halfIn piece) 3 ≡ d → tests a b c d ≡ pieceSays piece
+  all-tests : (a b c d : Bool) → eqb (length piece) 34 ≡ a → coded (boardIn piece) ≡ b → ltb (sideIn piece) 2 ≡ c → ltb (halfIn piece) 3 ≡ d
+      → tests a b c d ≡ pieceSays piece
   unfolding tests pieceSays recordSays coded
   all-tests a b c d p q r s = sym (ap₂ (λ (x y : Bool). tests x y (ltb (sideIn piece) 2) (ltb (halfIn piece) 3)) p q ∙ ap₂ (tests a b) r s)
 
@@ -54,7 +55,8 @@ module _ (piece : List ℕ) where
       pub bad-side : (r : Loaded) → ReadsOver (refusalOf R.Side) r → 2 ≤ sideIn piece → SaysPiece piece r
       unfolding tests
       bad-side r h k =
-          by-same (refusalOf R.Side) (pieceSays piece) r (all-tests true true false _ (eq-eqb (length piece) 34 size) (code-is ∙ fine) (le-ltb (sideIn piece) 2 k) refl) h
+          by-same (refusalOf R.Side) (pieceSays piece) r (all-tests true true false _ (eq-eqb (length piece) 34 size) (code-is ∙ fine)
+          (le-ltb (sideIn piece) 2 k) refl) h
 
       module _ (k : sideIn piece < 2) where
         pub bad-result : (r : Loaded) → ReadsOver (refusalOf R.Result) r → 3 ≤ halfIn piece → SaysPiece piece r

@@ -51,7 +51,8 @@ module _ (bbs board : List ℕ) (state : State) (half : ℕ) (place : List ℕ) 
 
   module _ (fit : r ≡ C.Fit) where
     -- the tests after the position's came to an answer
-    gives : (x y : Bool) → ltb half 3 ≡ x → eqb (length place) 34 ≡ y → (w : Stored) (place′ : List ℕ) → storedPaper w ≡ isStored (after x y) → place′ ≡ placeAfter (after x y) place
+    gives : (x y : Bool) → ltb half 3 ≡ x → eqb (length place) 34 ≡ y → (w : Stored) (place′ : List ℕ) → storedPaper w ≡ isStored (after x y)
+        → place′ ≡ placeAfter (after x y) place
         → WritesRecord bbs board state half place w place′
     unfolding storeOf after
     gives x y p q w place′ a b =
@@ -67,7 +68,8 @@ module _ (bbs board : List ℕ) (state : State) (half : ℕ) (place : List ℕ) 
       unfolding after
       no-place n = gives true false (lt-ltb half 3 h) (ne-eqb (length place) 34 n) (K.Refused R.Length) place refl refl
 
-      pub done : length place ≡ 34 → (bytes place′ : List ℕ) → bytes ≡ recordOf (record { state = ofSide (state .side); half = half; board = board }) → place′ ≡ writtenOf place 0 bytes → WritesRecord bbs board state half place K.Done place′
+      pub done : length place ≡ 34 → (bytes place′ : List ℕ) → bytes ≡ recordOf (record { state = ofSide (state .side); half = half; board = board })
+          → place′ ≡ writtenOf place 0 bytes → WritesRecord bbs board state half place K.Done place′
       unfolding after
       done n bytes place′ b p =
           gives true true (lt-ltb half 3 h) (eq-eqb (length place) 34 n) K.Done place′ refl

@@ -29,7 +29,8 @@ unfolding pieceSays recordSays boardIn tabulate allBelow lowestWrong firstFrom
 says = pieceSays
 
 pieces :
-    says drawnBytes ∷ says (0xf0 ∷ 0x01 ∷ (replicate 30 0 ++ (9 ∷ 9 ∷ []))) ∷ says (replicate 31 0 ++ (0xe0 ∷ 0 ∷ 0 ∷ [])) ∷ says (replicate 32 0 ++ (2 ∷ 3 ∷ []))
+    says drawnBytes ∷ says (0xf0 ∷ 0x01 ∷ (replicate 30 0 ++ (9 ∷ 9 ∷ []))) ∷ says (replicate 31 0 ++ (0xe0 ∷ 0 ∷ 0 ∷ []))
+    ∷ says (replicate 32 0 ++ (2 ∷ 3 ∷ []))
     ∷ says (replicate 33 0 ++ (3 ∷ [])) ∷ says (replicate 33 0) ∷ []
     ≡ given drawn ∷ refused 19 (1 ∷ []) ∷ refused 19 (63 ∷ []) ∷ refused 12 [] ∷ refused 13 [] ∷ refused 18 [] ∷ []
 unfolding says

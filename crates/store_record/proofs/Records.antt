@@ -61,7 +61,8 @@ module _ (l : Line) where
 
   pub bytes-all : (s : List ℕ) (i : ℕ) → i ≡ 32 → s ≡ bytesTo i → set (set s 32 (l .state .side)) 33 (l .half) ≡ recordOf l
   bytes-all s i z e =
-      bytes-more (set s 32 (l .state .side)) 33 (l .half) (bytes-more s 32 (l .state .side) (e ∙ ap bytesTo z) (omega arith) (sym record-side)) (omega arith) (sym record-half)
+      bytes-more (set s 32 (l .state .side)) 33 (l .half) (bytes-more s 32 (l .state .side) (e ∙ ap bytesTo z) (omega arith) (sym record-side))
+      (omega arith) (sym record-half)
       ∙ copied-all 34 (λ j. getD (recordOf l) j 0) 34 (λ b g h. absurd (omega arith))
       ∙ its-table 34 (recordOf l) record-34
 
@@ -70,12 +71,14 @@ module _ (bytes : List ℕ) where
   pub even-code : (i : ℕ) → getD bytes i 0 % 16 ≡ codeIn bytes (2 * i)
   even-code i =
       let q : 2 * i / 2 ≡ i = omega arith in
-      sym (ap (λ (t : Bool). cond t (getD bytes (2 * i / 2) 0 % 16) (getD bytes (2 * i / 2) 0 / 16 % 16)) (eq-eqb (2 * i % 2) 0 (omega arith)) ∙ ap (λ (j : ℕ). getD bytes j 0 % 16) q)
+      sym (ap (λ (t : Bool). cond t (getD bytes (2 * i / 2) 0 % 16) (getD bytes (2 * i / 2) 0 / 16 % 16)) (eq-eqb (2 * i % 2) 0 (omega arith))
+      ∙ ap (λ (j : ℕ). getD bytes j 0 % 16) q)
 
   pub odd-code : (i : ℕ) → getD bytes i 0 / 16 % 16 ≡ codeIn bytes (2 * i + 1)
   odd-code i =
       let q : (2 * i + 1) / 2 ≡ i = omega arith in
-      sym (ap (λ (t : Bool). cond t (getD bytes ((2 * i + 1) / 2) 0 % 16) (getD bytes ((2 * i + 1) / 2) 0 / 16 % 16)) (ne-eqb ((2 * i + 1) % 2) 0 (λ z. omega arith))
+      sym (ap (λ (t : Bool). cond t (getD bytes ((2 * i + 1) / 2) 0 % 16) (getD bytes ((2 * i + 1) / 2) 0 / 16 % 16))
+      (ne-eqb ((2 * i + 1) % 2) 0 (λ z. omega arith))
       ∙ ap (λ (j : ℕ). getD bytes j 0 / 16 % 16) q)
 
   abbrev pub squaresTo : ℕ → List ℕ
@@ -91,7 +94,8 @@ module _ (bytes : List ℕ) where
       let n : 2 * i + 1 ≡ suc (2 * i) = omega arith in
       let m : suc (2 * i + 1) ≡ 2 * (i + 1) = omega arith in
       ap (λ (s : List ℕ). set s (2 * i + 1) (getD bytes i 0 / 16 % 16))
-      (ap (λ (s : List ℕ). set s (2 * i) (getD bytes i 0 % 16)) e ∙ copied-more 64 (codeIn bytes) (2 * i) (getD bytes i 0 % 16) (omega arith) (even-code i) ∙ ap squaresTo (sym n))
+      (ap (λ (s : List ℕ). set s (2 * i) (getD bytes i 0 % 16)) e ∙ copied-more 64 (codeIn bytes) (2 * i) (getD bytes i 0 % 16) (omega arith)
+      (even-code i) ∙ ap squaresTo (sym n))
       ∙ copied-more 64 (codeIn bytes) (2 * i + 1) (getD bytes i 0 / 16 % 16) (omega arith) (odd-code i) ∙ ap squaresTo m
 
   pub squares-all : (l : List ℕ) (i : ℕ) → i ≡ 32 → l ≡ squaresTo (2 * i) → l ≡ boardIn bytes

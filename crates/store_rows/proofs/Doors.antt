@@ -13,7 +13,8 @@ use Rattle.ledger_feed.specs.Machine.{Kept}
 use Rattle.ledger_feed.specs.Promises.{Came, turnedBy, many, full, came}
 use Rattle.ledger_feed.proofs.Doors.{written-nothing}
 use Rattle.store_cut.specs.Cut.{PiecesSoFar}
-use Rattle.store_rows.specs.Promises.{runStore, fitStore, endsStore, storeFeedOf, storeFedPaper, storeByValue, pieceAfter, storeText, storeWrote, FeedsStore, ReadyStore, TakesStore}
+use Rattle.store_rows.specs.Promises.{runStore, fitStore, endsStore, storeFeedOf, storeFedPaper, storeByValue, pieceAfter, storeText}
+use Rattle.store_rows.specs.Promises.{storeWrote, FeedsStore, ReadyStore, TakesStore}
 use Rattle.store_rows.specs.declared.StoreSoFar.{StoreSoFar}
 use Rattle.store_rows.specs.declared.StoreFed.{StoreFed}
 use Rattle.store_rows.specs.declared.StoreFed.the-variants as F
@@ -23,7 +24,8 @@ module _ {A : Type 0} (piece : List ℕ) (held pieces : ℕ) (room : Bool) (a : 
   -- whatever they come to
   fit-by : (s t u : Bool) → eqb (length piece) 34 && ltb held 34 ≡ s → ltb pieces (2 ^ 64) ≡ t → room ≡ u
       → fitStore piece held pieces room a ≡ cond s (cond t (cond u (came a) full) many) (turnedBy R.Shape)
-  fit-by s t u p q r = ap₂ (λ (x y : Bool). cond x (cond y (cond room (came a) full) many) (turnedBy R.Shape)) p q ∙ ap (λ (z : Bool). cond s (cond t (cond z (came a) full) many) (turnedBy R.Shape)) r
+  fit-by s t u p q r = ap₂ (λ (x y : Bool). cond x (cond y (cond room (came a) full) many) (turnedBy R.Shape)) p q
+      ∙ ap (λ (z : Bool). cond s (cond t (cond z (came a) full) many) (turnedBy R.Shape)) r
 
   pub fit-shape : (length piece ≡ 34 → ⊥) → fitStore piece held pieces room a ≡ turnedBy R.Shape
   fit-shape n = fit-by false _ _ (ap (λ (t : Bool). t && ltb held 34) (ne-eqb (length piece) 34 n)) refl refl
@@ -56,7 +58,8 @@ module _ (state : StoreSoFar) (piece chunk out : List ℕ) where
   ran = runStore state piece chunk
 
   -- an answer of its own, with nothing changed
-  unchanged : (r : StoreFed) (a : Came (PiecesSoFar Kept)) → storeFeedOf state piece chunk out ≡ a → storeFedPaper r ≡ storeByValue a → pieceAfter a piece ≡ piece → storeText a ≡ []
+  unchanged : (r : StoreFed) (a : Came (PiecesSoFar Kept)) → storeFeedOf state piece chunk out ≡ a → storeFedPaper r ≡ storeByValue a
+      → pieceAfter a piece ≡ piece → storeText a ≡ []
       → storeWrote (storeFedPaper r) ≡ 0 → FeedsStore state piece chunk out r piece out
   unchanged r a e f k t z = record {
     answer = f ∙ sym (ap storeByValue e);
@@ -82,19 +85,27 @@ module _ (state : StoreSoFar) (piece chunk out : List ℕ) where
       pub feed-full : length out / 32 < endsStore state chunk → FeedsStore state piece chunk out F.Full piece out
       unfolding room ran
       feed-full n =
-          unchanged F.Full full (fit-full piece (state .held) counted room ran size short counts (lt-leb (32 * endsStore state chunk) (length out) (fits (endsStore state chunk) n))) refl refl refl refl
+          unchanged F.Full full (fit-full piece (state .held) counted room ran size short counts
+          (lt-leb (32 * endsStore state chunk) (length out) (fits (endsStore state chunk) n))) refl refl refl refl
         where
           fits : (e : ℕ) → length out / 32 < e → length out < 32 * e
           fits e h = omega arith
 
       pub feed-ready : endsStore state chunk ≤ length out / 32 → ReadyStore state piece chunk out
       feed-ready h =
-          record { size = size; short = short; counts = ltb-true (state .loaded + state .refused + endsStore state chunk) (2 ^ 64) counts; room = fits (endsStore state chunk) h }
+          record {
+            size = size;
+            short = short;
+            counts = ltb-true (state .loaded + state .refused + endsStore state chunk) (2 ^ 64) counts;
+            room =
+                fits (endsStore state chunk) h;
+          }
         where
           fits : (e : ℕ) → e ≤ length out / 32 → 32 * e ≤ length out
           fits e h = omega arith
 
-      pub feed-rows : endsStore state chunk ≤ length out / 32 → (r : StoreFed) (piece′ out′ : List ℕ) → TakesStore state piece chunk out r piece′ out′ → FeedsStore state piece chunk out r piece′ out′
+      pub feed-rows : endsStore state chunk ≤ length out / 32 → (r : StoreFed) (piece′ out′ : List ℕ) → TakesStore state piece chunk out r piece′ out′
+          → FeedsStore state piece chunk out r piece′ out′
       unfolding room ran
       feed-rows h r piece′ out′ t =
           let e : storeFeedOf state piece chunk out ≡ came ran =

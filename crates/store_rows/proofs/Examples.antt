@@ -19,7 +19,8 @@ use Rattle.store_cut.specs.Pieces.{recordsFrom}
 use Rattle.store_rows.specs.Rows.{ledgerBy, storeLedgerOf}
 
 written : List ℕ → List ℕ
-unfolding ledgerBy foldLines recordsFrom pieceSays recordSays boardIn tabulate allBelow lowestWrong firstFrom scoreOf bitboardsOf loadedRow refusedRow lastRow digitsUpTo
+unfolding ledgerBy foldLines recordsFrom pieceSays recordSays boardIn tabulate allBelow lowestWrong firstFrom scoreOf bitboardsOf loadedRow refusedRow
+    lastRow digitsUpTo
 written store = storeLedgerOf store
 
 -- a bare board that White lost, code 15 on a1, and a short last piece, which is a line and refused; an empty store

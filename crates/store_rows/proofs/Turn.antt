@@ -71,7 +71,8 @@ module _ (whole : PiecesSoFar Kept) (chunk out₀ piece out : List ℕ) (held lo
       let s′ : Kept = rows loaded′ refused′ (take w′ out′) in
       let now : s′ ≡ rowPiece s piece′ = rows-same (l ∙ ap (tally loaded) il) (q ∙ ap (λ (x : Bool). tally refused (not x)) il) (adds-front a fits) in
       record {
-        pieces = Pieces.turn-next rowPiece whole 34 chunk piece held s i (t .pieces) r piece′ p s′ (now ∙ sym (ap (λ (x : Bool). cond x (rowPiece s piece′) s) e));
+        pieces = Pieces.turn-next rowPiece whole 34 chunk piece held s i (t .pieces) r piece′ p s′
+            (now ∙ sym (ap (λ (x : Bool). cond x (rowPiece s piece′) s) e));
         kept = adds-length a fits ∙ t .kept;
         room = omega (arith, t .room);
         counts = omega (arith, t .counts);
@@ -107,7 +108,8 @@ turn-end state piece₀ chunk out₀ piece out held loaded refused w i h t next 
       answer = ap₂ F.Rows (made ∙ sym (ap soFarOf m)) (sym (ap (λ (x : PiecesSoFar Kept). length (x .kept .text)) m ∙ size));
       kept = sym (ap (λ (x : PiecesSoFar Kept). x .left .piece) m);
       rows =
-          sym (take-append-drop w out) ∙ ap (λ (l : List ℕ). take w out ++ l) (t .rest ∙ ap (λ (k : ℕ). drop k out₀) (let z : w ≡ 0 + length (take w out) = omega arith in z))
+          sym (take-append-drop w out) ∙ ap (λ (l : List ℕ). take w out ++ l)
+          (t .rest ∙ ap (λ (k : ℕ). drop k out₀) (let z : w ≡ 0 + length (take w out) = omega arith in z))
           ∙ sym (written-is out₀ 0 (take w out) fits) ∙ sym (ap (λ (x : PiecesSoFar Kept). writtenOf out₀ 0 (x .kept .text)) m);
       within = subst (λ (x : PiecesSoFar Kept). length (x .kept .text) ≤ length out₀) (sym m) (omega arith);
     }

@@ -46,7 +46,8 @@ endsStore state chunk = (state .held + length chunk) / 34
 -- ---- feed: 32 bytes of room for each piece that ends in the chunk
 abbrev pub storeFeedOf : StoreSoFar → List ℕ → List ℕ → List ℕ → Came (PiecesSoFar Kept)
 storeFeedOf state piece chunk out =
-    fitStore piece (state .held) (state .loaded + state .refused + endsStore state chunk) (leb (32 * endsStore state chunk) (length out)) (runStore state piece chunk)
+    fitStore piece (state .held) (state .loaded + state .refused + endsStore state chunk) (leb (32 * endsStore state chunk) (length out))
+    (runStore state piece chunk)
 
 -- the code's answer on the paper: the state, and how many bytes were written
 abbrev pub storeFedPaper : StoreFed → Came (StoreSoFar × ℕ)

@@ -58,14 +58,16 @@ module _ (w : WroteRecord) where
   unfolding storeOf
   held = go (was (storeOf (w .bitboards) (w .board) (w .state) (w .half) (w .place)) (w .writes .answer))
     where
-      tests : (x y : Bool) (bytes : List ℕ) → ltb (w .half) 3 ≡ x → orRefuse x R.Result (orRefuse y R.Length (given (recordOf line))) ≡ given bytes → (w .half < 3) × (bytes ≡ recordOf line)
+      tests : (x y : Bool) (bytes : List ℕ) → ltb (w .half) 3 ≡ x → orRefuse x R.Result (orRefuse y R.Length (given (recordOf line))) ≡ given bytes
+          → (w .half < 3) × (bytes ≡ recordOf line)
       tests true true bytes p e = (ltb-true (w .half) 3 p, cc)
       tests true false bytes p e = given-not (sym e)
       tests false y bytes p e = given-not (sym e)
 
       go : (bytes : List ℕ) × (storeOf (w .bitboards) (w .board) (w .state) (w .half) (w .place) ≡ given bytes) → Held
       go b =
-          let t = through (w .bitboards) (w .board) (w .state) (orRefuse (ltb (w .half) 3) R.Result (orRefuse (eqb (length (w .place)) 34) R.Length (given (recordOf line)))) (b .0) (b .1) in
+          let t = through (w .bitboards) (w .board) (w .state) (orRefuse (ltb (w .half) 3) R.Result
+          (orRefuse (eqb (length (w .place)) 34) R.Length (given (recordOf line)))) (b .0) (b .1) in
           let u = tests (ltb (w .half) 3) (eqb (length (w .place)) 34) (b .0) refl (t .1) in
           record {
             shape = t .0 .shape;
@@ -87,7 +89,8 @@ module _ (w : WroteRecord) where
   pub again : (r : ReadBack w) → Again w r
   again r =
       let e : orShape (r .bitboards) (r .board) (storedSays (w .place′) 0) ≡ given (inRecord line) =
-      ap₂ (λ (s t : Bool). orRefuse (s && t) R.Shape (storedSays (w .place′) 0)) (eq-eqb (length (r .bitboards)) 14 (r .boards-14)) (eq-eqb (length (r .board)) 64 (r .bytes-64))
+      ap₂ (λ (s t : Bool). orRefuse (s && t) R.Shape (storedSays (w .place′) 0)) (eq-eqb (length (r .bitboards)) 14 (r .boards-14))
+      (eq-eqb (length (r .board)) 64 (r .bytes-64))
       ∙ alone (w .place′) (ap length (held .bytes) ∙ record-34 line) ∙ says in
       record {
         said = read-one (r .answer) (Position (ofSide (w .state .side)) (w .half)) (r .reads .answer ∙ ap byValue e);

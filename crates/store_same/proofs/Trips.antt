@@ -53,11 +53,13 @@ module _ (l : Line) (size : length (l .board) ≡ 64) (codes : coded (l .board) 
       go true e =
           let z = eqb-true (k % 2) 0 e in
           let q : 2 * (k / 2) ≡ k = omega arith in
-          low (getD (l .board) (2 * (k / 2)) 0) (getD (l .board) (2 * (k / 2) + 1) 0) (small (2 * (k / 2)) (omega arith)) ∙ ap (λ (j : ℕ). getD (l .board) j 0) q
+          low (getD (l .board) (2 * (k / 2)) 0) (getD (l .board) (2 * (k / 2) + 1) 0) (small (2 * (k / 2)) (omega arith))
+          ∙ ap (λ (j : ℕ). getD (l .board) j 0) q
       go false e =
           let z = eqb-false (k % 2) 0 e in
           let q : 2 * (k / 2) + 1 ≡ k = omega arith in
-          high (getD (l .board) (2 * (k / 2)) 0) (getD (l .board) (2 * (k / 2) + 1) 0) (small (2 * (k / 2) + 1) (omega arith)) ∙ ap (λ (j : ℕ). getD (l .board) j 0) q
+          high (getD (l .board) (2 * (k / 2)) 0) (getD (l .board) (2 * (k / 2) + 1) 0) (small (2 * (k / 2) + 1) (omega arith))
+          ∙ ap (λ (j : ℕ). getD (l .board) j 0) q
 
   board-there : boardIn (recordOf l) ≡ l .board
   unfolding boardIn
@@ -113,7 +115,8 @@ module _ (bytes : List ℕ) (l : Line) (e : pieceSays bytes ≡ given l) where
   -- its record is the one that was read
   pub record-back : ((i : ℕ) → getD bytes i 0 < 256) → recordOf l ≡ bytes
   unfolding boardIn
-  record-back bound = ext-getD 0 (recordOf l) bytes (record-34 l ∙ sym (s .size)) (λ i h. let g : i < 34 = omega (arith, record-34 l) in each i g (ltb i 32) refl)
+  record-back bound = ext-getD 0 (recordOf l) bytes (record-34 l ∙ sym (s .size))
+      (λ i h. let g : i < 34 = omega (arith, record-34 l) in each i g (ltb i 32) refl)
     where
       s : Spells bytes l
       s = halves-back bytes l e
@@ -128,7 +131,8 @@ module _ (bytes : List ℕ) (l : Line) (e : pieceSays bytes ≡ given l) where
       each i h true q =
           let m = ltb-true i 32 q in
           record-pair l i m
-          ∙ ap₂ twoSquares (square (2 * i) (omega arith) ∙ sym (even-code bytes i)) (square (2 * i + 1) (omega arith) ∙ sym (odd-code bytes i)) ∙ whole (getD bytes i 0) (bound i)
+          ∙ ap₂ twoSquares (square (2 * i) (omega arith) ∙ sym (even-code bytes i)) (square (2 * i + 1) (omega arith) ∙ sym (odd-code bytes i))
+          ∙ whole (getD bytes i 0) (bound i)
       each i h false q = last i h (ltb-false i 32 q) (eqb i 32) refl
         where
           last : (i : ℕ) → i < 34 → 32 ≤ i → (t : Bool) → eqb i 32 ≡ t → getD (recordOf l) i 0 ≡ getD bytes i 0

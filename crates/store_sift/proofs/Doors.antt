@@ -20,7 +20,8 @@ use Rattle.sift_form.specs.declared.Form.{Form}
 use Rattle.sift_form.proofs.Rooms.{room-some}
 use Rattle.sift_feed.specs.Sifting.{Sifting}
 use Rattle.sift_feed.proofs.Doors.{room-lacks, room-holds, and-false}
-use Rattle.store_sift.specs.Promises.{siftStore, storeSiftRoom, storeSiftOf, storeSifted, storeSiftedByValue, pieceSifted, siftingOut, storeSiftedBytes, SiftsStore, ReadyToSiftStore, TakesSiftedStore}
+use Rattle.store_sift.specs.Promises.{siftStore, storeSiftRoom, storeSiftOf, storeSifted, storeSiftedByValue, pieceSifted, siftingOut}
+use Rattle.store_sift.specs.Promises.{storeSiftedBytes, SiftsStore, ReadyToSiftStore, TakesSiftedStore}
 use Rattle.store_sift.specs.declared.StoreSifted.{StoreSifted}
 use Rattle.store_sift.specs.declared.StoreSifted.the-variants as S
 
@@ -44,13 +45,16 @@ module _ (state : StoreSoFar) (form : Form) (piece chunk made rows : List ℕ) w
   nothing = record { loaded = 0; refused = 0; made = []; rows = [] }
 
   -- an answer of its own, with nothing changed
-  unchanged : (r : StoreSifted) (a : Came (PiecesSoFar Sifting)) → storeSiftOf state form piece chunk made rows ≡ a → storeSifted r ≡ storeSiftedByValue a → pieceSifted a piece ≡ piece
+  unchanged : (r : StoreSifted) (a : Came (PiecesSoFar Sifting)) → storeSiftOf state form piece chunk made rows ≡ a
+      → storeSifted r ≡ storeSiftedByValue a → pieceSifted a piece ≡ piece
       → siftingOut a ≡ nothing → storeSiftedBytes (storeSifted r) ≡ (0, 0) → SiftsStore state form piece chunk made rows r piece made rows
   unchanged r a e f k t z = record {
     answer = f ∙ sym (ap storeSiftedByValue e);
     kept = sym (ap (λ (b : Came (PiecesSoFar Sifting)). pieceSifted b piece) e ∙ k);
-    making = written-nothing made ∙ sym (ap (λ (b : Came (PiecesSoFar Sifting)). writtenOf made 0 (siftingOut b .made)) e ∙ ap (λ (x : Sifting). writtenOf made 0 (x .made)) t);
-    rowing = written-nothing rows ∙ sym (ap (λ (b : Came (PiecesSoFar Sifting)). writtenOf rows 0 (siftingOut b .rows)) e ∙ ap (λ (x : Sifting). writtenOf rows 0 (x .rows)) t);
+    making = written-nothing made ∙ sym (ap (λ (b : Came (PiecesSoFar Sifting)). writtenOf made 0 (siftingOut b .made)) e
+        ∙ ap (λ (x : Sifting). writtenOf made 0 (x .made)) t);
+    rowing = written-nothing rows ∙ sym (ap (λ (b : Came (PiecesSoFar Sifting)). writtenOf rows 0 (siftingOut b .rows)) e
+        ∙ ap (λ (x : Sifting). writtenOf rows 0 (x .rows)) t);
     madeWithin = subst (λ (x : ℕ × ℕ). x .0 ≤ length made) (sym z) (omega arith);
     rowsWithin = subst (λ (x : ℕ × ℕ). x .1 ≤ length rows) (sym z) (omega arith);
   }
@@ -62,7 +66,8 @@ module _ (state : StoreSoFar) (form : Form) (piece chunk made rows : List ℕ) w
   feed-held n = unchanged (S.Refused R.Shape) (turnedBy R.Shape) (fit-held piece (state .held) counted room run n) refl refl refl refl
 
   module _ (size : length piece ≡ 34) (short : state .held < 34) where
-    pub feed-many : ltb (state .loaded + state .refused + endsStore state chunk) (2 ^ 64) ≡ false → SiftsStore state form piece chunk made rows S.Many piece made rows
+    pub feed-many : ltb (state .loaded + state .refused + endsStore state chunk) (2 ^ 64) ≡ false
+        → SiftsStore state form piece chunk made rows S.Many piece made rows
     feed-many n = unchanged S.Many many (fit-many piece (state .held) counted room run size short n) refl refl refl refl
 
     module _ (counts : ltb (state .loaded + state .refused + endsStore state chunk) (2 ^ 64) ≡ true) where
@@ -90,7 +95,14 @@ module _ (state : StoreSoFar) (form : Form) (piece chunk made rows : List ℕ) w
 
         pub feed-ready : ReadyToSiftStore state form piece chunk made rows
         feed-ready =
-            record { size = size; short = short; counts = ltb-true (state .loaded + state .refused + endsStore state chunk) (2 ^ 64) counts; making = enough; rowing = lines }
+            record {
+              size = size;
+              short = short;
+              counts = ltb-true (state .loaded + state .refused + endsStore state chunk) (2 ^ 64) counts;
+              making =
+                  enough;
+              rowing = lines;
+            }
 
         pub feed-records : (r : StoreSifted) (piece′ made′ rows′ : List ℕ) → TakesSiftedStore state form piece chunk made rows r piece′ made′ rows′
             → SiftsStore state form piece chunk made rows r piece′ made′ rows′

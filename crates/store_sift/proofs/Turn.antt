@@ -23,7 +23,8 @@ use Rattle.sift_close.specs.Ended.{madeBy, refusedRowOf, ClosesSaid}
 use Rattle.sift_close.specs.declared.Closed.{Closed}
 use Rattle.sift_close.proofs.Said.{made-most, row-most}
 use Rattle.sift_feed.specs.Sifting.{Sifting}
-use Rattle.sift_feed.proofs.Turn.{Filling, fill-none, fill-same, fill-front, fill-more, fill-within, fill-size, fill-written, tally-loaded, tally-refused, tally-either, sifting, sifting-same}
+use Rattle.sift_feed.proofs.Turn.{Filling, fill-none, fill-same, fill-front, fill-more, fill-within, fill-size, fill-written, tally-loaded}
+use Rattle.sift_feed.proofs.Turn.{tally-refused, tally-either, sifting, sifting-same}
 use Rattle.store_sift.specs.Promises.{siftPiece, siftingOf, siftStore, storeSoFarIn, ReadyToSiftStore, TakesSiftedStore}
 use Rattle.store_sift.specs.declared.StoreSifted.the-variants as S
 
@@ -38,7 +39,8 @@ pub record Turn (form : Form) (whole : PiecesSoFar Sifting) (chunk made₀ rows�
   pub counts : loaded + refused + more chunk held i < 2 ^ 64
 
 module _ (form : Form) (whole : PiecesSoFar Sifting) (chunk made₀ rows₀ piece made rows : List ℕ) (held loaded refused w v i : ℕ) (h : i < length chunk)
-    (t : Turn form whole chunk made₀ rows₀ piece made rows held loaded refused w v i) (r : CutPiece) (piece′ : List ℕ) (p : CutsPiece held piece chunk i r piece′) where
+    (t : Turn form whole chunk made₀ rows₀ piece made rows held loaded refused w v i) (r : CutPiece) (piece′ : List ℕ)
+    (p : CutsPiece held piece chunk i r piece′) where
   abbrev close : Sifting → List ℕ → Sifting
   close = siftPiece (madeOf form)
 
@@ -61,7 +63,8 @@ module _ (form : Form) (whole : PiecesSoFar Sifting) (chunk made₀ rows₀ piec
   turn-on e =
       let b : more chunk held i ≡ more chunk (r .held) (r .at) = Pieces.next-none held piece chunk i (t .pieces .short) r piece′ p (t .pieces .most) e in
       record {
-        pieces = Pieces.turn-next close whole 34 chunk piece held so-far i (t .pieces) r piece′ p so-far (sym (ap (λ (x : Bool). cond x (close so-far piece′) so-far) e));
+        pieces = Pieces.turn-next close whole 34 chunk piece held so-far i (t .pieces) r piece′ p so-far
+            (sym (ap (λ (x : Bool). cond x (close so-far piece′) so-far) e));
         making = fill-same (roomOf form) (more chunk held i) (more chunk (r .held) (r .at)) made₀ made w b (t .making);
         rowing = fill-same 32 (more chunk held i) (more chunk (r .held) (r .at)) rows₀ rows v b (t .rowing);
         counts = omega (arith, t .counts);
@@ -88,7 +91,8 @@ module _ (form : Form) (whole : PiecesSoFar Sifting) (chunk made₀ rows₀ piec
       (fill-front 32 many fewer rows₀ rows v (t .rowing) b d rows′ (c .rows) (k .rowing) low) in
       let both = tally-either (isLoaded said) (c .loaded) (c .refused) loaded refused (k .loaded) (k .refused) in
       record {
-        pieces = Pieces.turn-next close whole 34 chunk piece held so-far i (t .pieces) r piece′ p s′ (next ∙ sym (ap (λ (x : Bool). cond x (close so-far piece′) so-far) e));
+        pieces = Pieces.turn-next close whole 34 chunk piece held so-far i (t .pieces) r piece′ p s′
+            (next ∙ sym (ap (λ (x : Bool). cond x (close so-far piece′) so-far) e));
         making = fill-more (roomOf form) many fewer made₀ made w (t .making) b a made′ (c .made) (k .making) short;
         rowing = fill-more 32 many fewer rows₀ rows v (t .rowing) b d rows′ (c .rows) (k .rowing) low;
         counts = omega (arith, t .counts);
@@ -106,11 +110,14 @@ module _ (form : Form) (whole : PiecesSoFar Sifting) (chunk made₀ rows₀ piec
 pub turn-none : (state : StoreSoFar) (form : Form) (piece chunk made rows : List ℕ) → ReadyToSiftStore state form piece chunk made rows
     → Turn form (siftStore (madeOf form) state piece chunk) chunk made rows piece made rows (state .held) (state .loaded) (state .refused) 0 0 0
 turn-none state form piece chunk made rows r =
-    let all : endsStore state chunk ≡ more chunk (state .held) 0 = ap (λ (n : ℕ). (state .held + n) / 34) (let z : length chunk ≡ length chunk - 0 = omega arith in z) in
+    let all : endsStore state chunk ≡ more chunk (state .held) 0 = ap (λ (n : ℕ). (state .held + n) / 34)
+    (let z : length chunk ≡ length chunk - 0 = omega arith in z) in
     record {
-      pieces = subst (λ (n : ℕ). Pieces.PiecesTurn (siftPiece (madeOf form)) (siftStore (madeOf form) state piece chunk) n chunk piece (state .held) (siftingOf state) 0) (r .size)
+      pieces = subst (λ (n : ℕ). Pieces.PiecesTurn (siftPiece (madeOf form)) (siftStore (madeOf form) state piece chunk) n chunk piece (state .held)
+          (siftingOf state) 0) (r .size)
           (Pieces.pieces-begin (siftPiece (madeOf form)) chunk piece (state .held) (siftingOf state) (r .short));
-      making = fill-same (roomOf form) (endsStore state chunk) (more chunk (state .held) 0) made made 0 all (fill-none (roomOf form) (endsStore state chunk) made (r .making));
+      making = fill-same (roomOf form) (endsStore state chunk) (more chunk (state .held) 0) made made 0 all
+          (fill-none (roomOf form) (endsStore state chunk) made (r .making));
       rowing = fill-same 32 (endsStore state chunk) (more chunk (state .held) 0) rows rows 0 all (fill-none 32 (endsStore state chunk) rows (r .rowing));
       counts = subst (λ (n : ℕ). state .loaded + state .refused + n < 2 ^ 64) all (r .counts);
     }

@@ -40,7 +40,8 @@ storeSiftRoom form state chunk made rows = leb (roomOf form * endsStore state ch
 -- SHAPE, then the counts, then the room, as the store's rows
 abbrev pub storeSiftOf : StoreSoFar → Form → List ℕ → List ℕ → List ℕ → List ℕ → Came (PiecesSoFar Sifting)
 storeSiftOf state form piece chunk made rows =
-    fitStore piece (state .held) (state .loaded + state .refused + endsStore state chunk) (storeSiftRoom form state chunk made rows) (siftStore (madeOf form) state piece chunk)
+    fitStore piece (state .held) (state .loaded + state .refused + endsStore state chunk) (storeSiftRoom form state chunk made rows)
+    (siftStore (madeOf form) state piece chunk)
 
 -- the code's answer on the paper: the state, and how many bytes were written into each buffer
 abbrev pub storeSifted : StoreSifted → Came (StoreSoFar × ℕ × ℕ)
@@ -94,7 +95,8 @@ pub record ReadyToSiftStore (state : StoreSoFar) (form : Form) (piece chunk made
 
 pub record TakesSiftedStore (state : StoreSoFar) (form : Form) (piece chunk made rows : List ℕ) (r : StoreSifted) (piece′ made′ rows′ : List ℕ) : Type 0 where
   pub answer : r
-      ≡ S.Records (storeSoFarIn (siftStore (madeOf form) state piece chunk)) (length (siftStore (madeOf form) state piece chunk .kept .made)) (length (siftStore (madeOf form) state piece chunk .kept .rows))
+      ≡ S.Records (storeSoFarIn (siftStore (madeOf form) state piece chunk)) (length (siftStore (madeOf form) state piece chunk .kept .made))
+      (length (siftStore (madeOf form) state piece chunk .kept .rows))
   pub kept : piece′ ≡ siftStore (madeOf form) state piece chunk .left .piece
   pub making : made′ ≡ writtenOf made 0 (siftStore (madeOf form) state piece chunk .kept .made)
   pub rowing : rows′ ≡ writtenOf rows 0 (siftStore (madeOf form) state piece chunk .kept .rows)

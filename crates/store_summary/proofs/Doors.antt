@@ -19,16 +19,28 @@ use Rattle.store_record.specs.Record.{recordAt, pieceSays, storedSays}
 use Rattle.store_record.specs.Promises.{SaysStored, storeOf, storedPaper, isStored, placeAfter}
 use Rattle.store_record.specs.declared.Stored.the-variants as K
 use Rattle.store_counts.specs.Summary.{summaryMore, summaryLess}
-use Rattle.store_summary.specs.Promises.{Store, recordsIn, withRecord, ifGiven, blank, withNew, addNew, addOf, replaceOld, replaceOf, isKept, storeAfter, KeepsStore, AddsRecord, ReplacesRecord, Prepares, Keeps}
+use Rattle.store_summary.specs.Promises.{Store, recordsIn, withRecord, ifGiven, blank, withNew, addNew, addOf, replaceOld, replaceOf, isKept}
+use Rattle.store_summary.specs.Promises.{storeAfter, KeepsStore, AddsRecord, ReplacesRecord, Prepares, Keeps}
 use Rattle.store_summary.specs.declared.Prepared.{Prepared}
 
 -- ---- an answer, and the memory
 unchanged : (a : Answer Store) (s : Store) (q : Refusal) → refusalOf q ≡ a → KeepsStore a s (K.Refused q) (s .run) (s .summary)
-unchanged a s q e = record { answer = ap isKept e; run = ap (λ (x : Answer Store). storeAfter x s .run) e; summary = ap (λ (x : Answer Store). storeAfter x s .summary) e }
+unchanged a s q e = record {
+  answer = ap isKept e;
+  run = ap (λ (x : Answer Store). storeAfter x s .run) e;
+  summary =
+      ap (λ (x : Answer Store). storeAfter x s .summary) e;
+}
 
-changed : (a : Answer Store) (s t : Store) → given t ≡ a → (run′ summary′ : List ℕ) → run′ ≡ t .run → summary′ ≡ t .summary → KeepsStore a s K.Done run′ summary′
+changed : (a : Answer Store) (s t : Store) → given t ≡ a → (run′ summary′ : List ℕ) → run′ ≡ t .run → summary′ ≡ t .summary
+    → KeepsStore a s K.Done run′ summary′
 changed a s t e run′ summary′ p q =
-    record { answer = ap isKept e; run = p ∙ ap (λ (x : Answer Store). storeAfter x s .run) e; summary = q ∙ ap (λ (x : Answer Store). storeAfter x s .summary) e }
+    record {
+      answer = ap isKept e;
+      run = p ∙ ap (λ (x : Answer Store). storeAfter x s .run) e;
+      summary = q
+          ∙ ap (λ (x : Answer Store). storeAfter x s .summary) e;
+    }
 
 -- ---- the summary's SHAPE, and what was prepared, whatever is done with the record
 module _ (bbs board : List ℕ) (state : State) (half : ℕ) (s : Store) (rest : List ℕ → Answer Store) where
@@ -86,14 +98,22 @@ module _ (bbs board : List ℕ) (state : State) (half : ℕ) (run summary : List
         module _ (m : recordsIn summary < 10000000) where
           pub add-room : length run / 34 ≤ recordsIn summary → AddsRecord bbs board state half run summary (K.Refused R.Room) run summary
           add-room h =
-              let e : addNew s (made .bytes) ≡ refusalOf R.Room = rw (eq-eqb (length run % 34) 0 l, lt-ltb (recordsIn summary) 10000000 m, le-ltb (recordsIn summary) (length run / 34) h) in
+              let e : addNew s (made .bytes) ≡ refusalOf R.Room = rw (
+                eq-eqb (length run % 34) 0 l,
+                lt-ltb (recordsIn summary) 10000000 m,
+                le-ltb (recordsIn summary) (length run / 34) h,
+              ) in
               unchanged (addOf bbs board state half s) s R.Room (sym e ∙ add-rest)
 
           pub add-done : recordsIn summary < length run / 34 → (run′ summary′ : List ℕ) → Keeps run summary (recordsIn summary) (made .bytes) run′ summary′
               → AddsRecord bbs board state half run summary K.Done run′ summary′
           add-done h run′ summary′ k =
               let t : Store = record { run = withRecord run (recordsIn summary) (made .bytes); summary = summaryMore summary (made .bytes) } in
-              let e : addNew s (made .bytes) ≡ given t = rw (eq-eqb (length run % 34) 0 l, lt-ltb (recordsIn summary) 10000000 m, lt-ltb (recordsIn summary) (length run / 34) h) in
+              let e : addNew s (made .bytes) ≡ given t = rw (
+                eq-eqb (length run % 34) 0 l,
+                lt-ltb (recordsIn summary) 10000000 m,
+                lt-ltb (recordsIn summary) (length run / 34) h,
+              ) in
               changed (addOf bbs board state half s) s t (sym e ∙ add-rest) run′ summary′ (k .put) (k .counted)
 
 -- ---- a record that is read is there
@@ -116,7 +136,8 @@ module _ (bbs board : List ℕ) (state : State) (half number : ℕ) (run summary
   module _ (n : length summary ≡ 770) (made : Prepared) (promise : Prepares bbs board state half made) where
     pub replace-position : (q : Refusal) → made .answer ≡ K.Refused q → ReplacesRecord bbs board state half number run summary (K.Refused q) run summary
     unfolding replaceOf
-    replace-position q told = unchanged (replaceOf bbs board state half number c) c q (turned bbs board state half c (replaceOld number c) n made promise q told)
+    replace-position q told = unchanged (replaceOf bbs board state half number c) c q
+        (turned bbs board state half c (replaceOld number c) n made promise q told)
 
     module _ (told : made .answer ≡ K.Done) (old : Loaded) (says : SaysStored run number old) where
       replace-rest : replaceOld number c (made .bytes) ≡ replaceOf bbs board state half number c
@@ -160,4 +181,5 @@ module _ (bbs board : List ℕ) (state : State) (half number : ℕ) (run summary
             → Keeps run between number (made .bytes) run′ summary′ → ReplacesRecord bbs board state half number run summary K.Done run′ summary′
         replace-done g between run′ summary′ u k =
             let e : inRange ≡ given after = rw (lt-ltb number (recordsIn summary) g) in
-            changed (replaceOf bbs board state half number c) c after (sym e ∙ read-rest ∙ replace-rest) run′ summary′ (k .put) (k .counted ∙ ap (λ (x : List ℕ). summaryMore x (made .bytes)) u)
+            changed (replaceOf bbs board state half number c) c after (sym e ∙ read-rest ∙ replace-rest) run′ summary′ (k .put)
+            (k .counted ∙ ap (λ (x : List ℕ). summaryMore x (made .bytes)) u)

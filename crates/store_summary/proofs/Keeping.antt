@@ -27,7 +27,8 @@ taking-off run summary summary′ number h e =
     let p = its-bytes run number in
     e ∙ sym (sized summary bytes (summaryLess summary bytes) (h .size) (ap length p ∙ record-size run number (h .there))) ∙ ap (summaryLess summary) p
 
-put-is : (run run′ : List ℕ) (number : ℕ) (bytes : List ℕ) → number < length run / 34 → length bytes ≡ 34 → run′ ≡ writtenOf run (34 * number) bytes → run′ ≡ withRecord run number bytes
+put-is : (run run′ : List ℕ) (number : ℕ) (bytes : List ℕ) → number < length run / 34 → length bytes ≡ 34 → run′ ≡ writtenOf run (34 * number) bytes
+    → run′ ≡ withRecord run number bytes
 unfolding withRecord
 put-is run run′ number bytes h n e =
     e ∙ written-is run (34 * number) bytes (omega arith) ∙ ap (λ (m : ℕ). take (34 * number) run ++ (bytes ++ drop (34 * number + m) run)) n

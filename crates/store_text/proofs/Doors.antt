@@ -47,7 +47,8 @@ module _ (form : Form) (first : First) (summary out : List ℕ) where
       unfolding by
       given-text = tests true true (eq-eqb (length summary) 770 numbers) (le-leb 262144 (length out) room)
 
-      pub row-shown : (first .number ≡ 0 → ⊥) → (n : ℕ) (out′ : List ℕ) → Adds out 0 (refusedRow (first .number) (first .refusal)) out′ n → ShowsSummary form first summary out (S.Row n) out′
+      pub row-shown : (first .number ≡ 0 → ⊥) → (n : ℕ) (out′ : List ℕ) → Adds out 0 (refusedRow (first .number) (first .refusal)) out′ n
+          → ShowsSummary form first summary out (S.Row n) out′
       row-shown some n out′ a =
           let t : List ℕ = refusedRow (first .number) (first .refusal) in
           let w : isWhole first ≡ false = ne-eqb (first .number) 0 some in
@@ -61,11 +62,13 @@ module _ (form : Form) (first : First) (summary out : List ℕ) where
             within = omega arith;
           }
 
-      pub page-shown : first .number ≡ 0 → (n : ℕ) (out′ : List ℕ) → Adds out 0 (pageOf form summary) out′ n → ShowsSummary form first summary out (S.Page n) out′
+      pub page-shown : first .number ≡ 0 → (n : ℕ) (out′ : List ℕ) → Adds out 0 (pageOf form summary) out′ n
+          → ShowsSummary form first summary out (S.Page n) out′
       page-shown none n out′ a =
           let t : List ℕ = pageOf form summary in
           let w : isWhole first ≡ true = eq-eqb (first .number) 0 none in
-          let e : given t ≡ showOf form first summary out = ap (λ (x : Bool). given (cond x t (refusedRow (first .number) (first .refusal)))) (sym w) ∙ given-text in
+          let e : given t ≡ showOf form first summary out = ap (λ (x : Bool). given (cond x t (refusedRow (first .number) (first .refusal)))) (sym w)
+          ∙ given-text in
           let f = length-page form summary in
           let fits : 0 + length t ≤ length out = omega arith in
           let k : n ≡ 0 + length t = adds-to a fits in

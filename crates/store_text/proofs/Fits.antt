@@ -11,8 +11,10 @@ use Rattle.text_out.proofs.Added.{length-20}
 use Rattle.ledger_totals.proofs.Fits.{length-named}
 use Rattle.store_text.specs.Board.{countOn, drawnSquare, totalOf, mostOf, pieceWords, laid}
 use Rattle.store_text.specs.Table.{widthOf, inColumn, countWord, fileWord, lettersRow}
-use Rattle.store_text.specs.Picture.{darkness, acrossAt, downAt, numbered, squareDrawn, countDrawn, countIfAny, rankDrawn, lettersDrawn, boardAt, pictureBegin}
-use Rattle.store_text.specs.Page.{pageBegin, pageEnd, wordsEnd, boardBegin, boardEnd, rankDigit, squareWord, rankBefore, rowEnd, squareShown, boardHead, squaresShown, boardText, pageHead, pageOf}
+use Rattle.store_text.specs.Picture.{darkness, acrossAt, downAt, numbered, squareDrawn, countDrawn, countIfAny, rankDrawn, lettersDrawn}
+use Rattle.store_text.specs.Picture.{boardAt, pictureBegin}
+use Rattle.store_text.specs.Page.{pageBegin, pageEnd, wordsEnd, boardBegin, boardEnd, rankDigit, squareWord, rankBefore, rowEnd, squareShown}
+use Rattle.store_text.specs.Page.{boardHead, squaresShown, boardText, pageHead, pageOf}
 use Rattle.store_text.specs.declared.Form.{Form}
 use Rattle.store_text.specs.declared.Form.the-variants as F
 use Rattle.store_text.proofs.Laid.{length-laid}
@@ -32,7 +34,11 @@ four x y z w a b c d p q r s = omega (arith, length-append x (y ++ (z ++ w)), le
 -- ---- the table
 pub length-column : (width : ℕ) (word : List ℕ) → width ≤ 20 → length word ≤ 20 → length (inColumn width word) ≤ 21
 unfolding inColumn
-length-column width word h k = omega (arith, length-append (replicate {A = ℕ} (width - length word + 1) 32) word, length-replicate {A = ℕ} (width - length word + 1) 32)
+length-column width word h k = omega (
+  arith,
+  length-append (replicate {A = ℕ} (width - length word + 1) 32) word,
+  length-replicate {A = ℕ} (width - length word + 1) 32,
+)
 
 pub length-count : (n : ℕ) → length (countWord n) ≤ 20
 length-count n = either (eqb n 0) (text ".") (decimalOf n) 20 (omega arith) (length-20 n)
@@ -43,14 +49,17 @@ length-files width h file = length-column width (fileWord file) h (omega arith)
 pub length-letters : (width : ℕ) → width ≤ 20 → length (lettersRow width) ≤ 170
 unfolding lettersRow
 length-letters width h =
-    three (text " ") (laid 8 (λ file. inColumn width (fileWord file))) (text "\n") 1 168 1 (omega arith) (length-laid 8 21 (λ file. inColumn width (fileWord file)) (length-files width h)) (omega arith)
+    three (text " ") (laid 8 (λ file. inColumn width (fileWord file))) (text "\n") 1 168 1 (omega arith)
+    (length-laid 8 21 (λ file. inColumn width (fileWord file)) (length-files width h)) (omega arith)
 
 -- ---- the picture
 pub length-square : (most n i : ℕ) → length (squareDrawn most n i) ≤ 110
 unfolding squareDrawn
 length-square most n i =
-    four (numbered (text "<rect x='") (acrossAt i)) (numbered (text "' y='") (downAt i)) (numbered (text "' width='48' height='48' class='h") (darkness most n)) (text "'/>") 29 25 53 3
-    (length-named (text "<rect x='") (acrossAt i)) (length-named (text "' y='") (downAt i)) (length-named (text "' width='48' height='48' class='h") (darkness most n)) (omega arith)
+    four (numbered (text "<rect x='") (acrossAt i)) (numbered (text "' y='") (downAt i))
+    (numbered (text "' width='48' height='48' class='h") (darkness most n)) (text "'/>") 29 25 53 3
+    (length-named (text "<rect x='") (acrossAt i)) (length-named (text "' y='") (downAt i))
+    (length-named (text "' width='48' height='48' class='h") (darkness most n)) (omega arith)
 
 length-drawn : (n i : ℕ) → length (countDrawn n i) ≤ 83
 unfolding countDrawn
@@ -70,7 +79,8 @@ length-rank i =
 length-at : (piece : ℕ) → length (boardAt piece) ≤ 93
 unfolding boardAt
 length-at piece =
-    three (numbered (text "<g transform='translate(") (60 + 440 * (piece % 4))) (numbered (text " ") (100 + 450 * (piece / 4))) (text ")'>\n<text class='t' y='-12'>") 44 21 28
+    three (numbered (text "<g transform='translate(") (60 + 440 * (piece % 4))) (numbered (text " ") (100 + 450 * (piece / 4)))
+    (text ")'>\n<text class='t' y='-12'>") 44 21 28
     (length-named (text "<g transform='translate(") (60 + 440 * (piece % 4))) (length-named (text " ") (100 + 450 * (piece / 4))) (omega arith)
 
 -- ---- both forms
@@ -135,13 +145,16 @@ length-piece (suc (suc (suc (suc (suc (suc (suc (suc (suc (suc (suc k)))))))))))
 pub length-head : (form : Form) (piece total : ℕ) → length (boardHead form piece total) ≤ 134
 unfolding boardHead
 length-head form piece total =
-    four (boardBegin form piece) (pieceWords piece) (decimalOf total) (wordsEnd form) 93 13 20 8 (length-board-begin form piece) (length-piece piece) (length-20 total) (length-words form)
+    four (boardBegin form piece) (pieceWords piece) (decimalOf total) (wordsEnd form) 93 13 20 8 (length-board-begin form piece) (length-piece piece)
+    (length-20 total) (length-words form)
 
 pub length-board : (form : Form) (summary : List ℕ) (piece : ℕ) → length (boardText form summary piece) ≤ 17074
 unfolding boardText
 length-board form summary piece =
-    three (boardHead form piece (totalOf summary piece)) (laid 64 (squaresShown form summary piece (mostOf summary piece))) (boardEnd form (mostOf summary piece)) 134 16640 300
-    (length-head form piece (totalOf summary piece)) (length-laid 64 260 (squaresShown form summary piece (mostOf summary piece)) (length-squares form summary piece (mostOf summary piece)))
+    three (boardHead form piece (totalOf summary piece)) (laid 64 (squaresShown form summary piece (mostOf summary piece)))
+    (boardEnd form (mostOf summary piece)) 134 16640 300
+    (length-head form piece (totalOf summary piece)) (length-laid 64 260 (squaresShown form summary piece (mostOf summary piece))
+    (length-squares form summary piece (mostOf summary piece)))
     (length-board-end form (mostOf summary piece))
 
 pub length-page-head : (form : Form) (records points : ℕ) → length (pageHead form records points) ≤ 1000
@@ -157,4 +170,5 @@ pub length-page : (form : Form) (summary : List ℕ) → length (pageOf form sum
 unfolding pageOf
 length-page form summary =
     three (pageHead form (getD summary 0 0) (getD summary 1 0)) (laid 12 (boardText form summary)) (pageEnd form) 1000 204888 7
-    (length-page-head form (getD summary 0 0) (getD summary 1 0)) (length-laid 12 17074 (boardText form summary) (length-board form summary)) (length-page-end form)
+    (length-page-head form (getD summary 0 0) (getD summary 1 0)) (length-laid 12 17074 (boardText form summary) (length-board form summary))
+    (length-page-end form)

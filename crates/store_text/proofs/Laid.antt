@@ -44,13 +44,15 @@ module _ (n k : ℕ) (f : ℕ → List ℕ) (size : (i : ℕ) → length (f i) �
       let b = both (length (laid i f)) (length (f i)) (i * k) k (length-laid i k f size) (size i) in
       record {
         most = omega arith;
-        adds = subst (λ (j : ℕ). Adds old at (laid j f) now′ end′) (sym (add-one i)) (adds-then (l .adds) a (fits at (length (laid i f) + length (f i)) (i * k + k) (length old) b room));
+        adds = subst (λ (j : ℕ). Adds old at (laid j f) now′ end′) (sym (add-one i))
+            (adds-then (l .adds) a (fits at (length (laid i f) + length (f i)) (i * k + k) (length old) b room));
       }
     where
       fits : (x a b c : ℕ) → a ≤ b → x + b ≤ c → x + a ≤ c
       fits x a b c p q = omega arith
 
-pub laying-all : (n : ℕ) (f : ℕ → List ℕ) (old : List ℕ) (at : ℕ) (now : List ℕ) (end i : ℕ) → Laying n f old at now end i → n ≤ i → Adds old at (laid n f) now end
+pub laying-all : (n : ℕ) (f : ℕ → List ℕ) (old : List ℕ) (at : ℕ) (now : List ℕ) (end i : ℕ) → Laying n f old at now end i → n ≤ i
+    → Adds old at (laid n f) now end
 laying-all n f old at now end i l h =
     let e : i ≡ n = (let m = l .most in omega arith) in
     subst (λ (j : ℕ). Adds old at (laid j f) now end) e (l .adds)

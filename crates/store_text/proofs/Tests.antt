@@ -44,7 +44,8 @@ queen (suc (suc (suc (suc (suc (suc (suc (suc (suc (suc (suc k))))))))))) a b c 
 pub some-spaces : (n : ℕ) → n ≤ 21 → take {A = ℕ} n (replicate 21 32) ≡ replicate n 32
 some-spaces n h =
     let e : 21 ≡ n + (21 - n) = omega arith in
-    ap (take {A = ℕ} n) (ap (λ (k : ℕ). replicate {A = ℕ} k 32) e ∙ sym (replicate-append-replicate {A = ℕ} n (21 - n) 32)) ∙ take-at {A = ℕ} (replicate n 32) (replicate (21 - n) 32) n (length-replicate {A = ℕ} n 32)
+    ap (take {A = ℕ} n) (ap (λ (k : ℕ). replicate {A = ℕ} k 32) e ∙ sym (replicate-append-replicate {A = ℕ} n (21 - n) 32))
+    ∙ take-at {A = ℕ} (replicate n 32) (replicate (21 - n) 32) n (length-replicate {A = ℕ} n 32)
 
 pub column-adds : {x y z : List ℕ} {at a b : ℕ} (width n : ℕ) (word : List ℕ) → width ≤ 20 → length word ≤ 20 → n ≡ width - length word + 1
     → Adds x at (take n (replicate 21 32)) y a → Adds y a word z b → at + 21 ≤ length x → Adds x at (inColumn width word) z b
@@ -95,5 +96,6 @@ module _ (form : Form) (file count : ℕ) where
     pub too-many : (count ≡ file + 1 → ⊥) → C.TooMany ≡ storeNamed form file count
     too-many e = sym (ap₂ by (lt-ltb file count more) (ne-eqb count (file + 1) e))
 
-pub asks : (first : List ℕ) (count : ℕ) (t : Bool) → same first (text "--svg") ≡ t → cond t (storeNamed F.Picture 2 count) (storeNamed F.Table 1 count) ≡ callOf first count
+pub asks : (first : List ℕ) (count : ℕ) (t : Bool) → same first (text "--svg") ≡ t
+    → cond t (storeNamed F.Picture 2 count) (storeNamed F.Table 1 count) ≡ callOf first count
 asks first count t e = sym (ap (λ (x : Bool). cond x (storeNamed F.Picture 2 count) (storeNamed F.Table 1 count)) e)

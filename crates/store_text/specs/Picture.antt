@@ -47,7 +47,8 @@ lettersDrawn =
 -- four boards beside each other, three below each other
 unfoldable pub boardAt : ℕ → List ℕ
 boardAt piece =
-    numbered (text "<g transform='translate(") (60 + 440 * (piece % 4)) ++ (numbered (text " ") (100 + 450 * (piece / 4)) ++ text ")'>\n<text class='t' y='-12'>")
+    numbered (text "<g transform='translate(") (60 + 440 * (piece % 4))
+    ++ (numbered (text " ") (100 + 450 * (piece / 4)) ++ text ")'>\n<text class='t' y='-12'>")
 
 -- before all boards: the size, the classes, white paper
 unfoldable pub pictureBegin : List ℕ

@@ -71,7 +71,8 @@ brings-2 bytes p h = go (eqb p 0) (eqb p 1) (eqb (codeIn bytes (countedSquare p)
 less-brought : (bytes : List ℕ) (p : ℕ) → movedBy (wrapsOff 1) (wrapsOff (halfIn bytes)) bytes p ≡ wrapsOff (recordBrings bytes p)
 less-brought bytes p = go (eqb p 0) (eqb p 1) (eqb (codeIn bytes (countedSquare p)) (countedCode p))
   where
-    go : (a b c : Bool) → cond a (wrapsOff 1) (cond b (wrapsOff (halfIn bytes)) (cond c (wrapsOff 1) 0)) ≡ wrapsOff (cond a 1 (cond b (halfIn bytes) (cond c 1 0)))
+    go : (a b c : Bool) → cond a (wrapsOff 1) (cond b (wrapsOff (halfIn bytes)) (cond c (wrapsOff 1) 0))
+        ≡ wrapsOff (cond a 1 (cond b (halfIn bytes) (cond c 1 0)))
     go true b c = refl
     go false true c = refl
     go false false true = refl
@@ -118,8 +119,10 @@ module _ (run summary : List ℕ) (k : KeptAfresh run summary) (bytes : List ℕ
 
       place : (p : ℕ) → p < 770 → (getD summary p 0 + movedBy 1 (halfIn bytes) bytes p) % 2 ^ 64 ≡ sumN (k .n + 1) (brought (withRecord run (k .n) bytes) p)
       place p h =
-          let f = sum-same (k .n) (brought run p) (brought (withRecord run (k .n) bytes) p) (λ i l. ap (λ (r : List ℕ). recordBrings r p) (sym (old-records i l))) in
-          let g : brought (withRecord run (k .n) bytes) p (k .n) ≡ recordBrings bytes p = ap (λ (r : List ℕ). recordBrings r p) (record-new run (k .n) bytes room size) in
+          let f = sum-same (k .n) (brought run p) (brought (withRecord run (k .n) bytes) p)
+          (λ i l. ap (λ (r : List ℕ). recordBrings r p) (sym (old-records i l))) in
+          let g : brought (withRecord run (k .n) bytes) p (k .n) ≡ recordBrings bytes p =
+          ap (λ (r : List ℕ). recordBrings r p) (record-new run (k .n) bytes room size) in
           let e : getD summary p 0 ≡ sumN (k .n) (brought run p) = ap (λ (s : List ℕ). getD s p 0) (k .is) ∙ summary-at run (k .n) p h in
           let m = sum-more (brought (withRecord run (k .n) bytes) p) (k .n) in
           let t = small (k .n + 1) (withRecord run (k .n) bytes) (omega arith) halves p in
@@ -127,7 +130,8 @@ module _ (run summary : List ℕ) (k : KeptAfresh run summary) (bytes : List ℕ
           ap (λ (x : ℕ). x % 2 ^ 64) w ∙ mod-eq-of-lt t
 
       there : summaryMore summary bytes ≡ summaryAfresh (withRecord run (k .n) bytes) (k .n + 1)
-      there = tabulate-same 770 (λ p. (getD summary p 0 + movedBy 1 (halfIn bytes) bytes p) % 2 ^ 64) (λ p. sumN (k .n + 1) (brought (withRecord run (k .n) bytes) p)) place
+      there = tabulate-same 770 (λ p. (getD summary p 0 + movedBy 1 (halfIn bytes) bytes p) % 2 ^ 64)
+          (λ p. sumN (k .n + 1) (brought (withRecord run (k .n) bytes) p)) place
 
   -- another record
   pub kept-replaced : (number : ℕ) → number < k .n → KeptAfresh (withRecord run number bytes) (summaryMore (summaryLess summary (recordAt run number)) bytes)
@@ -150,18 +154,22 @@ module _ (run summary : List ℕ) (k : KeptAfresh run summary) (bytes : List ℕ
       halves i h = go (eqb i number) refl
         where
           go : (t : Bool) → eqb i number ≡ t → halfIn (recordAt (withRecord run number bytes) i) ≤ 2
-          go true e = subst (λ (r : List ℕ). halfIn r ≤ 2) (sym (ap (recordAt (withRecord run number bytes)) (eqb-true i number e) ∙ record-new run number bytes room size)) half
+          go true e = subst (λ (r : List ℕ). halfIn r ≤ 2) (sym (ap (recordAt (withRecord run number bytes)) (eqb-true i number e)
+              ∙ record-new run number bytes room size)) half
           go false e = subst (λ (r : List ℕ). halfIn r ≤ 2) (sym (others i h (eqb-false i number e))) (k .halves i h)
 
       wrapped : (s o c s′ : ℕ) → s′ + o ≡ s + c → o ≤ 2 → s′ < 2 ^ 64 → ((s + (2 ^ 64 - o) % 2 ^ 64) % 2 ^ 64 + c) % 2 ^ 64 ≡ s′
       wrapped s o c s′ e u v = omega arith
 
       place : (p : ℕ) → p < 770
-          → (getD (summaryLess summary (recordAt run number)) p 0 + movedBy 1 (halfIn bytes) bytes p) % 2 ^ 64 ≡ sumN (k .n) (brought (withRecord run number bytes) p)
+          → (getD (summaryLess summary (recordAt run number)) p 0 + movedBy 1 (halfIn bytes) bytes p) % 2 ^ 64
+          ≡ sumN (k .n) (brought (withRecord run number bytes) p)
       place p h =
           let old : List ℕ = recordAt run number in
-          let f = sum-changed (k .n) number (brought run p) (brought (withRecord run number bytes) p) l (λ i m o. ap (λ (r : List ℕ). recordBrings r p) (sym (others i m o))) in
-          let g : brought (withRecord run number bytes) p number ≡ recordBrings bytes p = ap (λ (r : List ℕ). recordBrings r p) (record-new run number bytes room size) in
+          let f = sum-changed (k .n) number (brought run p) (brought (withRecord run number bytes) p) l
+          (λ i m o. ap (λ (r : List ℕ). recordBrings r p) (sym (others i m o))) in
+          let g : brought (withRecord run number bytes) p number ≡ recordBrings bytes p =
+          ap (λ (r : List ℕ). recordBrings r p) (record-new run number bytes room size) in
           let e : getD summary p 0 ≡ sumN (k .n) (brought run p) = ap (λ (s : List ℕ). getD s p 0) (k .is) ∙ summary-at run (k .n) p h in
           let t = small (k .n) (withRecord run number bytes) (k .few) halves p in
           let b = brings-2 old p (k .halves number l) in

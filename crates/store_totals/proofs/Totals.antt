@@ -60,7 +60,8 @@ module _ (bbs board : List ℕ) (state : State) (half : ℕ) where
     counted = ap recordsIn (k .is) ∙ records-are run (k .n)
 
     -- the record that was prepared, and what is done with it
-    new : (c : Store) (rest : List ℕ → Answer Store) → withNew bbs board state half b rest ≡ given c → (bytes : List ℕ) × (rest bytes ≡ given c) × (storeOf bbs board state half blank ≡ given bytes)
+    new : (c : Store) (rest : List ℕ → Answer Store) → withNew bbs board state half b rest ≡ given c → (bytes : List ℕ) × (rest bytes ≡ given c)
+        × (storeOf bbs board state half blank ≡ given bytes)
     new c rest e =
         let p = passed (eqb (length summary) 770) R.Shape c (ifGiven (storeOf bbs board state half blank) rest) e in
         went-on (storeOf bbs board state half blank) rest c (p .1)
@@ -101,7 +102,8 @@ module _ (bbs board : List ℕ) (state : State) (half : ℕ) where
         subst (λ (o : Store). KeptAfresh (o .run) (o .summary)) same (kept-replaced run summary k bytes (w .0) (w .1) number (omega arith))
 
 -- ---- all calls
-all : (run summary : List ℕ) (calls : List SummaryCall) (last lastSummary : List ℕ) → KeptAfresh run summary → Calls run summary calls last lastSummary → KeptAfresh last lastSummary
+all : (run summary : List ℕ) (calls : List SummaryCall) (last lastSummary : List ℕ) → KeptAfresh run summary → Calls run summary calls last lastSummary
+    → KeptAfresh last lastSummary
 unfolding Calls
 all run summary [] last lastSummary k m = subst₂ KeptAfresh (m .0) (m .1) k
 all run summary (adding bbs board state half r run′ summary′ ∷ cs) last lastSummary k m =
@@ -110,7 +112,8 @@ all run summary (adding bbs board state half r run′ summary′ ∷ cs) last la
     (after-add bbs board state half run summary k)) (m .1)
 all run summary (replacing bbs board state half number r run′ summary′ ∷ cs) last lastSummary k m =
     all run′ summary′ cs last lastSummary
-    (keep-call (replaceOf bbs board state half number (record { run = run; summary = summary })) (record { run = run; summary = summary }) r run′ summary′ (m .0) k
+    (keep-call (replaceOf bbs board state half number (record { run = run; summary = summary })) (record { run = run; summary = summary }) r run′
+    summary′ (m .0) k
     (after-replace bbs board state half run summary k number)) (m .1)
 
 -- ---- the piece totals
@@ -145,14 +148,16 @@ pieces run records code l u =
     (λ k h. summary-at run records (countPlace code k) (omega arith)
     ∙ sum-same records (brought run (countPlace code k)) (λ i. cond (eqb (codeIn (recordAt run i) k) code) 1 0) (λ i m. one-piece (recordAt run i) k h l))
     ∙ sum-swap 64 records (λ i k. cond (eqb (codeIn (recordAt run i) k) code) 1 0)
-    ∙ sum-same records (λ i. sumN 64 (λ k. cond (eqb (codeIn (recordAt run i) k) code) 1 0)) (λ i. piecesIn code (recordAt run i)) (λ i m. counts 64 (λ k. eqb (codeIn (recordAt run i) k) code))
+    ∙ sum-same records (λ i. sumN 64 (λ k. cond (eqb (codeIn (recordAt run i) k) code) 1 0)) (λ i. piecesIn code (recordAt run i))
+    (λ i m. counts 64 (λ k. eqb (codeIn (recordAt run i) k) code))
   where
     one-piece : (r : List ℕ) (k : ℕ) → k < 64 → 2 ≤ code → recordBrings r (countPlace code k) ≡ cond (eqb (codeIn r k) code) 1 0
     one-piece r k h l =
         let p : ℕ = countPlace code k in
         let a : countedSquare p ≡ k = omega arith in
         let c : countedCode p ≡ code = omega arith in
-        ap₂ (λ (x y : Bool). cond x 1 (cond y (halfIn r) (cond (eqb (codeIn r (countedSquare p)) (countedCode p)) 1 0))) (ne-eqb p 0 (λ q. omega arith)) (ne-eqb p 1 (λ q. omega arith))
+        ap₂ (λ (x y : Bool). cond x 1 (cond y (halfIn r) (cond (eqb (codeIn r (countedSquare p)) (countedCode p)) 1 0)))
+        (ne-eqb p 0 (λ q. omega arith)) (ne-eqb p 1 (λ q. omega arith))
         ∙ ap₂ (λ (x y : ℕ). cond (eqb (codeIn r x) y) 1 0) a c
 
 -- FROM AN EMPTY STORE: for every run, any calls on it and its summary, refused ones too

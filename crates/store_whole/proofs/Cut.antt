@@ -29,7 +29,8 @@ use Rattle.store_cut.specs.Promises.{holdingPiece}
 use Rattle.store_cut.proofs.Machine.{pieces-append, left-piece, toldBeside, pieces-told}
 use Rattle.store_cut.proofs.Folded.{folded-pieces}
 use Rattle.store_rows.specs.Rows.{ledgerBy}
-use Rattle.store_rows.specs.Promises.{rowPiece, storeCounts, runStore, endsStore, storeFeedOf, storeFedPaper, soFarOf, storeByValue, pieceAfter, storeText, storeWrote, FeedsStore}
+use Rattle.store_rows.specs.Promises.{rowPiece, storeCounts, runStore, endsStore, storeFeedOf, storeFedPaper, soFarOf, storeByValue, pieceAfter}
+use Rattle.store_rows.specs.Promises.{storeText, storeWrote, FeedsStore}
 use Rattle.store_rows.specs.declared.StoreSoFar.{StoreSoFar}
 use Rattle.store_rows.specs.declared.StoreFed.{StoreFed}
 use Rattle.store_rows.specs.declared.StoreFed.the-variants as F
@@ -46,7 +47,12 @@ finishedOf r = withTotals (endPieces rowPiece r)
 -- ---- rows that were written before stand before all others
 row-shifted : (t : List ℕ) (k : Kept) (piece : List ℕ) → rowPiece (shift t k) piece ≡ shift t (rowPiece k piece)
 row-shifted t k piece =
-    ap (λ (x : List ℕ). record { loaded = tally (k .loaded) (isLoaded (pieceSays piece)); refused = tally (k .refused) (not (isLoaded (pieceSays piece))); text = x })
+    ap (λ (x : List ℕ). record {
+      loaded = tally (k .loaded) (isLoaded (pieceSays piece));
+      refused =
+          tally (k .refused) (not (isLoaded (pieceSays piece)));
+      text = x;
+    })
     (append-assoc t (k .text) (rowOf (k .loaded + k .refused + 1) (pieceSays piece)))
 
 totals-shifted : (t : List ℕ) (k : Kept) → withTotals (shift t k) ≡ t ++ withTotals k
@@ -58,17 +64,20 @@ finished-shifted t r = go (ltb 0 (r .left .held))
     piece : List ℕ
     piece = take (r .left .held) (r .left .piece)
 
-    go : (x : Bool) → withTotals (cond x (rowPiece (shift t (r .kept)) piece) (shift t (r .kept))) ≡ t ++ withTotals (cond x (rowPiece (r .kept) piece) (r .kept))
+    go : (x : Bool) → withTotals (cond x (rowPiece (shift t (r .kept)) piece) (shift t (r .kept))) ≡ t
+        ++ withTotals (cond x (rowPiece (r .kept) piece) (r .kept))
     go true = ap withTotals (row-shifted t (r .kept) piece) ∙ totals-shifted t (rowPiece (r .kept) piece)
     go false = totals-shifted t (r .kept)
 
 -- one chunk after another: the rows of the first, and those that the rest writes from there
 then : (state : StoreSoFar) (piece s t : List ℕ)
-    → runStore state piece (s ++ t) ≡ toldBeside (shift (runStore state piece s .kept .text)) (runStore (soFarOf (runStore state piece s)) (runStore state piece s .left .piece) t)
+    → runStore state piece (s ++ t) ≡ toldBeside (shift (runStore state piece s .kept .text))
+    (runStore (soFarOf (runStore state piece s)) (runStore state piece s .left .piece) t)
 then state piece s t =
     let m : PiecesSoFar Kept = runStore state piece s in
     pieces-append rowPiece (holdingPiece piece (state .held)) (storeCounts state) s t
-    ∙ ap (λ (x : List ℕ). runPieces rowPiece (m .left) (record { loaded = m .kept .loaded; refused = m .kept .refused; text = x }) t) (sym (append-nil (m .kept .text)))
+    ∙ ap (λ (x : List ℕ). runPieces rowPiece (m .left) (record { loaded = m .kept .loaded; refused = m .kept .refused; text = x }) t)
+    (sym (append-nil (m .kept .text)))
     ∙ pieces-told (shift (m .kept .text)) rowPiece rowPiece (row-shifted (m .kept .text)) (m .left) (storeCounts (soFarOf m)) t
 
 -- ---- how many pieces were counted
@@ -77,7 +86,8 @@ run-counts : (o : OpenPiece) (k : Kept) (s : List ℕ) → o .held < 34
 unfolding runPieces
 run-counts o k [] h = let z : (o .held + 0) / 34 ≡ 0 = omega arith in omega arith
 run-counts o k (b ∷ s) h =
-    go (ltb (o .held) 33) refl (λ l. run-counts (filled o b) k s (omega arith)) (run-counts (pieceEmptied (filled o b)) (rowPiece k (filled o b .piece)) s (omega arith))
+    go (ltb (o .held) 33) refl (λ l. run-counts (filled o b) k s (omega arith))
+    (run-counts (pieceEmptied (filled o b)) (rowPiece k (filled o b .piece)) s (omega arith))
   where
     a : Answer Line
     a = pieceSays (filled o b .piece)
@@ -92,12 +102,14 @@ run-counts o k (b ∷ s) h =
         → (o .held < 33 → f .kept .loaded + f .kept .refused ≡ k .loaded + k .refused + (o .held + 1 + length s) / 34)
         → e .kept .loaded + e .kept .refused ≡ tally (k .loaded) (isLoaded a) + tally (k .refused) (not (isLoaded a)) + (0 + length s) / 34
         → cond x f e .kept .loaded + cond x f e .kept .refused ≡ k .loaded + k .refused + (o .held + length (b ∷ s)) / 34
-    go true q p r = p (ltb-true (o .held) 33 q) ∙ (let n : o .held + 1 + length s ≡ o .held + length (b ∷ s) = omega arith in ap (λ (z : ℕ). k .loaded + k .refused + z / 34) n)
+    go true q p r = p (ltb-true (o .held) 33 q) ∙ (let n : o .held + 1 + length s ≡ o .held + length (b ∷ s) = omega arith in
+        ap (λ (z : ℕ). k .loaded + k .refused + z / 34) n)
     go false q p r =
         let l = ltb-false (o .held) 33 q in
         let both = tally-both (isLoaded a) (k .loaded) (k .refused) in
         let n : (o .held + length (b ∷ s)) / 34 ≡ (0 + length s) / 34 + 1 = omega arith in
-        r ∙ (let z : (c : ℕ) → tally (k .loaded) (isLoaded a) + tally (k .refused) (not (isLoaded a)) + c ≡ k .loaded + k .refused + (c + 1) = λ c. omega arith in z ((0 + length s) / 34)) ∙ ap (λ (z : ℕ). k .loaded + k .refused + z) (sym n)
+        r ∙ (let z : (c : ℕ) → tally (k .loaded) (isLoaded a) + tally (k .refused) (not (isLoaded a)) + c ≡ k .loaded + k .refused + (c + 1) =
+        λ c. omega arith in z ((0 + length s) / 34)) ∙ ap (λ (z : ℕ). k .loaded + k .refused + z) (sym n)
 
 -- with an unfinished one
 abbrev piecesIn : PiecesSoFar Kept → ℕ
@@ -109,7 +121,8 @@ pieces-end r = go (ltb 0 (r .left .held))
     a : Answer Line
     a = pieceSays (take (r .left .held) (r .left .piece))
 
-    go : (t : Bool) → r .kept .loaded + r .kept .refused + cond t 1 0 ≡ cond t (rowMore (r .kept) a) (r .kept) .loaded + cond t (rowMore (r .kept) a) (r .kept) .refused
+    go : (t : Bool) → r .kept .loaded + r .kept .refused + cond t 1 0 ≡ cond t (rowMore (r .kept) a) (r .kept) .loaded
+        + cond t (rowMore (r .kept) a) (r .kept) .refused
     go true = sym (tally-both (isLoaded a) (r .kept .loaded) (r .kept .refused))
     go false = add-zero (r .kept .loaded + r .kept .refused)
 
@@ -123,12 +136,15 @@ fold-count k (p ∷ ps) =
 pub short-piece : (piece : List ℕ) (held : ℕ) → held < 34 → pieceSays (take held piece) ≡ refusalOf R.Length
 unfolding pieceSays
 short-piece piece held h =
-    ap (λ (t : Bool). orRefuse t R.Length (recordSays (take held piece))) (ne-eqb (length (take held piece)) 34 (λ e. let n = length-take held piece in omega arith))
+    ap (λ (t : Bool). orRefuse t R.Length (recordSays (take held piece)))
+    (ne-eqb (length (take held piece)) 34 (λ e. let n = length-take held piece in omega arith))
 
-at-end : (state : StoreSoFar) (piece : List ℕ) → state .held < 34 → storeFinished state ≡ finishedOf (record { left = holdingPiece piece (state .held); kept = storeCounts state })
+at-end : (state : StoreSoFar) (piece : List ℕ) → state .held < 34 → storeFinished state
+    ≡ finishedOf (record { left = holdingPiece piece (state .held); kept = storeCounts state })
 unfolding storeFinished
 at-end state piece h =
-    sym (ap (λ (a : Answer Line). withTotals (cond (ltb 0 (state .held)) (rowMore (storeCounts state) a) (storeCounts state))) (short-piece piece (state .held) h))
+    sym (ap (λ (a : Answer Line). withTotals (cond (ltb 0 (state .held)) (rowMore (storeCounts state) a) (storeCounts state)))
+    (short-piece piece (state .held) h))
 
 -- ---- a call with room
 rows-of : (r : StoreFed) (state : StoreSoFar) (n : ℕ) → storeFedPaper r ≡ came (state, n) → r ≡ F.Rows state n
@@ -163,13 +179,15 @@ feed-given state piece chunk out r piece′ out′ f size short counts room =
           ∙ taken out out′ (m .kept .text) (f .rows ∙ ap (λ (x : Came (PiecesSoFar Kept)). writtenOf out 0 (storeText x)) e) h;
     }
 
-finish-given : (state : StoreSoFar) (out : List ℕ) (r : Finished) (out′ : List ℕ) → FinishesStore state out r out′ → state .held < 34 → lastPieces state < 2 ^ 64 → 116 ≤ length out
+finish-given : (state : StoreSoFar) (out : List ℕ) (r : Finished) (out′ : List ℕ) → FinishesStore state out r out′ → state .held < 34
+    → lastPieces state < 2 ^ 64 → 116 ≤ length out
     → lastRowsOf r out′ ≡ storeFinished state
 finish-given state out r out′ f short counts room =
     let t : List ℕ = storeFinished state in
     let h : 0 + length t ≤ 116 = finished-116 state in
     let e : storeFinishOf state out ≡ came t =
-    by-tests state out true true true (lt-ltb (state .held) 34 short) (lt-ltb (lastPieces state) (2 ^ 64) counts) (le-leb (0 + length t) (length out) (omega arith)) in
+    by-tests state out true true true (lt-ltb (state .held) 34 short) (lt-ltb (lastPieces state) (2 ^ 64) counts)
+    (le-leb (0 + length t) (length out) (omega arith)) in
     ap (λ (q : Finished). lastRowsOf q out′) (last-of r (length t) (f .answer ∙ ap lengthOf e))
     ∙ taken out out′ t (f .rows ∙ ap (λ (x : Came (List ℕ)). writtenOf out 0 (lastText x)) e) (omega arith)
 
@@ -196,9 +214,11 @@ all state piece (c ∷ cs) last size short room counts made =
     let o : OpenPiece = holdingPiece piece (state .held) in
     let cut = then state piece (c .chunk) s in
     let l = left-piece rowPiece o (storeCounts state) (c .chunk) short in
-    let total = run-counts o (storeCounts state) (c .chunk ++ s) short ∙ ap (λ (n : ℕ). state .loaded + state .refused + (state .held + n) / 34) (length-append (c .chunk) s) in
+    let total = run-counts o (storeCounts state) (c .chunk ++ s) short
+    ∙ ap (λ (n : ℕ). state .loaded + state .refused + (state .held + n) / 34) (length-append (c .chunk) s) in
     let g = feed-given state piece (c .chunk) (c .out) (c .fed) (c .piece′) (c .out′) (made .0) size short
-    (less _ (state .loaded + state .refused) (endsStore state (c .chunk)) ((state .held + (length (c .chunk) + length s)) / 34) _ total (more (state .held) (length (c .chunk)) (length s)) counts)
+    (less _ (state .loaded + state .refused) (endsStore state (c .chunk)) ((state .held + (length (c .chunk) + length s)) / 34) _ total
+    (more (state .held) (length (c .chunk)) (length s)) counts)
     (enough (state .held) (length (c .chunk)) (length (c .out)) short (room .0)) in
     let rest : StoreCallsMade (soFarOf m) (m .left .piece) cs last =
     subst (λ (p : List ℕ). StoreCallsMade (soFarOf m) p cs last) (g .kept)
@@ -215,6 +235,7 @@ store piece calls last = record {
       let r : PiecesSoFar Kept = runStore freshStore piece (storeInput calls) in
       let e : endPieces rowPiece r ≡ foldLines rowPiece noRows (piecesOf (storeInput calls)) = folded-pieces rowPiece piece noRows (storeInput calls) size in
       let n : piecesIn r ≡ length (piecesOf (storeInput calls)) =
-      pieces-end r ∙ ap (λ (k : Kept). k .loaded + k .refused) e ∙ fold-count noRows (piecesOf (storeInput calls)) ∙ zero-add (length (piecesOf (storeInput calls))) in
+      pieces-end r ∙ ap (λ (k : Kept). k .loaded + k .refused) e ∙ fold-count noRows (piecesOf (storeInput calls))
+      ∙ zero-add (length (piecesOf (storeInput calls))) in
       all freshStore piece calls last size (omega arith) room (subst (λ (x : ℕ). x < 2 ^ 64) (sym n) few) made ∙ ap withTotals e;
 }

@@ -70,7 +70,8 @@ rows-kept : (ps : List (List ℕ)) (k : Kept)
 unfolding foldLines
 rows-kept [] k = refl
 rows-kept (p ∷ ps) k =
-    ap (λ (y : Kept). foldLines (λ (x : Kept) (r : List ℕ). rowMore x (onlyRecord (lineOf r))) y ps) (row-kept k (lineOf p)) ∙ rows-kept ps (rowMore k (lineOf p))
+    ap (λ (y : Kept). foldLines (λ (x : Kept) (r : List ℕ). rowMore x (onlyRecord (lineOf r))) y ps) (row-kept k (lineOf p))
+    ∙ rows-kept ps (rowMore k (lineOf p))
 
 -- ---- each says that of its line
 record-says : (line : List ℕ) (l : Line) → lineOf line ≡ given l → pieceSays (recordOf l) ≡ onlyRecord (given l)
@@ -79,7 +80,8 @@ record-says line l e =
     let s = given-spells line l e in
     says-it l (loaded-64 line l e) (consistent-coded (bitboardsOf (l .board)) (l .board) (loaded-consistent line l e)) (s .side) (omega (arith, s .half))
 
-all-say : (lines : List (List ℕ)) (ls : List Line) → map lineOf lines ≡ map (λ (l : Line). given l) ls → map pieceSays (map recordOf ls) ≡ map (λ x. onlyRecord (lineOf x)) lines
+all-say : (lines : List (List ℕ)) (ls : List Line) → map lineOf lines ≡ map (λ (l : Line). given l) ls
+    → map pieceSays (map recordOf ls) ≡ map (λ x. onlyRecord (lineOf x)) lines
 all-say [] [] e = refl
 all-say [] (l ∷ ls) e = absurd (let z : _≡_ {A = ℕ} 0 1 = cc in omega arith)
 all-say (x ∷ lines) [] e = absurd (let z : _≡_ {A = ℕ} 0 1 = cc in omega arith)
@@ -93,6 +95,7 @@ unfolding ledgerBy
 same-rows input ls = record {
   rows = λ e.
       ap (ledgerBy pieceSays) (pieces-store ls) ∙ ap withTotals
-      (by-said pieceSays (λ x. onlyRecord (lineOf x)) (map recordOf ls) (linesOf input) (all-say (linesOf input) ls e) noRows ∙ rows-kept (linesOf input) noRows)
+      (by-said pieceSays (λ x. onlyRecord (lineOf x)) (map recordOf ls) (linesOf input) (all-say (linesOf input) ls e) noRows
+      ∙ rows-kept (linesOf input) noRows)
       ∙ sym (ledger-by input);
 }

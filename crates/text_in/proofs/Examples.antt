@@ -5,7 +5,8 @@ use mathlib.Core.List.{[], _∷_}
 use Rattle.text_in.specs.Text.{text, semicolon, isText, isBlank, isSpace, every, holds, before, after, without, trim, placeIn}
 
 -- the first and the last byte of a line, tab and CR; and bytes that are none: LF, 31, DEL
-bytes : isText 32 ∷ isText 126 ∷ isText 9 ∷ isText 13 ∷ isText 10 ∷ isText 31 ∷ isText 127 ∷ isText 255 ∷ [] ≡ true ∷ true ∷ true ∷ true ∷ false ∷ false ∷ false ∷ false ∷ []
+bytes : isText 32 ∷ isText 126 ∷ isText 9 ∷ isText 13 ∷ isText 10 ∷ isText 31 ∷ isText 127 ∷ isText 255 ∷ [] ≡ true ∷ true ∷ true ∷ true ∷ false
+    ∷ false ∷ false ∷ false ∷ []
 bytes = refl
 
 blanks : isBlank 32 ∷ isBlank 9 ∷ isBlank 13 ∷ isBlank 10 ∷ isBlank 47 ∷ [] ≡ true ∷ true ∷ true ∷ false ∷ false ∷ []
@@ -17,7 +18,8 @@ unfolding every
 every-byte = refl
 
 -- the text before the first `;` and after it; where there is none; where it comes first
-cut : before semicolon (text "a b;c;d") ∷ after semicolon (text "a b;c;d") ∷ before semicolon (text "ab") ∷ after semicolon (text "ab") ∷ before semicolon (text ";c") ∷ [] ≡ text "a b" ∷ text "c;d" ∷ text "ab" ∷ [] ∷ [] ∷ []
+cut : before semicolon (text "a b;c;d") ∷ after semicolon (text "a b;c;d") ∷ before semicolon (text "ab") ∷ after semicolon (text "ab")
+    ∷ before semicolon (text ";c") ∷ [] ≡ text "a b" ∷ text "c;d" ∷ text "ab" ∷ [] ∷ [] ∷ []
 unfolding before after
 cut = refl
 
@@ -35,6 +37,7 @@ skipped : without isSpace (text "  w") ∷ without isSpace (text " \tw") ∷ [] 
 unfolding without
 skipped = refl
 
-places : placeIn (text "w" ∷ text "b" ∷ []) (text "w") ∷ placeIn (text "w" ∷ text "b" ∷ []) (text "b") ∷ placeIn (text "w" ∷ text "b" ∷ []) (text "wb") ∷ [] ≡ 0 ∷ 1 ∷ 2 ∷ []
+places : placeIn (text "w" ∷ text "b" ∷ []) (text "w") ∷ placeIn (text "w" ∷ text "b" ∷ []) (text "b") ∷ placeIn (text "w" ∷ text "b" ∷ []) (text "wb")
+    ∷ [] ≡ 0 ∷ 1 ∷ 2 ∷ []
 unfolding placeIn
 places = refl

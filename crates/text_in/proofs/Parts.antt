@@ -52,7 +52,8 @@ module _ (mark : ℕ) where
   holds-is [] = refl
   holds-is (b ∷ s) = go (eqb b mark) (holds-is s)
     where
-      go : (t : Bool) → holds mark s ≡ ltb (length (before mark s)) (length s) → (t || holds mark s) ≡ ltb (length (cond t [] (b ∷ before mark s))) (suc (length s))
+      go : (t : Bool) → holds mark s ≡ ltb (length (before mark s)) (length s)
+          → (t || holds mark s) ≡ ltb (length (cond t [] (b ∷ before mark s))) (suc (length s))
       go true e = sym (lt-ltb 0 (suc (length s)) (omega arith))
       go false e = e ∙ sym (leb·suc-suc (suc (length (before mark s))) (length s))
 

@@ -18,7 +18,8 @@ module _ (test : ℕ → Bool) (s : List ℕ) (i : ℕ) (all : Bool) (e : every 
   pub every-more : i < length s → (t : Bool) → t ≡ test (getD s i 0) → every test s ≡ ((t && all) && every test (drop (i + 1) s))
   unfolding every
   every-more h t q =
-      e ∙ rw (drop-cons s i 0, add-one i, ← q) (sym (and-assoc all t (every test (drop (suc i) s))) ∙ ap (λ (b : Bool). b && every test (drop (suc i) s)) (and-comm all t))
+      e ∙ rw (drop-cons s i 0, add-one i, ← q) (sym (and-assoc all t (every test (drop (suc i) s)))
+      ∙ ap (λ (b : Bool). b && every test (drop (suc i) s)) (and-comm all t))
 
   pub every-end : length s ≤ i → all ≡ every test s
   unfolding every

@@ -24,7 +24,8 @@ inner {s} {t} {u} p q =
       back = q .back ++ p .back;
       is =
           p .is ∙ ap (λ (l : List ℕ). p .front ++ (l ++ p .back)) (q .is)
-          ∙ ap (λ (l : List ℕ). p .front ++ l) (append-assoc (q .front) (u ++ q .back) (p .back) ∙ ap (λ (l : List ℕ). q .front ++ l) (append-assoc u (q .back) (p .back)))
+          ∙ ap (λ (l : List ℕ). p .front ++ l) (append-assoc (q .front) (u ++ q .back) (p .back)
+          ∙ ap (λ (l : List ℕ). q .front ++ l) (append-assoc u (q .back) (p .back)))
           ∙ sym (append-assoc (p .front) (q .front) (u ++ (q .back ++ p .back)));
     }
 
@@ -39,7 +40,8 @@ cut {s} {t} w =
     record {
       from = length (w .front);
       size = length t;
-      is = sym (ap (λ (l : List ℕ). take (length t) (drop (length (w .front)) l)) (w .is) ∙ ap (take (length t)) (drop-append-seam (w .front) (t ++ w .back)) ∙ take-append-seam t (w .back));
+      is = sym (ap (λ (l : List ℕ). take (length t) (drop (length (w .front)) l)) (w .is)
+          ∙ ap (take (length t)) (drop-append-seam (w .front) (t ++ w .back)) ∙ take-append-seam t (w .back));
     }
 
 pub before-within : (mark : ℕ) (s : List ℕ) → Within s (before mark s)

@@ -26,7 +26,8 @@ module _ {old : List ℕ} {at : ℕ} {text new : List ℕ} {r : ℕ} (a : Adds o
   adds-front = ap (λ (n : ℕ). take n new) adds-to ∙ ap (take (at + length text)) (a .buffer) ∙ written-front old at text room
 
   pub adds-back : drop r new ≡ drop r old
-  adds-back = ap (λ (n : ℕ). drop n new) adds-to ∙ ap (drop (at + length text)) (a .buffer) ∙ written-back old at text room ∙ sym (ap (λ (n : ℕ). drop n old) adds-to)
+  adds-back = ap (λ (n : ℕ). drop n new) adds-to ∙ ap (drop (at + length text)) (a .buffer) ∙ written-back old at text room
+      ∙ sym (ap (λ (n : ℕ). drop n old) adds-to)
 
 -- one text after another
 pub adds-then : {x y z : List ℕ} {at b c : ℕ} {t u : List ℕ} → Adds x at t y b → Adds y b u z c → at + (length t + length u) ≤ length x → Adds x at (t ++ u) z c

@@ -91,7 +91,8 @@ written-then old at t u h =
     let r : ℕ = (at + length t) + length u in
     written-is (writtenOf old at t) (at + length t) u hu
     ∙ ap₂ (λ (a b : List ℕ). a ++ (u ++ b)) (written-front old at t ht)
-    (sym (drop-drop (length u) (at + length t) (writtenOf old at t)) ∙ ap (drop (length u)) (written-back old at t ht) ∙ drop-drop (length u) (at + length t) old)
+    (sym (drop-drop (length u) (at + length t) (writtenOf old at t)) ∙ ap (drop (length u)) (written-back old at t ht)
+    ∙ drop-drop (length u) (at + length t) old)
     ∙ append-assoc (take at old) t (u ++ drop r old)
     ∙ ap (λ (l : List ℕ). take at old ++ l) (sym (append-assoc t u (drop r old)))
     ∙ ap (λ (n : ℕ). take at old ++ ((t ++ u) ++ drop n old)) (let z : r ≡ at + length (t ++ u) = omega arith in z)

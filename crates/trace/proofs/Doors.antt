@@ -42,8 +42,10 @@ module _ (bbs bytes : List ℕ) (state : State) (entries : List ℤ) where
   pub passed-on : (r : Traced) (q : Refusal) → length entries ≡ 768 → refusalOf q ≡ rest → r ≡ refusedWith q → Traces bbs bytes state entries r entries
   passed-on r q e p c = refuses r q c (p ∙ right e)
 
-  pub traced : (t : Trace) (occ : ℕ) (mobility : List ℤ) (blank last : List ℤ) → length entries ≡ 768 → consistent bbs bytes ≡ true → given (traceOf bbs (state .side)) ≡ rest
-      → mobility ≡ mobilityOf bbs → t ≡ traceWith bbs (state .side) mobility → length blank ≡ 768 → ((i : ℕ) → i < 768 → getD blank i (pos 0) ≡ pos 0) → occ ≡ occupied bbs
+  pub traced : (t : Trace) (occ : ℕ) (mobility : List ℤ) (blank last : List ℤ) → length entries ≡ 768 → consistent bbs bytes ≡ true
+      → given (traceOf bbs (state .side)) ≡ rest
+      → mobility ≡ mobilityOf bbs → t ≡ traceWith bbs (state .side) mobility → length blank ≡ 768 → ((i : ℕ) → i < 768 → getD blank i (pos 0) ≡ pos 0)
+      → occ ≡ occupied bbs
       → last ≡ marked bytes blank (squares occ) → Traces bbs bytes state entries (record { checked = Fit; trace = t }) last
   unfolding traceOf
   traced t occ mobility blank last e f p em t-is l z eo m =

@@ -19,5 +19,6 @@ pub doubled-one : (r s : Doubled) → paper r ≡ paper s → r ≡ s
 doubled-one = retract paper (readBack D.Is D.Refused) paper-back
 
 -- ---- the function
-pub eval : (t : Trace) (entries : List ℤ) (w : Weights) (squares : List Float) (r s : Doubled) → Doubles t entries w squares r → Doubles t entries w squares s → r ≡ s
+pub eval : (t : Trace) (entries : List ℤ) (w : Weights) (squares : List Float) (r s : Doubled) → Doubles t entries w squares r
+    → Doubles t entries w squares s → r ≡ s
 eval t entries w squares r s p q = doubled-one r s (one p q)

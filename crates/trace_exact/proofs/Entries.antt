@@ -38,7 +38,8 @@ weightOn bbs kind colour phase s = gated (has (standing bbs kind colour) s) (pst
 weighed-is : (bbs : List ℕ) (colour phase : ℕ) → weightSum bbs colour phase ≡ sumZ 6 (λ kind. sumZ 64 (weightOn bbs kind colour phase))
 unfolding weightSum weighedFrom
 weighed-is bbs colour phase =
-    whole-same 6 (λ kind. added (λ s. pstOf (codeOf kind colour) s phase) (pos 0) (squares (standing bbs kind colour))) (λ kind. sumZ 64 (weightOn bbs kind colour phase))
+    whole-same 6 (λ kind. added (λ s. pstOf (codeOf kind colour) s phase) (pos 0) (squares (standing bbs kind colour)))
+    (λ kind. sumZ 64 (weightOn bbs kind colour phase))
     (λ kind h. added-is (standing bbs kind colour) (λ s. pstOf (codeOf kind colour) s phase) (pos 0) ∙ +ℤ-idl (sumZ 64 (weightOn bbs kind colour phase)))
 
 -- y0·(x−2) + y1·(32−x)
@@ -46,7 +47,8 @@ abbrev pub thirtieths : List ℕ → ℕ → ℤ
 thirtieths bbs colour = weightSum bbs colour 0 *ℤ (pos (pieces bbs) -ℤ pos 2) +ℤ weightSum bbs colour 1 *ℤ (pos 32 -ℤ pos (pieces bbs))
 
 -- ---- what stands at a place
-pub entry-at : (bbs : List ℕ) (kind s colour : ℕ) → s < 64 → colour < 2 → entryAt bbs (entryPlace kind s colour) ≡ digit (has (standing bbs kind colour) (flipOf s colour))
+pub entry-at : (bbs : List ℕ) (kind s colour : ℕ) → s < 64 → colour < 2
+    → entryAt bbs (entryPlace kind s colour) ≡ digit (has (standing bbs kind colour) (flipOf s colour))
 unfolding entryAt
 entry-at bbs kind s colour hs hc =
     let i : ℕ = entryPlace kind s colour in

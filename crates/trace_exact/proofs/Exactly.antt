@@ -32,12 +32,14 @@ same-squares w e f x h =
     (λ s hs. ap₂ _-ℤ_ (one kind s 0 hk hs (omega arith)) (one kind s 1 hk hs (omega arith))))
   where
     one : (kind s c : ℕ) → kind < 6 → s < 64 → c < 2 → term w e x kind s c ≡ term w f x kind s c
-    one kind s c hk hs hc = ap (λ (z : ℤ). z *ℤ (w .square (weightPlace kind 0 s) *ℤ (x -ℤ pos 2) +ℤ w .square (weightPlace kind 1 s) *ℤ (pos 32 -ℤ x))) (h (entryPlace kind s c) (omega arith))
+    one kind s c hk hs hc = ap (λ (z : ℤ). z *ℤ (w .square (weightPlace kind 0 s) *ℤ (x -ℤ pos 2) +ℤ w .square (weightPlace kind 1 s) *ℤ
+        (pos 32 -ℤ x))) (h (entryPlace kind s c) (omega arith))
 
 pub exact-at : (w : WholeWeights) (t : Trace) (bbs : List ℕ) → exactSum w t (entriesOf bbs) ≡ exactBy w t (λ i. pos (entryAt bbs i))
 unfolding exactSum exactBy
 exact-at w t bbs =
-    ap (λ (z : ℤ). (sumZ 5 (λ kind. difference (kindCounts t kind) *ℤ w .value kind) +ℤ difference (t .«bishop_pair») *ℤ w .pair +ℤ t .side *ℤ w .tempo) *ℤ pos 30
+    ap (λ (z : ℤ). (sumZ 5 (λ kind. difference (kindCounts t kind) *ℤ w .value kind) +ℤ difference (t .«bishop_pair») *ℤ w .pair +ℤ t .side *ℤ
+    w .tempo) *ℤ pos 30
     +ℤ sumZ 6 (λ kind. (D.attackedIn t kind 0 -ℤ D.attackedIn t kind 1) *ℤ w .mobility kind) *ℤ pos 3 +ℤ z)
     (same-squares w (λ i. getD (entriesOf bbs) i (pos 0)) (λ i. pos (entryAt bbs i)) (t .«piece_count») (λ i h. entries-at bbs i h))
 
@@ -63,11 +65,14 @@ parts : (bbs : List ℕ) (side : ℕ) (counts moves : ℤ)
     → sumZ 5 (λ kind. difference (kindCounts (traceOf bbs side) kind) *ℤ pos (valueOf kind)) ≡ counts
     → sumZ 6 (λ kind. (D.attackedIn (traceOf bbs side) kind 0 -ℤ D.attackedIn (traceOf bbs side) kind 1) *ℤ pos (factorOf kind)) ≡ moves
     → exactBy shippedWhole (traceOf bbs side) (λ i. pos (entryAt bbs i))
-    ≡ (counts +ℤ (pos (pair bbs 0) -ℤ pos (pair bbs 1)) *ℤ pos pairValue +ℤ signOf side *ℤ pos tempoValue) *ℤ pos 30 +ℤ moves *ℤ pos 3 +ℤ (thirtieths bbs 0 -ℤ thirtieths bbs 1)
+    ≡ (counts +ℤ (pos (pair bbs 0) -ℤ pos (pair bbs 1)) *ℤ pos pairValue +ℤ signOf side *ℤ pos tempoValue) *ℤ pos 30 +ℤ moves *ℤ pos 3 +ℤ
+    (thirtieths bbs 0 -ℤ thirtieths bbs 1)
 unfolding exactBy traceOf
 parts bbs side counts moves c m =
-    ap₂ (λ (x y : ℤ). (x +ℤ (pos (pair bbs 0) -ℤ pos (pair bbs 1)) *ℤ pos pairValue +ℤ signOf side *ℤ pos tempoValue) *ℤ pos 30 +ℤ y *ℤ pos 3 +ℤ squareSum shippedWhole (λ i. pos (entryAt bbs i)) (pos (pieces bbs))) c m
-    ∙ ap (λ (z : ℤ). (counts +ℤ (pos (pair bbs 0) -ℤ pos (pair bbs 1)) *ℤ pos pairValue +ℤ signOf side *ℤ pos tempoValue) *ℤ pos 30 +ℤ moves *ℤ pos 3 +ℤ z) (square-sum bbs)
+    ap₂ (λ (x y : ℤ). (x +ℤ (pos (pair bbs 0) -ℤ pos (pair bbs 1)) *ℤ pos pairValue +ℤ signOf side *ℤ pos tempoValue) *ℤ pos 30 +ℤ y *ℤ pos 3 +ℤ
+    squareSum shippedWhole (λ i. pos (entryAt bbs i)) (pos (pieces bbs))) c m
+    ∙ ap (λ (z : ℤ). (counts +ℤ (pos (pair bbs 0) -ℤ pos (pair bbs 1)) *ℤ pos pairValue +ℤ signOf side *ℤ pos tempoValue) *ℤ pos 30 +ℤ moves *ℤ pos 3
+    +ℤ z) (square-sum bbs)
 
 same-diff : (z y : ℤ) (m n : ℕ) → z ≡ y → Diff y m n → Diff z m n
 same-diff z y m n e d = subst (λ (x : ℤ). Diff x m n) (sym e) d

@@ -61,7 +61,12 @@ seen-le (d ∷ ds) s occ =
 
 seen-many : (ds : List Step) (s occ : ℕ) → howMany 64 (has (board (seen ds s occ))) ≤ ways ds s
 seen-many ds s occ =
-    omega (arith, many-same 64 (has (board (seen ds s occ))) (λ k. isIn k (seen ds s occ)) (λ k h. has-board (seen ds s occ) k h), in-many (seen ds s occ), seen-le ds s occ)
+    omega (
+      arith,
+      many-same 64 (has (board (seen ds s occ))) (λ k. isIn k (seen ds s occ)) (λ k h. has-board (seen ds s occ) k h),
+      in-many (seen ds s occ),
+      seen-le ds s occ,
+    )
 
 abbrev few : List Step → Bool
 few ds = allBelow 64 (λ s. leb (ways ds s) 27)
@@ -136,7 +141,8 @@ pub attacked-few : (bbs : List ℕ) (kind colour : ℕ) → attacked bbs kind co
 unfolding attacked attackedBy attackedFrom
 attacked-few bbs kind colour =
     le-trans
-    (counted-few (λ s. howMany 64 (has (attacks kind colour s (occupied bbs)))) (λ s h. attacks-few kind colour s (occupied bbs) h) 0 (squares (standing bbs kind colour)) (inside-squares (standing bbs kind colour)))
+    (counted-few (λ s. howMany 64 (has (attacks kind colour s (occupied bbs)))) (λ s h. attacks-few kind colour s (occupied bbs) h) 0
+    (squares (standing bbs kind colour)) (inside-squares (standing bbs kind colour)))
     (bound (length (squares (standing bbs kind colour))) (squares-le (standing bbs kind colour)))
 
 pub count-few : (bbs : List ℕ) (kind colour : ℕ) → count bbs kind colour ≤ 64
@@ -165,7 +171,8 @@ two most a b ha hb = ap₂ (λ (x y : Bool). x && (y && true)) (in-range most b 
 
 twelve : (f : ℕ → ℕ → ℕ) → ((k c : ℕ) → f k c ≤ 1728)
     → allWithin (pos 1728)
-    (pos (f 0 0) ∷ pos (f 0 1) ∷ pos (f 1 0) ∷ pos (f 1 1) ∷ pos (f 2 0) ∷ pos (f 2 1) ∷ pos (f 3 0) ∷ pos (f 3 1) ∷ pos (f 4 0) ∷ pos (f 4 1) ∷ pos (f 5 0) ∷ pos (f 5 1) ∷ []) ≡ true
+    (pos (f 0 0) ∷ pos (f 0 1) ∷ pos (f 1 0) ∷ pos (f 1 1) ∷ pos (f 2 0) ∷ pos (f 2 1) ∷ pos (f 3 0) ∷ pos (f 3 1) ∷ pos (f 4 0) ∷ pos (f 4 1)
+    ∷ pos (f 5 0) ∷ pos (f 5 1) ∷ []) ≡ true
 unfolding allBelow
 twelve f h =
     simp (
@@ -213,7 +220,8 @@ digit-few false = omega arith
 
 entry-few : (bbs : List ℕ) (i : ℕ) → entryAt bbs i ≤ 1
 unfolding entryAt
-entry-few bbs i = digit-few (has (standing bbs (Rattle.places.specs.Places.kindAt i) (Rattle.places.specs.Places.colourAt i)) (Rattle.chess.specs.Squares.flipOf (Rattle.places.specs.Places.squareAt i) (Rattle.places.specs.Places.colourAt i)))
+entry-few bbs i = digit-few (has (standing bbs (Rattle.places.specs.Places.kindAt i) (Rattle.places.specs.Places.colourAt i))
+    (Rattle.chess.specs.Squares.flipOf (Rattle.places.specs.Places.squareAt i) (Rattle.places.specs.Places.colourAt i)))
 
 pub are-entries : (bbs : List ℕ) → areEntries (entriesOf bbs) ≡ true
 are-entries bbs =

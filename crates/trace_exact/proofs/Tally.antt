@@ -76,7 +76,8 @@ module _ (bbs : List ℕ) where
 
   at-place : (kind s colour : ℕ) → s < 64 → colour < 2 → one (128 * kind + (2 * s + colour)) ≡ at bbs kind colour (flipOf s colour)
   unfolding at
-  at-place kind s colour hs hc = ap one (let e : 128 * kind + (2 * s + colour) ≡ entryPlace kind s colour = omega arith in e) ∙ ap pos (entry-at bbs kind s colour hs hc)
+  at-place kind s colour hs hc = ap one (let e : 128 * kind + (2 * s + colour) ≡ entryPlace kind s colour = omega arith in e)
+      ∙ ap pos (entry-at bbs kind s colour hs hc)
 
   a-kind : (kind : ℕ) → sumZ 128 (λ j. one (128 * kind + j)) ≡ sumZ 64 (λ s. at bbs kind 0 s +ℤ at bbs kind 1 s)
   a-kind kind =
@@ -150,7 +151,8 @@ unfolding consistent
 ones-pieces bbs bytes e =
     all-entries bbs
     ∙ whole-same 64 (λ s. pos (boardsWith bbs s)) (λ s. pos (digit (on bbs 0 s || on bbs 1 s)))
-    (λ s h. ap pos (alone bbs s (leb→le (boardsWith bbs s) 1 (all-at 64 (apart bbs) first s h)) (united-white bbs s (all-at 64 (united bbs) second s h)) (united-black bbs s (all-at 64 (united bbs) second s h))))
+    (λ s h. ap pos (alone bbs s (leb→le (boardsWith bbs s) 1 (all-at 64 (apart bbs) first s h))
+    (united-white bbs s (all-at 64 (united bbs) second s h)) (united-black bbs s (all-at 64 (united bbs) second s h))))
     ∙ pieces-sum bbs
   where
     both : T (allBelow 64 (apart bbs) && allBelow 64 (united bbs))

@@ -21,7 +21,8 @@ use Rattle.bits.specs.Bitboard.{digit}
 use Rattle.places.specs.Places.{entryPlace, kindAt, squareAt, colourAt}
 use Rattle.trace_counts.specs.Ranges.{areEntries}
 use Rattle.trace_list.specs.Ones.{ones}
-use Rattle.trace_list.specs.Form.{kindIn, squareIn, colourIn, listPlace, listPlaces, inRange, leastAt, comesAfter, isUnused, isList, entryByte, listBytes, isOne, flatOf, onesIn}
+use Rattle.trace_list.specs.Form.{kindIn, squareIn, colourIn, listPlace, listPlaces, inRange, leastAt, comesAfter, isUnused, isList, entryByte}
+use Rattle.trace_list.specs.Form.{listBytes, isOne, flatOf, onesIn}
 use Rattle.trace_list.proofs.Ones.{ones-yes, ones-no, ones-zero, in-ones}
 use Rattle.trace_list.proofs.Rising.{Rises}
 use Rattle.trace_list.proofs.There.{Listed, how-many}
@@ -69,7 +70,8 @@ bytes-back used bytes h e =
     each j b false q = sym (h .unused j (ltb-false j (3 * used) q) b)
 
 -- ---- bytes of a list of places are read back
-byte-early : (places : List ℕ) (i r j : ℕ) → i < length places → length places ≤ 64 → r < 3 → j ≡ 3 * i + r → getD (listBytes places) j 0 ≡ entryByte r (getD places i 0)
+byte-early : (places : List ℕ) (i r j : ℕ) → i < length places → length places ≤ 64 → r < 3 → j ≡ 3 * i + r
+    → getD (listBytes places) j 0 ≡ entryByte r (getD places i 0)
 byte-early places i r j l b h e =
     let q : j / 3 ≡ i = omega arith in
     let p : j % 3 ≡ r = omega arith in
@@ -128,7 +130,8 @@ ones-rise f zero = record {
     nothing i l = not-suc-le-zero l
 ones-rise f (suc n) = go (ones-rise f n) (f n) refl
   where
-    go : Rises (λ i. getD (ones f n) i 0) (length (ones f n)) n → (t : Bool) → f n ≡ t → Rises (λ i. getD (ones f (suc n)) i 0) (length (ones f (suc n))) (suc n)
+    go : Rises (λ i. getD (ones f n) i 0) (length (ones f n)) n → (t : Bool) → f n ≡ t
+        → Rises (λ i. getD (ones f (suc n)) i 0) (length (ones f (suc n))) (suc n)
     go r true e = subst (λ (ks : List ℕ). Rises (λ i. getD ks i 0) (length ks) (suc n)) (sym (ones-yes f n e)) (longer (ones f n) n r)
     go r false e = subst (λ (ks : List ℕ). Rises (λ i. getD ks i 0) (length ks) (suc n)) (sym (ones-no f n e))
         (record { up = r .up; below = λ i l. let b = r .below i l in omega arith })
@@ -148,7 +151,8 @@ in-order ks few r i l =
     (true-T (lt-ltb (colourIn bs i) 2 c)))
     (true-T (le-leb (leastAt bs i) (listPlace bs i) (least ks few r i l)))
   where
-    least : (ks : List ℕ) → length ks ≤ 64 → Rises (λ i. getD ks i 0) (length ks) 768 → (i : ℕ) → i < length ks → leastAt (listBytes ks) i ≤ listPlace (listBytes ks) i
+    least : (ks : List ℕ) → length ks ≤ 64 → Rises (λ i. getD ks i 0) (length ks) 768 → (i : ℕ) → i < length ks
+        → leastAt (listBytes ks) i ≤ listPlace (listBytes ks) i
     least ks few r zero l = omega arith
     least ks few r (suc i) l =
         let here = place-back ks (suc i) l few in
@@ -168,7 +172,8 @@ made f few =
     let ks : List ℕ = ones f 768 in
     let n : ℕ = length (ones f 768) in
     and-i (leb n 64 && allBelow n (comesAfter (listBytes ks))) (allBelow 192 (isUnused n (listBytes ks)))
-    (and-i (leb n 64) (allBelow n (comesAfter (listBytes ks))) (true-T (le-leb n 64 few)) (all-of n (comesAfter (listBytes ks)) (λ i l. in-order ks few (ones-rise f 768) i l)))
+    (and-i (leb n 64) (allBelow n (comesAfter (listBytes ks))) (true-T (le-leb n 64 few))
+    (all-of n (comesAfter (listBytes ks)) (λ i l. in-order ks few (ones-rise f 768) i l)))
     (all-of 192 (isUnused n (listBytes ks)) (λ j l. padded ks j l (ltb j (3 * n)) refl))
 
 -- ---- "Turning one form into the other and back changes nothing": a flat trace

@@ -27,7 +27,8 @@ unfolding listBytes
 byte-at places j h = entry 192 (below places (3 * length places)) 0 j h
 
 -- one byte more
-one-byte : (places : List ℕ) (m v : ℕ) → m < 192 → v ≡ entryByte (m % 3) (getD places (m / 3) 0) → set (tabulate 192 (below places m)) m v ≡ tabulate 192 (below places (suc m))
+one-byte : (places : List ℕ) (m v : ℕ) → m < 192 → v ≡ entryByte (m % 3) (getD places (m / 3) 0)
+    → set (tabulate 192 (below places m)) m v ≡ tabulate 192 (below places (suc m))
 one-byte places m v h e =
     tabulate-set 192 (below places m) (below places (suc m)) m v h
     (e ∙ sym (ap (λ (t : Bool). cond t (entryByte (m % 3) (getD places (m / 3) 0)) 0) (lt-ltb m (suc m) (omega arith))))
@@ -36,10 +37,12 @@ one-byte places m v h e =
 low : (j n : ℕ) → ltb j (3 * n) ≡ true → j / 3 < n
 low j n e = let h : j < 3 * n = ltb-true j (3 * n) e in omega arith
 
-early : (places : List ℕ) (k j : ℕ) (t : Bool) → ltb j (3 * length places) ≡ t → below places (3 * length places) j ≡ below (places ++ (k ∷ [])) (3 * length places) j
+early : (places : List ℕ) (k j : ℕ) (t : Bool) → ltb j (3 * length places) ≡ t
+    → below places (3 * length places) j ≡ below (places ++ (k ∷ [])) (3 * length places) j
 early places k j true e =
     ap (λ (x : ℕ). cond (ltb j (3 * length places)) (entryByte (j % 3) x) 0) (sym (List·getD-append places (k ∷ []) 0 (j / 3) (low j (length places) e)))
-early places k j false e = ap (λ (t : Bool). cond t (entryByte (j % 3) (getD places (j / 3) 0)) 0) e ∙ sym (ap (λ (t : Bool). cond t (entryByte (j % 3) (getD (places ++ (k ∷ [])) (j / 3) 0)) 0) e)
+early places k j false e = ap (λ (t : Bool). cond t (entryByte (j % 3) (getD places (j / 3) 0)) 0) e
+    ∙ sym (ap (λ (t : Bool). cond t (entryByte (j % 3) (getD (places ++ (k ∷ [])) (j / 3) 0)) 0) e)
 
 there : (places : List ℕ) (k j r : ℕ) → j / 3 ≡ length places → j % 3 ≡ r → entryByte r k ≡ entryByte (j % 3) (getD (places ++ (k ∷ [])) (j / 3) 0)
 there places k j r p q =
@@ -47,7 +50,8 @@ there places k j r p q =
 
 -- one entry more
 pub bytes-more : (places : List ℕ) (k : ℕ) → length places < 64
-    → set (set (set (listBytes places) (3 * length places) (kindAt k)) (3 * length places + 1) (squareAt k)) (3 * length places + 2) (colourAt k) ≡ listBytes (places ++ (k ∷ []))
+    → set (set (set (listBytes places) (3 * length places) (kindAt k)) (3 * length places + 1) (squareAt k)) (3 * length places + 2) (colourAt k)
+    ≡ listBytes (places ++ (k ∷ []))
 unfolding listBytes
 bytes-more places k h =
     let n : ℕ = length places in
@@ -55,7 +59,8 @@ bytes-more places k h =
     let m : ℕ = 3 * length places in
     let a : m + 1 ≡ suc m = omega arith in
     let b : m + 2 ≡ suc (suc m) = omega arith in
-    let same : tabulate 192 (below places m) ≡ tabulate 192 (below more m) = tabulate-same 192 (below places m) (below more m) (λ j l. early places k j (ltb j (3 * length places)) refl) in
+    let same : tabulate 192 (below places m) ≡ tabulate 192 (below more m) =
+    tabulate-same 192 (below places m) (below more m) (λ j l. early places k j (ltb j (3 * length places)) refl) in
     let last : length more ≡ suc n = length-append places (k ∷ []) ∙ omega arith in
     let end : suc (suc (suc m)) ≡ 3 * length more = omega arith in
     let x = one-byte more m (kindAt k) (omega arith) (there places k m 0 (omega arith) (omega arith)) in

@@ -13,7 +13,8 @@ pub fold-none : (bytes : List ℕ) {S : Type 0} (f : S → ℕ → S) (s : S) �
 unfolding over listPlaces tabulate
 fold-none bytes f s = refl
 
-pub fold-more : (bytes : List ℕ) {S : Type 0} (f : S → ℕ → S) (start : S) (i : ℕ) {s r : S} → s ≡ over f start (listPlaces bytes i) → r ≡ f s (listPlace bytes i)
+pub fold-more : (bytes : List ℕ) {S : Type 0} (f : S → ℕ → S) (start : S) (i : ℕ) {s r : S} → s ≡ over f start (listPlaces bytes i)
+    → r ≡ f s (listPlace bytes i)
     → r ≡ over f start (listPlaces bytes (i + 1))
 unfolding listPlaces
 fold-more bytes f start i {s} {r} e q =

@@ -56,7 +56,11 @@ listed-again p zero n r = ones-none (λ k. isIn k (tabulate 0 p)) n (λ k l. not
 listed-again p (suc m) zero r = absurd (not-suc-le-zero (r .below 0 (omega arith)))
 listed-again p (suc m) (suc n) r =
     go (λ (q : p m ≡ n).
-    listed-again p m n (record { up = λ i l. r .up i (omega arith); below = λ i l. let far : p i < p m = rises p (suc m) (r .up) i m l (omega arith) in omega arith }))
+    listed-again p m n (record {
+      up = λ i l. r .up i (omega arith);
+      below = λ i l. let far : p i < p m = rises p (suc m) (r .up) i m l (omega arith) in
+          omega arith;
+    }))
     (λ (q : p m < n).
     listed-again p (suc m) n (record {
       up = r .up;
@@ -82,6 +86,7 @@ listed-again p (suc m) (suc n) r =
         let ne : n ≡ p m → ⊥ = eqb-false n (p m) e in
         let top : p m < suc n = r .below m (omega arith) in
         let small : p m < n = omega arith in
-        ones-no full n (not-in n (suc m) p (λ i l z. ⊎-elim (λ (w : suc i ≤ m). let far : p i < p m = rises p (suc m) (r .up) i m w (omega arith) in omega arith)
+        ones-no full n (not-in n (suc m) p (λ i l z. ⊎-elim (λ (w : suc i ≤ m). let far : p i < p m = rises p (suc m) (r .up) i m w (omega arith) in
+        omega arith)
         (λ (w : suc i ≡ suc m). let same : p i ≡ p m = ap p (suc-inj w) in omega arith) (le-suc-iff .0 l)))
         ∙ b small

@@ -15,7 +15,8 @@ use Rattle.laws.proofs.Truth.{and-l, and-r}
 use Rattle.laws.proofs.Tests.{all-at}
 use Rattle.laws.proofs.Tables.{entry, tabulate-length}
 use Rattle.bits.specs.Bitboard.{isIn, digit}
-use Rattle.trace_list.specs.Form.{kindIn, squareIn, colourIn, listPlace, listPlaces, inRange, leastAt, comesAfter, isUnused, isList, flatOf, isOne, onesIn}
+use Rattle.trace_list.specs.Form.{kindIn, squareIn, colourIn, listPlace, listPlaces, inRange, leastAt, comesAfter, isUnused, isList, flatOf}
+use Rattle.trace_list.specs.Form.{isOne, onesIn}
 use Rattle.trace_list.proofs.Ones.{ones-same}
 use Rattle.trace_list.proofs.Rising.{Rises, listed-again}
 
@@ -30,8 +31,10 @@ pub record Listed (used : ℕ) (bytes : List ℕ) : Type 0 where
 
 follow : (bytes : List ℕ) (i : ℕ) → T (comesAfter bytes i) → T (inRange bytes i) × (leastAt bytes i ≤ listPlace bytes i)
 unfolding comesAfter
-follow bytes i t =
-    (and-l (inRange bytes i) (leb (leastAt bytes i) (listPlace bytes i)) t, leb→le (leastAt bytes i) (listPlace bytes i) (and-r (inRange bytes i) (leb (leastAt bytes i) (listPlace bytes i)) t))
+follow bytes i t = (
+  and-l (inRange bytes i) (leb (leastAt bytes i) (listPlace bytes i)) t,
+  leb→le (leastAt bytes i) (listPlace bytes i) (and-r (inRange bytes i) (leb (leastAt bytes i) (listPlace bytes i)) t),
+)
 
 pub is-listed : (used : ℕ) (bytes : List ℕ) → T (isList used bytes) → Listed used bytes
 unfolding isList
@@ -40,13 +43,16 @@ is-listed used bytes t =
     let b = allBelow used (comesAfter bytes) in
     let d = allBelow 192 (isUnused used bytes) in
     let ab : T (a && b) = and-l (a && b) d t in
-    let each : (i : ℕ) → i < used → T (inRange bytes i) × (leastAt bytes i ≤ listPlace bytes i) = λ i l. follow bytes i (all-at used (comesAfter bytes) (and-r a b ab) i l) in
+    let each : (i : ℕ) → i < used → T (inRange bytes i) × (leastAt bytes i ≤ listPlace bytes i) =
+    λ i l. follow bytes i (all-at used (comesAfter bytes) (and-r a b ab) i l) in
     record {
       few = leb→le used 64 (and-l a b ab);
       kinds = λ i l. ltb→lt (kindIn bytes i) 6
-          (and-l (ltb (kindIn bytes i) 6) (ltb (squareIn bytes i) 64) (and-l (ltb (kindIn bytes i) 6 && ltb (squareIn bytes i) 64) (ltb (colourIn bytes i) 2) (each i l .0)));
+          (and-l (ltb (kindIn bytes i) 6) (ltb (squareIn bytes i) 64)
+          (and-l (ltb (kindIn bytes i) 6 && ltb (squareIn bytes i) 64) (ltb (colourIn bytes i) 2) (each i l .0)));
       squares = λ i l. ltb→lt (squareIn bytes i) 64
-          (and-r (ltb (kindIn bytes i) 6) (ltb (squareIn bytes i) 64) (and-l (ltb (kindIn bytes i) 6 && ltb (squareIn bytes i) 64) (ltb (colourIn bytes i) 2) (each i l .0)));
+          (and-r (ltb (kindIn bytes i) 6) (ltb (squareIn bytes i) 64)
+          (and-l (ltb (kindIn bytes i) 6 && ltb (squareIn bytes i) 64) (ltb (colourIn bytes i) 2) (each i l .0)));
       colours = λ i l. ltb→lt (colourIn bytes i) 2 (and-r (ltb (kindIn bytes i) 6 && ltb (squareIn bytes i) 64) (ltb (colourIn bytes i) 2) (each i l .0));
       sorted = λ i l. each (suc i) l .1;
       unused = λ j h l. rest used bytes j h (all-at 192 (isUnused used bytes) (and-r (a && b) d t) j l);

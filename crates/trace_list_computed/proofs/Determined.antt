@@ -25,5 +25,9 @@ all c t n = record { checked = c; trace = t; used = n }
 pub compute-list : (bbs board : List ℕ) (state : State) (before : List ℕ) (r s : ListTraced) (after last : List ℕ) → ComputesList bbs board state before r after
     → ComputesList bbs board state before s last → (r ≡ s) × (after ≡ last)
 compute-list bbs board state before r s after last p q =
-    let c : r .checked ≡ s .checked = sym (back (r .checked) (r .trace)) ∙ ap (readBack fit Refused) (one (p .answer) (q .answer)) ∙ back (s .checked) (s .trace) in
-    (ap₂ (λ (x : Checked) (y : Trace). all x y (r .used)) c (one (p .trace) (q .trace)) ∙ ap (all (s .checked) (s .trace)) (one (p .used) (q .used)), one (p .lent) (q .lent))
+    let c : r .checked ≡ s .checked = sym (back (r .checked) (r .trace)) ∙ ap (readBack fit Refused) (one (p .answer) (q .answer))
+    ∙ back (s .checked) (s .trace) in (
+      ap₂ (λ (x : Checked) (y : Trace). all x y (r .used)) c (one (p .trace) (q .trace))
+          ∙ ap (all (s .checked) (s .trace)) (one (p .used) (q .used)),
+      one (p .lent) (q .lent),
+    )

@@ -33,7 +33,8 @@ module _ (bbs board : List ℕ) (state : State) (before : List ℕ) where
         lent = ap (λ (a : Answer Trace). listAfter a bbs before) e;
       }
 
-  pub computed : (t : Trace) (mobility : List ℤ) (n : ℕ) (after : List ℕ) → consistent bbs board ≡ true → given (traceOf bbs (state .side)) ≡ listTracedOf bbs board state
+  pub computed : (t : Trace) (mobility : List ℤ) (n : ℕ) (after : List ℕ) → consistent bbs board ≡ true
+      → given (traceOf bbs (state .side)) ≡ listTracedOf bbs board state
       → mobility ≡ mobilityOf bbs → t ≡ traceWith bbs (state .side) mobility → n ≡ length (onesIn (entriesOf bbs)) → after ≡ listBytes (onesIn (entriesOf bbs))
       → ComputesList bbs board state before (record { checked = Fit; trace = t; used = n }) after
   unfolding traceOf

@@ -57,7 +57,8 @@ module _ (bbs : List ℕ) (n k : ℕ) (bytes : List ℕ) (q : n ≡ length (ones
   unfolding onesBefore
   place-no e = (let z : n + 0 ≡ n = omega arith in z ∙ length-no (entriesOf bbs) k e q, bytes-no (entriesOf bbs) k e b)
 
-  pub place-on : (kind square colour : ℕ) → kind ≡ kindAt k → square ≡ squareAt k → colour ≡ colourAt k → (t : Bool) → isOne (entriesOf bbs) k ≡ t → (t ≡ true → n < 64)
+  pub place-on : (kind square colour : ℕ) → kind ≡ kindAt k → square ≡ squareAt k → colour ≡ colourAt k → (t : Bool) → isOne (entriesOf bbs) k ≡ t
+      → (t ≡ true → n < 64)
       → (n + digit t ≡ length (onesBefore bbs (k + 1))) × (putWhere t kind square colour n bytes ≡ listBytes (onesBefore bbs (k + 1)))
   place-on kind square colour ek es ec true e l = place-yes kind square colour ek es ec e (l refl)
   place-on kind square colour ek es ec false e l = place-no e
@@ -82,11 +83,13 @@ still bbs kind s w b hk hs ew eb e =
     let both = or-eq-false-eq-eq-false-and-eq-false (has w s) (has b s) .0 (sym (has-or w b s) ∙ e) in
     let a : f k ≡ false = white-one bbs kind s hk hs ∙ ap (λ (x : ℕ). has x s) (sym ew) ∙ both .0 in
     let c : f (suc k) ≡ false = ap f (let z : suc k ≡ k + 1 = omega arith in z) ∙ black-one bbs kind s hk hs ∙ ap (λ (x : ℕ). has x s) (sym eb) ∙ both .1 in
-    let on : ones f (128 * kind + 2 * suc s) ≡ ones f k = ap (ones f) (let z : 128 * kind + 2 * suc s ≡ suc (suc k) = omega arith in z) ∙ ones-no f (suc k) c ∙ ones-no f k a in
+    let on : ones f (128 * kind + 2 * suc s) ≡ ones f k = ap (ones f) (let z : 128 * kind + 2 * suc s ≡ suc (suc k) = omega arith in z)
+    ∙ ones-no f (suc k) c ∙ ones-no f k a in
     ap (λ (ks : List ℕ). (length ks, listBytes ks)) (sym on)
 
 -- where a loop stands at a square s of the two boards, with so many entries made: White's piece, then Black's
-module _ (bbs : List ℕ) (kind s w b : ℕ) (hk : kind < 6) (hs : s < 64) (ew : w ≡ standing bbs kind 0) (eb : b ≡ turnedOver (standing bbs kind 1)) (few : Few bbs)
+module _ (bbs : List ℕ) (kind s w b : ℕ) (hk : kind < 6) (hs : s < 64) (ew : w ≡ standing bbs kind 0) (eb : b ≡ turnedOver (standing bbs kind 1))
+    (few : Few bbs)
     (n : ℕ) (bytes : List ℕ) (e : (n, bytes) ≡ madeTo bbs kind s) (tw : Bool) (qw : tw ≡ has w s) where
   is-white : isOne (entriesOf bbs) (128 * kind + 2 * s) ≡ tw
   is-white = white-one bbs kind s hk hs ∙ ap (λ (x : ℕ). has x s) (sym ew) ∙ sym qw
@@ -119,7 +122,8 @@ module _ (bbs : List ℕ) (kind s w b : ℕ) (hk : kind < 6) (hs : s < 64) (ew :
         ap₂ (λ (x : ℕ) (y : List ℕ). (x, y)) (er ∙ two .0) (elast ∙ two .1) ∙ ap (λ (i : ℕ). (length (onesBefore bbs i), listBytes (onesBefore bbs i))) z
 
 -- the walk begins
-pub begun : (bbs : List ℕ) (kind w b n : ℕ) (bytes : List ℕ) → kind < 6 → w < 2 ^ 64 → w ≡ standing bbs kind 0 → b < 2 ^ 64 → b ≡ turnedOver (standing bbs kind 1)
+pub begun : (bbs : List ℕ) (kind w b n : ℕ) (bytes : List ℕ) → kind < 6 → w < 2 ^ 64 → w ≡ standing bbs kind 0 → b < 2 ^ 64
+    → b ≡ turnedOver (standing bbs kind 1)
     → n ≡ length (onesBefore bbs (128 * kind)) → bytes ≡ listBytes (onesBefore bbs (128 * kind)) → walk.Walk (madeTo bbs kind) 64 (n, bytes) (bitOr w b)
 begun bbs kind w b n bytes hk lw ew lb eb en ebs =
     let z : 128 * kind ≡ 128 * kind + 2 * 0 = omega arith in
@@ -136,7 +140,8 @@ pub ended : (bbs : List ℕ) (kind n : ℕ) (bytes : List ℕ) → (n, bytes) �
 ended bbs kind n bytes e = (ap (λ (x : Made). x .0) e, ap (λ (x : Made). x .1) e)
 
 -- ---- all kinds
-pub none-before : (bbs : List ℕ) {bytes : List ℕ} → bytes ≡ listBytes [] → (0 ≡ length (onesBefore bbs (128 * 0))) × (bytes ≡ listBytes (onesBefore bbs (128 * 0)))
+pub none-before : (bbs : List ℕ) {bytes : List ℕ} → bytes ≡ listBytes [] → (0 ≡ length (onesBefore bbs (128 * 0)))
+    × (bytes ≡ listBytes (onesBefore bbs (128 * 0)))
 unfolding onesBefore
 none-before bbs e = (ap length (sym (ones-zero (isOne (entriesOf bbs)))), e ∙ ap listBytes (sym (ones-zero (isOne (entriesOf bbs)))))
 
@@ -156,7 +161,8 @@ module _ (kind square n : ℕ) (bytes : List ℕ) where
   second-room true false e q = absurd (true≢false (sym e))
   second-room false b e q = absurd (true≢false (sym e))
 
-  pub both-put : (w b : Bool) (col r : ℕ) (mid last : List ℕ) → (w || b) ≡ true → col ≡ cond w 0 1 → mid ≡ entryPut kind square col n bytes → r ≡ n + 1 + digit (w && b)
+  pub both-put : (w b : Bool) (col r : ℕ) (mid last : List ℕ) → (w || b) ≡ true → col ≡ cond w 0 1 → mid ≡ entryPut kind square col n bytes
+      → r ≡ n + 1 + digit (w && b)
       → last ≡ putWhere (w && b) kind square 1 (n + 1) mid → (r ≡ n + digit w + digit b) × (last ≡ bothPut w b kind square n bytes)
   both-put true true col r mid last e q p er l = (er, l ∙ ap (entryPut kind square 1 (n + 1)) (p ∙ ap (λ (c : ℕ). entryPut kind square c n bytes) q))
   both-put true false col r mid last e q p er l = (er, l ∙ p ∙ ap (λ (c : ℕ). entryPut kind square c n bytes) q)

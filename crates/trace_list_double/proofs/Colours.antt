@@ -69,13 +69,15 @@ module _ (squares : List Float) (x score : Float) (kind square colour at later :
       let e : later ≡ weightPlace (kindAt (entryPlace kind square colour)) 1 (squareAt (entryPlace kind square colour)) = omega arith in
       rw (one-is, sym o, sym e)
 
-  white : square < 64 → colour < 2 → at ≡ 128 * kind + square → later ≡ at + 64 → colour ≡ 0 → score ⊕ value ≡ weighed squares x score (entryPlace kind square colour)
+  white : square < 64 → colour < 2 → at ≡ 128 * kind + square → later ≡ at + 64 → colour ≡ 0
+      → score ⊕ value ≡ weighed squares x score (entryPlace kind square colour)
   unfolding entryAdded
   white s c a l e =
       let q : colourAt (entryPlace kind square colour) ≡ 0 = omega arith in
       rw (eq-eqb (colourAt (entryPlace kind square colour)) 0 q, sym (value-is s c a l))
 
-  black : square < 64 → colour < 2 → at ≡ 128 * kind + square → later ≡ at + 64 → (colour ≡ 0 → ⊥) → score ⊖ value ≡ weighed squares x score (entryPlace kind square colour)
+  black : square < 64 → colour < 2 → at ≡ 128 * kind + square → later ≡ at + 64 → (colour ≡ 0 → ⊥)
+      → score ⊖ value ≡ weighed squares x score (entryPlace kind square colour)
   unfolding entryAdded
   black s c a l e =
       let q : colourAt (entryPlace kind square colour) ≡ 0 → ⊥ = λ z. e (omega arith) in
@@ -86,8 +88,10 @@ module _ (squares : List Float) (x score : Float) (kind square colour at later :
       → score ⊕ sign ⊗ between (getD squares at nan) (getD squares later nan) x ≡ weighed squares x score (entryPlace kind square colour)
   by-sign s c a l sign e = go (eqb colour 0) refl
     where
-      go : (b : Bool) → eqb colour 0 ≡ b → score ⊕ sign ⊗ between (getD squares at nan) (getD squares later nan) x ≡ weighed squares x score (entryPlace kind square colour)
-      go true q = ap (λ (z : Float). score ⊕ z ⊗ between (getD squares at nan) (getD squares later nan) x) (e ∙ ap (λ (b : Bool). cond b d1 minus1) q) ∙ white s c a l (eqb-true colour 0 q)
+      go : (b : Bool) → eqb colour 0 ≡ b → score ⊕ sign ⊗ between (getD squares at nan) (getD squares later nan) x
+          ≡ weighed squares x score (entryPlace kind square colour)
+      go true q = ap (λ (z : Float). score ⊕ z ⊗ between (getD squares at nan) (getD squares later nan) x) (e ∙ ap (λ (b : Bool). cond b d1 minus1) q)
+          ∙ white s c a l (eqb-true colour 0 q)
       go false q =
           ap (λ (z : Float). score ⊕ z ⊗ between (getD squares at nan) (getD squares later nan) x) (e ∙ ap (λ (b : Bool). cond b d1 minus1) q)
           ∙ subtracted score (between (getD squares at nan) (getD squares later nan) x) ∙ black s c a l (eqb-false colour 0 q)

@@ -29,7 +29,8 @@ module _ (t : Trace) (used : ℕ) (bytes : List ℕ) (w : Weights) (squares : Li
   pub no-trace : length squares ≡ 768 → {a : Bool} → a ≡ inRanges t → a ≡ false → refusalOf R.Trace ≡ listDoubleOf t used bytes w squares
   no-trace e q u = simp (eq-eqb (length squares) 768 e, sym q ∙ u)
 
-  pub no-list : length squares ≡ 768 → {a b : Bool} → a ≡ inRanges t → a ≡ true → b ≡ isList used bytes → b ≡ false → refusalOf R.Entry ≡ listDoubleOf t used bytes w squares
+  pub no-list : length squares ≡ 768 → {a b : Bool} → a ≡ inRanges t → a ≡ true → b ≡ isList used bytes → b ≡ false
+      → refusalOf R.Entry ≡ listDoubleOf t used bytes w squares
   no-list e q u l v = simp (eq-eqb (length squares) 768 e, sym q ∙ u, sym l ∙ v)
 
   pub worked : length squares ≡ 768 → {a b : Bool} → a ≡ inRanges t → a ≡ true → b ≡ isList used bytes → b ≡ true → {n : ℕ} {x : ℤ} {start r : Float} → n ≡ used

@@ -23,7 +23,8 @@ use Rattle.trace_list.proofs.Flat.{Mark, no, yes, mark-at, flat-entries, flat-l
 use Rattle.trace_list_double.specs.Promises.{weighed}
 
 -- ---- an entry that is 0 adds nothing
-one : (squares : List Float) (x score : Float) (k : ℕ) {z : ℤ} → Mark z → entryAdded squares x score k z ≡ cond (ltZ (pos 0) z) (weighed squares x score k) score
+one : (squares : List Float) (x score : Float) (k : ℕ) {z : ℤ} → Mark z
+    → entryAdded squares x score k z ≡ cond (ltZ (pos 0) z) (weighed squares x score k) score
 unfolding entryAdded
 one squares x score k no = refl
 one squares x score k yes = refl

@@ -65,7 +65,8 @@ pub record Turned (t : Trace) (used : ℕ) (list : List ℕ) (flat : List ℤ) :
 
 was-turned : (t : Trace) (used : ℕ) (list : List ℕ) (entries flat : List ℤ) → flattenedOf t used list entries ≡ given flat → Turned t used list flat
 was-turned t used list entries flat e =
-    let a = passed (eqb (length entries) 768) R.Shape flat (orRefuse (inRanges t) R.Trace (orRefuse (isList used list) R.Entry (given (flatOf (listPlaces list used))))) e in
+    let a = passed (eqb (length entries) 768) R.Shape flat (orRefuse (inRanges t) R.Trace
+    (orRefuse (isList used list) R.Entry (given (flatOf (listPlaces list used))))) e in
     let b = passed (inRanges t) R.Trace flat (orRefuse (isList used list) R.Entry (given (flatOf (listPlaces list used)))) (a .1) in
     let c = passed (isList used list) R.Entry flat (given (flatOf (listPlaces list used))) (b .1) in
     record { ranges = b .0; is = c .0; flat-is = cc }
@@ -92,8 +93,11 @@ module _ (t : Trace) (used : ℕ) (list : List ℕ) (flat : List ℤ) (h : Turne
 
 pub list-back : ListBack
 list-back t used list lent entries flat l e =
-    let h = was-turned t used list entries flat e in
-    (again t used list flat h, ap (λ (a : Answer ℕ). bytesAfter a flat lent) (again t used list flat h) ∙ ap listBytes (places t used list flat h) ∙ bytes-back used list (were t used list flat h) l)
+    let h = was-turned t used list entries flat e in (
+      again t used list flat h,
+      ap (λ (a : Answer ℕ). bytesAfter a flat lent) (again t used list flat h) ∙ ap listBytes (places t used list flat h)
+          ∙ bytes-back used list (were t used list flat h) l,
+    )
 
 pub record Made (t : Trace) (entries : List ℤ) (used : ℕ) : Type 0 where
   pub shape : length entries ≡ 768
@@ -120,7 +124,8 @@ is-made : (entries : List ℤ) → length (onesIn entries) ≤ 64 → isList (le
 unfolding onesIn
 is-made entries few = T-true (isList (length (onesIn entries)) (listBytes (onesIn entries))) (made (isOne entries) few)
 
-flat-again : (entries : List ℤ) → length entries ≡ 768 → T (areEntries entries) → length (onesIn entries) ≤ 64 → flatOf (listPlaces (listBytes (onesIn entries)) (length (onesIn entries))) ≡ entries
+flat-again : (entries : List ℤ) → length entries ≡ 768 → T (areEntries entries) → length (onesIn entries) ≤ 64
+    → flatOf (listPlaces (listBytes (onesIn entries)) (length (onesIn entries))) ≡ entries
 flat-again entries l m few = ap flatOf (places-back (onesIn entries) few) ∙ flat-back entries l m
 
 pub flat-back-again : FlatBack
@@ -145,7 +150,8 @@ same-line t used list entries flat c g e =
     (ap (λ (es : List ℤ). orRefuse (eqb (length g) 779) R.Shape (given (lineAdded t es c g))) (sym (h .flat-is)))
 
 -- ---- a position's
-was-consistent : {A : Type 0} (bbs board : List ℕ) (state : State) (a : A) (rest : Answer A) → checked bbs board state rest ≡ given a → (consistent bbs board ≡ true) × (rest ≡ given a)
+was-consistent : {A : Type 0} (bbs board : List ℕ) (state : State) (a : A) (rest : Answer A) → checked bbs board state rest ≡ given a
+    → (consistent bbs board ≡ true) × (rest ≡ given a)
 was-consistent bbs board state a rest e = let w = through bbs board state rest a e in (w .0 .pieces, w .1)
 
 few-ones : (bbs board : List ℕ) → consistent bbs board ≡ true → length (onesIn (entriesOf bbs)) ≤ 64
@@ -160,7 +166,8 @@ pub of-positions : OfPositions
 of-positions bbs board lent state t e =
     let w = was-consistent bbs board state t (given (traceOf bbs (state .side))) e in
     let q : traceOf bbs (state .side) ≡ t = let z = w .1 in cc in
-    let l : listedOf t (entriesOf bbs) ≡ given (pieces bbs) = ap (λ (x : Trace). listedOf x (entriesOf bbs)) (sym q) ∙ listed-position bbs board (state .side) (w .0) in
+    let l : listedOf t (entriesOf bbs) ≡ given (pieces bbs) = ap (λ (x : Trace). listedOf x (entriesOf bbs)) (sym q)
+    ∙ listed-position bbs board (state .side) (w .0) in
     (l, ap (λ (a : Answer ℕ). bytesAfter a (entriesOf bbs) lent) l)
 
 -- ---- demand 3

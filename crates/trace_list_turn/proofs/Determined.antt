@@ -16,9 +16,13 @@ listed : (r : Listed) → readBack L.Used L.Refused (listedPaper r) ≡ r
 listed (L.Used n) = refl
 listed (L.Refused q) = ap L.Refused (number-back q)
 
-pub list-of : (t : Trace) (entries : List ℤ) (before : List ℕ) (r s : Listed) (after last : List ℕ) → ListsTrace t entries before r after → ListsTrace t entries before s last
+pub list-of : (t : Trace) (entries : List ℤ) (before : List ℕ) (r s : Listed) (after last : List ℕ) → ListsTrace t entries before r after
+    → ListsTrace t entries before s last
     → (r ≡ s) × (after ≡ last)
-list-of t entries before r s after last p q = (retract listedPaper (readBack L.Used L.Refused) listed r s (one (p .answer) (q .answer)), one (p .lent) (q .lent))
+list-of t entries before r s after last p q = (
+  retract listedPaper (readBack L.Used L.Refused) listed r s (one (p .answer) (q .answer)),
+  one (p .lent) (q .lent),
+)
 
 -- ---- from list to flat
 abbrev done : List ℤ → Flattened

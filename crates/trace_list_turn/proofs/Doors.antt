@@ -28,12 +28,21 @@ module _ (t : Trace) (es : List ℤ) (bytes : List ℕ) where
   no-trace e u = record { answer = simp (eq-eqb (length es) 768 e, u); lent = simp (eq-eqb (length es) 768 e, u) }
 
   pub too-many : length es ≡ 768 → (inRanges t && areEntries es) ≡ true → 64 < length (onesIn es) → ListsTrace t es bytes (L.Refused R.Entry) bytes
-  too-many e u h = record { answer = simp (eq-eqb (length es) 768 e, u, lt-leb (length (onesIn es)) 64 h); lent = simp (eq-eqb (length es) 768 e, u, lt-leb (length (onesIn es)) 64 h) }
+  too-many e u h = record {
+    answer = simp (eq-eqb (length es) 768 e, u, lt-leb (length (onesIn es)) 64 h);
+    lent =
+        simp (eq-eqb (length es) 768 e, u, lt-leb (length (onesIn es)) 64 h);
+  }
 
-  pub made : length es ≡ 768 → (inRanges t && areEntries es) ≡ true → {n : ℕ} → n ≡ length (onesIn es) → n ≤ 64 → {after : List ℕ} → after ≡ listBytes (onesIn es) → ListsTrace t es bytes (L.Used n) after
+  pub made : length es ≡ 768 → (inRanges t && areEntries es) ≡ true → {n : ℕ} → n ≡ length (onesIn es) → n ≤ 64 → {after : List ℕ}
+      → after ≡ listBytes (onesIn es) → ListsTrace t es bytes (L.Used n) after
   made e u {n} q h a =
       let few : length (onesIn es) ≤ 64 = subst (λ (m : ℕ). m ≤ 64) q h in
-      record { answer = simp (eq-eqb (length es) 768 e, u, le-leb (length (onesIn es)) 64 few, q); lent = simp (eq-eqb (length es) 768 e, u, le-leb (length (onesIn es)) 64 few) a }
+      record {
+        answer = simp (eq-eqb (length es) 768 e, u, le-leb (length (onesIn es)) 64 few, q);
+        lent =
+            simp (eq-eqb (length es) 768 e, u, le-leb (length (onesIn es)) 64 few) a;
+      }
 
 module _ (t : Trace) (used : ℕ) (bytes : List ℕ) (es : List ℤ) where
   pub flat-unlike : (length es ≡ 768 → ⊥) → Flattens t used bytes es (F.Refused R.Shape) es
@@ -42,10 +51,16 @@ module _ (t : Trace) (used : ℕ) (bytes : List ℕ) (es : List ℤ) where
   pub flat-no-trace : length es ≡ 768 → {a : Bool} → a ≡ inRanges t → a ≡ false → Flattens t used bytes es (F.Refused R.Trace) es
   flat-no-trace e q u = record { answer = simp (eq-eqb (length es) 768 e, sym q ∙ u); lent = simp (eq-eqb (length es) 768 e, sym q ∙ u) }
 
-  pub flat-no-list : length es ≡ 768 → {a b : Bool} → a ≡ inRanges t → a ≡ true → b ≡ isList used bytes → b ≡ false → Flattens t used bytes es (F.Refused R.Entry) es
-  flat-no-list e q u l v = record { answer = simp (eq-eqb (length es) 768 e, sym q ∙ u, sym l ∙ v); lent = simp (eq-eqb (length es) 768 e, sym q ∙ u, sym l ∙ v) }
+  pub flat-no-list : length es ≡ 768 → {a b : Bool} → a ≡ inRanges t → a ≡ true → b ≡ isList used bytes → b ≡ false
+      → Flattens t used bytes es (F.Refused R.Entry) es
+  flat-no-list e q u l v = record {
+    answer = simp (eq-eqb (length es) 768 e, sym q ∙ u, sym l ∙ v);
+    lent =
+        simp (eq-eqb (length es) 768 e, sym q ∙ u, sym l ∙ v);
+  }
 
-  pub flattened : length es ≡ 768 → {a b : Bool} → a ≡ inRanges t → a ≡ true → b ≡ isList used bytes → b ≡ true → {n : ℕ} {after : List ℤ} → n ≡ used → after ≡ flatOf (listPlaces bytes n)
+  pub flattened : length es ≡ 768 → {a b : Bool} → a ≡ inRanges t → a ≡ true → b ≡ isList used bytes → b ≡ true → {n : ℕ} {after : List ℤ} → n ≡ used
+      → after ≡ flatOf (listPlaces bytes n)
       → Flattens t used bytes es F.Done after
   flattened e q u l v {n} {after} i o =
       let here : after ≡ flatOf (listPlaces bytes used) = o ∙ ap (λ (m : ℕ). flatOf (listPlaces bytes m)) i in

@@ -29,7 +29,8 @@ pub many-none : (f : ℕ → Bool) → 0 ≡ howMany 0 f
 unfolding howMany
 many-none f = refl
 
-pub many-more : (entries : List ℤ) (k : ℕ) {sum d : ℕ} → mag (getD entries k (pos 0)) < 2 ^ 31 → sum ≡ howMany k (isOne entries) → d ≡ digit (ltZ (pos 0) (held w32 (getD entries k (pos 0))))
+pub many-more : (entries : List ℤ) (k : ℕ) {sum d : ℕ} → mag (getD entries k (pos 0)) < 2 ^ 31 → sum ≡ howMany k (isOne entries)
+    → d ≡ digit (ltZ (pos 0) (held w32 (getD entries k (pos 0))))
     → sum + d ≡ howMany (k + 1) (isOne entries)
 unfolding howMany
 many-more entries k {sum} {d} h e q =
@@ -84,7 +85,8 @@ pub length-start : (f : ℕ → Bool) → 0 ≡ length (ones f 0)
 length-start f = ap length (sym (ones-zero f))
 
 -- what the machine reads back from an entry's bits
-pub tested : (entries : List ℤ) (k : ℕ) {a t : Bool} → mag (getD entries k (pos 0)) < 2 ^ 31 → a ≡ ltZ (pos 0) (held w32 (getD entries k (pos 0))) → a ≡ t → isOne entries k ≡ t
+pub tested : (entries : List ℤ) (k : ℕ) {a t : Bool} → mag (getD entries k (pos 0)) < 2 ^ 31 → a ≡ ltZ (pos 0) (held w32 (getD entries k (pos 0)))
+    → a ≡ t → isOne entries k ≡ t
 tested entries k h q e = ap (ltZ (pos 0)) (sym (read (getD entries k (pos 0)) h)) ∙ sym q ∙ e
 
 pub digit-of : (z : ℤ) {a t : Bool} → mag z < 2 ^ 31 → a ≡ ltZ (pos 0) (held w32 z) → a ≡ t → digit t ≡ digit (ltZ (pos 0) z)
@@ -103,7 +105,8 @@ flat-more places k h =
     (sym (ap (λ (b : Bool). pos (digit b)) (in-last k places k ∙ ap (λ (b : Bool). isIn k places || b) (eq-eqb k k refl) ∙ or-true (isIn k places))))
     (λ j l ne. sym (ap (λ (b : Bool). pos (digit b)) (in-last j places k ∙ ap (λ (b : Bool). isIn j places || b) (ne-eqb j k ne) ∙ or-false (isIn j places))))
 
-pub flat-on : (bytes : List ℕ) (i : ℕ) {es : List ℤ} {k : ℕ} → k ≡ listPlace bytes i → listPlace bytes i < 768 → es ≡ flatOf (listPlaces bytes i) → set es k (pos 1) ≡ flatOf (listPlaces bytes (i + 1))
+pub flat-on : (bytes : List ℕ) (i : ℕ) {es : List ℤ} {k : ℕ} → k ≡ listPlace bytes i → listPlace bytes i < 768 → es ≡ flatOf (listPlaces bytes i)
+    → set es k (pos 1) ≡ flatOf (listPlaces bytes (i + 1))
 unfolding listPlaces
 flat-on bytes i q h e =
     ap₂ (λ (l : List ℤ) (j : ℕ). set l j (pos 1)) e q ∙ flat-more (tabulate i (listPlace bytes)) (listPlace bytes i) h

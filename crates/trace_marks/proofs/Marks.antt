@@ -70,7 +70,8 @@ pub marks-none : (f : ℕ → ℕ) (n j : ℕ) → n ≤ 64 → j < n → has (m
 unfolding marks
 marks-none f zero j l h e = absurd (omega arith)
 marks-none f (suc n) j l h e =
-    let w = or-eq-false-eq-eq-false-and-eq-false (has (marks f n) j) (has (f n * 2 ^ n % 2 ^ 64) j) .0 (sym (has-or (marks f n) (f n * 2 ^ n % 2 ^ 64) j) ∙ e) in
+    let w = or-eq-false-eq-eq-false-and-eq-false (has (marks f n) j) (has (f n * 2 ^ n % 2 ^ 64) j) .0
+    (sym (has-or (marks f n) (f n * 2 ^ n % 2 ^ 64) j) ∙ e) in
     elim (ℕ-discrete j n) [
       | yes q ↦ here q (w .1)
       | no q ↦ marks-none f n j (omega arith) (omega arith) (w .0)
@@ -79,7 +80,8 @@ marks-none f (suc n) j l h e =
     here : j ≡ n → has (f n * 2 ^ n % 2 ^ 64) j ≡ false → has (f j) 0 ≡ false
     here q z =
         let k : j - n ≡ 0 = omega arith in
-        ap (λ (i : ℕ). has (f i) 0) q ∙ sym (ap (λ (t : Bool). t && has (f n) 0) (le-leb n j (omega arith))) ∙ ap (λ (i : ℕ). leb n j && has (f n) i) (sym k) ∙ sym (has-shl (f n) n j (omega arith)) ∙ z
+        ap (λ (i : ℕ). has (f i) 0) q ∙ sym (ap (λ (t : Bool). t && has (f n) 0) (le-leb n j (omega arith)))
+        ∙ ap (λ (i : ℕ). leb n j && has (f n) i) (sym k) ∙ sym (has-shl (f n) n j (omega arith)) ∙ z
 
 -- past the last there is none
 pub marks-high : (f : ℕ → ℕ) (n k : ℕ) → ((j : ℕ) → j < n → f j < 2) → n ≤ k → k < 64 → has (marks f n) k ≡ false

@@ -45,7 +45,8 @@ module _ (entries : List ℤ) (l : length entries ≡ 768) where
   each-small : T (areEntries entries) → (g : ℕ) → g < 48 → groupOf entries g < 2
   each-small t g h =
       together-small (λ j. bitsAt entries (16 * g + j)) 16
-      (λ j i. small-bits (getD entries (16 * g + j) (pos 0)) (all-at (length entries) (λ k. within (pos 1) (getD entries k (pos 0))) t (16 * g + j) (omega arith)))
+      (λ j i. small-bits (getD entries (16 * g + j) (pos 0)) (all-at (length entries) (λ k. within (pos 1) (getD entries k (pos 0))) t (16 * g + j)
+      (omega arith)))
 
   pub odd-none : areEntries entries ≡ true → (g j : ℕ) → g < 48 → j < 16 → oddAt entries g j ≡ 0 → getD entries (16 * g + j) (pos 0) ≡ pos 0
   odd-none t g j h i z =
@@ -63,7 +64,8 @@ module _ (entries : List ℤ) (l : length entries ≡ 768) where
 
   pub group-none : areEntries entries ≡ true → (g j : ℕ) → g < 48 → j < 16 → groupOf entries g ≡ 0 → getD entries (16 * g + j) (pos 0) ≡ pos 0
   group-none t g j h i z =
-      no-bits (getD entries (16 * g + j) (pos 0)) (entry-at t (16 * g + j) (omega arith)) (let q = together-most (λ k. bitsAt entries (16 * g + k)) 16 j i in omega arith)
+      no-bits (getD entries (16 * g + j) (pos 0)) (entry-at t (16 * g + j) (omega arith))
+      (let q = together-most (λ k. bitsAt entries (16 * g + k)) 16 j i in omega arith)
 
   at-place : (k : ℕ) → (f : ℕ → ℕ) → f (16 * (k / 16) + k % 16) < 2 → f k < 2
   at-place k f h = subst (λ (i : ℕ). f i < 2) (let q : 16 * (k / 16) + k % 16 ≡ k = omega arith in q) h
@@ -85,13 +87,17 @@ pub held-more : (entries : List ℤ) (g : ℕ) → Held entries 0 (16 * g) → H
 held-more entries g a b = record { each = λ j h. elim (decLe (16 * g) j) [ yes l ↦ after j h l | no l ↦ a .each j (omega arith) ] }
   where
     after : (j : ℕ) → j < 16 * (g + 1) → 16 * g ≤ j → mag (getD entries (0 + j) (pos 0)) < 2 ^ 31
-    after j h l = subst (λ (i : ℕ). mag (getD entries i (pos 0)) < 2 ^ 31) (let q : 16 * g + (j - 16 * g) ≡ 0 + j = omega arith in q) (b .each (j - 16 * g) (omega arith))
+    after j h l = subst (λ (i : ℕ). mag (getD entries i (pos 0)) < 2 ^ 31) (let q : 16 * g + (j - 16 * g) ≡ 0 + j = omega arith in q)
+        (b .each (j - 16 * g) (omega arith))
 
 pub held-begin : (entries : List ℤ) (k : ℕ) → Held entries k 0
 held-begin entries k = record { each = λ j h. absurd (omega arith) }
 
 pub held-next : (entries : List ℤ) (k n : ℕ) → Held entries k n → mag (getD entries (k + n) (pos 0)) < 2 ^ 31 → Held entries k (n + 1)
-held-next entries k n a m = record { each = λ j h. elim (ℕ-discrete j n) [ yes e ↦ subst (λ (i : ℕ). mag (getD entries (k + i) (pos 0)) < 2 ^ 31) (sym e) m | no e ↦ a .each j (omega arith) ] }
+held-next entries k n a m = record {
+  each = λ j h. elim (ℕ-discrete j n)
+      [ yes e ↦ subst (λ (i : ℕ). mag (getD entries (k + i) (pos 0)) < 2 ^ 31) (sym e) m | no e ↦ a .each j (omega arith) ];
+}
 
 -- ---- the machine's bits of all of them together are those of the union
 bits-lt : (z : ℤ) → mag z < 2 ^ 31 → ofZ w32 z < 2 ^ 32
@@ -102,5 +108,6 @@ pub group-lt : (entries : List ℤ) (g : ℕ) → Held entries (16 * g) 16 → g
 group-lt entries g m = together-lt 32 (λ j. bitsAt entries (16 * g + j)) 16 (λ j h. bits-lt (getD entries (16 * g + j) (pos 0)) (m .each j h))
 
 -- ---- both tests of a trace: what the code's two give together
-pub tested-both : (t : Trace) (entries : List ℤ) {a b u : Bool} → a ≡ inRanges t → b ≡ areEntries entries → (a && b) ≡ u → (inRanges t && areEntries entries) ≡ u
+pub tested-both : (t : Trace) (entries : List ℤ) {a b u : Bool} → a ≡ inRanges t → b ≡ areEntries entries → (a && b) ≡ u
+    → (inRanges t && areEntries entries) ≡ u
 tested-both t entries p q e = rw (sym p, sym q) e

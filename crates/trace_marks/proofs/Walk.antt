@@ -37,7 +37,8 @@ module _ {A : Type 0} (F : ℕ → A) where
           | no q ↦ go (has b k) refl (omega arith) (skips-from m (suc k) (omega arith) (omega arith) h)
         ]
       where
-        go : (t : Bool) → has b k ≡ t → k < n → Skips (suc k) n (squaresFrom m (suc k) b) → Skips k n (cond t (k ∷ squaresFrom m (suc k) b) (squaresFrom m (suc k) b))
+        go : (t : Bool) → has b k ≡ t → k < n → Skips (suc k) n (squaresFrom m (suc k) b)
+            → Skips k n (cond t (k ∷ squaresFrom m (suc k) b) (squaresFrom m (suc k) b))
         go true p lt r = (refl, lt, r)
         go false p lt r = skips-before k (suc k) n (squaresFrom m (suc k) b) (still k lt p) r
 

@@ -42,9 +42,11 @@ one-mask w m b (suc n) k a =
         → counted (λ s. w * digit (has m s)) a (cond t (k ∷ squaresFrom n (suc k) b) (squaresFrom n (suc k) b))
         ≡ a + w * length (cond (t && u) (k ∷ squaresFrom n (suc k) (bitAnd b m)) (squaresFrom n (suc k) (bitAnd b m)))
     pick true true e on =
-        on (a + w * digit (has m k)) ∙ ap (λ (d : Bool). a + w * digit d + w * length (squaresFrom n (suc k) (bitAnd b m))) e ∙ more (length (squaresFrom n (suc k) (bitAnd b m)))
+        on (a + w * digit (has m k)) ∙ ap (λ (d : Bool). a + w * digit d + w * length (squaresFrom n (suc k) (bitAnd b m))) e
+        ∙ more (length (squaresFrom n (suc k) (bitAnd b m)))
     pick true false e on =
-        on (a + w * digit (has m k)) ∙ ap (λ (d : Bool). a + w * digit d + w * length (squaresFrom n (suc k) (bitAnd b m))) e ∙ none (w * length (squaresFrom n (suc k) (bitAnd b m)))
+        on (a + w * digit (has m k)) ∙ ap (λ (d : Bool). a + w * digit d + w * length (squaresFrom n (suc k) (bitAnd b m))) e
+        ∙ none (w * length (squaresFrom n (suc k) (bitAnd b m)))
     pick false u e on = on a
 
 counted-plus : (f g : ℕ → ℕ) (a c : ℕ) (l : List ℕ) → counted (λ s. f s + g s) (a + c) l ≡ counted f a l + counted g c l
@@ -70,7 +72,8 @@ all-squares w m b = one-mask w m b 64 0 0 ∙ ap (λ (x : ℕ). 0 + w * x) (squa
 by-masks : (ms : List Mask) (b : ℕ) → counted (countsFor ms) 0 (squares b) ≡ masked ms b
 by-masks [] b = counted-nothing 0 (squares b)
 by-masks (m ∷ ms) b =
-    counted-plus (λ s. m .weight * digit (has (m .mask) s)) (countsFor ms) 0 0 (squares b) ∙ ap₂ (λ (x y : ℕ). x + y) (all-squares (m .weight) (m .mask) b) (by-masks ms b)
+    counted-plus (λ s. m .weight * digit (has (m .mask) s)) (countsFor ms) 0 0 (squares b)
+    ∙ ap₂ (λ (x y : ℕ). x + y) (all-squares (m .weight) (m .mask) b) (by-masks ms b)
 
 -- ---- as the code adds them
 pub two : (a b x y : ℕ) → a ≡ x → b ≡ y → a + b ≡ 1 * x + (1 * y + 0)
@@ -109,10 +112,12 @@ reached-many steps s h =
     ap (λ (t : Bool). howMany 64 (has (cond t (those 64 (λ t. oneLeads steps s t)) 0))) (lt-ltb s 64 h)
     ∙ many-same 64 (has (those 64 (λ t. oneLeads steps s t))) (oneLeads steps s) (λ k l. has-those 64 (λ t. oneLeads steps s t) k l)
 
-by-steps : (steps : List Step) (ms : List Mask) → allBelow 64 (tells steps ms) ≡ true → (b : ℕ) → masked ms b ≡ counted (λ s. howMany 64 (has (reached steps s))) 0 (squares b)
+by-steps : (steps : List Step) (ms : List Mask) → allBelow 64 (tells steps ms) ≡ true → (b : ℕ)
+    → masked ms b ≡ counted (λ s. howMany 64 (has (reached steps s))) 0 (squares b)
 by-steps steps ms t b =
     sym
-    (counted-squares (λ s. howMany 64 (has (reached steps s))) (countsFor ms) b 0 (λ s h. reached-many steps s h ∙ eqb→eq _ _ (all-at 64 (tells steps ms) (true-T t) s h)) ∙ by-masks ms b)
+    (counted-squares (λ s. howMany 64 (has (reached steps s))) (countsFor ms) b 0
+    (λ s h. reached-many steps s h ∙ eqb→eq _ _ (all-at 64 (tells steps ms) (true-T t) s h)) ∙ by-masks ms b)
 
 -- a kind that steps, whoever stands where
 module _ (r pieces kind colour occ : ℕ) where

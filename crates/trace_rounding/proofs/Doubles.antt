@@ -36,7 +36,11 @@ pub record Exactly (x : Float) (z : ℤ) (b : ℕ) : Type 0 where
   pub most : natAbs z ≤ b
 
 exactly-of : {x : Float} {z : ℤ} {b : ℕ} (p n : ℕ) → Diff z p n → natAbs z ≤ b → Whole x p n → Exactly x z b
-exactly-of {x} {z} p n d h w = record { is = whole-move x p n (aboveZero z) (belowZero z) (diff-cross z p n (aboveZero z) (belowZero z) d (diff-of z)) w; most = h }
+exactly-of {x} {z} p n d h w = record {
+  is = whole-move x p n (aboveZero z) (belowZero z) (diff-cross z p n (aboveZero z) (belowZero z) d (diff-of z))
+      w;
+  most = h;
+}
 
 pub exactly-int : (z : ℤ) (b : ℕ) → natAbs z ≤ b → b ≤ 2 ^ 53 → Exactly (ofInt binary64 z) z b
 exactly-int (pos n) b h r = record { is = of-pos binary64 n (le-trans h r); most = h }
@@ -45,13 +49,16 @@ exactly-int (negsuc n) b h r = record { is = of-neg binary64 n (le-trans h r); m
 pub exactly-add : {x y : Float} {z w : ℤ} {b c : ℕ} → Exactly x z b → Exactly y w c → b + c ≤ 2 ^ 53 → Exactly (add binary64 x y) (z +ℤ w) (b + c)
 exactly-add {x} {y} {z} {w} {b} {c} p q r =
     let most : natAbs (z +ℤ w) ≤ b + c = abs-add z w b c (p .most) (q .most) in
-    let d : Diff (z +ℤ w) (aboveZero z + aboveZero w) (belowZero z + belowZero w) = diff-add z w (aboveZero z) (belowZero z) (aboveZero w) (belowZero w) (diff-of z) (diff-of w) in
+    let d : Diff (z +ℤ w) (aboveZero z + aboveZero w) (belowZero z + belowZero w) =
+    diff-add z w (aboveZero z) (belowZero z) (aboveZero w) (belowZero w) (diff-of z) (diff-of w) in
     let l = abs-diff (z +ℤ w) (aboveZero z + aboveZero w) (belowZero z + belowZero w) (2 ^ 53) d (le-trans most r) in
-    exactly-of (aboveZero z + aboveZero w) (belowZero z + belowZero w) d most (add-whole binary64 x y (aboveZero z) (belowZero z) (aboveZero w) (belowZero w) (p .is) (q .is) (l .0) (l .1))
+    exactly-of (aboveZero z + aboveZero w) (belowZero z + belowZero w) d most
+    (add-whole binary64 x y (aboveZero z) (belowZero z) (aboveZero w) (belowZero w) (p .is) (q .is) (l .0) (l .1))
 
 pub exactly-neg : {x : Float} {z : ℤ} {b : ℕ} → Exactly x z b → Exactly (neg x) (negℤ z) b
 exactly-neg {x} {z} {b} p =
-    exactly-of (belowZero z) (aboveZero z) (diff-neg z (aboveZero z) (belowZero z) (diff-of z)) (le-trans (le-of-eq (abs-turned z)) (p .most)) (neg-whole x (aboveZero z) (belowZero z) (p .is))
+    exactly-of (belowZero z) (aboveZero z) (diff-neg z (aboveZero z) (belowZero z) (diff-of z)) (le-trans (le-of-eq (abs-turned z)) (p .most))
+    (neg-whole x (aboveZero z) (belowZero z) (p .is))
 
 pub exactly-sub : {x y : Float} {z w : ℤ} {b c : ℕ} → Exactly x z b → Exactly y w c → b + c ≤ 2 ^ 53 → Exactly (sub binary64 x y) (z -ℤ w) (b + c)
 unfolding sub
@@ -60,9 +67,12 @@ exactly-sub p q r = exactly-add p (exactly-neg q) r
 pub exactly-mul : {x y : Float} {z w : ℤ} {b c : ℕ} → Exactly x z b → Exactly y w c → b * c ≤ 2 ^ 53 → Exactly (mul binary64 x y) (z *ℤ w) (b * c)
 exactly-mul {x} {y} {z} {w} {b} {c} p q r =
     let most : natAbs (z *ℤ w) ≤ b * c = le-trans (le-of-eq (abs-mul z w)) (mul-le-mul (p .most) (q .most)) in
-    let d : Diff (z *ℤ w) (aboveZero z * aboveZero w + belowZero z * belowZero w) (aboveZero z * belowZero w + belowZero z * aboveZero w) = diff-mul z w (aboveZero z) (belowZero z) (aboveZero w) (belowZero w) (diff-of z) (diff-of w) in
-    let l = abs-diff (z *ℤ w) (aboveZero z * aboveZero w + belowZero z * belowZero w) (aboveZero z * belowZero w + belowZero z * aboveZero w) (2 ^ 53) d (le-trans most r) in
-    exactly-of (aboveZero z * aboveZero w + belowZero z * belowZero w) (aboveZero z * belowZero w + belowZero z * aboveZero w) d most (mul-whole binary64 x y (aboveZero z) (belowZero z) (aboveZero w) (belowZero w) (p .is) (q .is) (l .0) (l .1))
+    let d : Diff (z *ℤ w) (aboveZero z * aboveZero w + belowZero z * belowZero w) (aboveZero z * belowZero w + belowZero z * aboveZero w) =
+    diff-mul z w (aboveZero z) (belowZero z) (aboveZero w) (belowZero w) (diff-of z) (diff-of w) in
+    let l = abs-diff (z *ℤ w) (aboveZero z * aboveZero w + belowZero z * belowZero w) (aboveZero z * belowZero w + belowZero z * aboveZero w) (2 ^ 53)
+    d (le-trans most r) in
+    exactly-of (aboveZero z * aboveZero w + belowZero z * belowZero w) (aboveZero z * belowZero w + belowZero z * aboveZero w) d most
+    (mul-whole binary64 x y (aboveZero z) (belowZero z) (aboveZero w) (belowZero w) (p .is) (q .is) (l .0) (l .1))
 
 -- ---- thirty times x is near z: in units of 2^-1074
 abbrev pub unit : ℕ
@@ -81,7 +91,8 @@ scaled p n q m u h = sym (add-mul p m u) ∙ ap (λ (k : ℕ). k * u) h ∙ add-
 
 nearly-of : {x : Float} {z : ℤ} {k b : ℕ} (p n : ℕ) → Diff z p n → natAbs z ≤ b → Near binary64 x (p * unit) (n * unit) (k * rounding) → Nearly x z k b
 nearly-of {x} {z} {k} {b} p n d h w = record {
-  near = near-move x (p * unit) (n * unit) (aboveZero z * unit) (belowZero z * unit) (k * rounding) (scaled p n (aboveZero z) (belowZero z) unit (diff-cross z p n (aboveZero z) (belowZero z) d (diff-of z))) w;
+  near = near-move x (p * unit) (n * unit) (aboveZero z * unit) (belowZero z * unit) (k * rounding)
+      (scaled p n (aboveZero z) (belowZero z) unit (diff-cross z p n (aboveZero z) (belowZero z) d (diff-of z))) w;
   most = h;
 }
 
@@ -103,7 +114,8 @@ pub nearly-add : {x y : Float} {z w : ℤ} {k l b c : ℕ} → Nearly x z k b �
     → Nearly (add binary64 x y) (z +ℤ w) (suc (k + l)) (b + c)
 nearly-add {x} {y} {z} {w} {k} {l} {b} {c} p q r s =
     let most : natAbs (z +ℤ w) ≤ b + c = abs-add z w b c (p .most) (q .most) in
-    let d : Diff (z +ℤ w) (aboveZero z + aboveZero w) (belowZero z + belowZero w) = diff-add z w (aboveZero z) (belowZero z) (aboveZero w) (belowZero w) (diff-of z) (diff-of w) in
+    let d : Diff (z +ℤ w) (aboveZero z + aboveZero w) (belowZero z + belowZero w) =
+    diff-add z w (aboveZero z) (belowZero z) (aboveZero w) (belowZero w) (diff-of z) (diff-of w) in
     let f = abs-diff (z +ℤ w) (aboveZero z + aboveZero w) (belowZero z + belowZero w) 25000000 d (le-trans most r) in
     nearly-of (aboveZero z + aboveZero w) (belowZero z + belowZero w) d most
     (summed x y (aboveZero z) (belowZero z) (aboveZero w) (belowZero w) k l (p .near) (q .near) (f .0) (f .1) s)
@@ -148,7 +160,8 @@ nearly-whole {x} {z} {b} p =
     (subst (λ (e : ℕ). Near binary64 x (aboveZero z * 30 * unit) (belowZero z * 30 * unit) e) (sym (zero-mul rounding))
     (times-unit x (aboveZero z) (belowZero z) 30 0 (whole-near binary64 x (aboveZero z) (belowZero z) (p .is))))
 
-pub nearly-tenth : (y : Float) {x : Float} {z : ℤ} {b : ℕ} → Exactly x z b → HasValue y false 10 1 → b ≤ 2 ^ 20 → Nearly (div binary64 x y) (z *ℤ pos 3) 1 (b * 3)
+pub nearly-tenth : (y : Float) {x : Float} {z : ℤ} {b : ℕ} → Exactly x z b → HasValue y false 10 1 → b ≤ 2 ^ 20
+    → Nearly (div binary64 x y) (z *ℤ pos 3) 1 (b * 3)
 nearly-tenth y {x} {z} {b} p ten r =
     let f = abs-diff z (aboveZero z) (belowZero z) (2 ^ 20) (diff-of z) (le-trans (p .most) r) in
     nearly-of (aboveZero z * 3) (belowZero z * 3) (diff-scale z 3 (aboveZero z) (belowZero z) (diff-of z)) (scaled-most z 3 b (p .most))
@@ -157,7 +170,8 @@ nearly-tenth y {x} {z} {b} p ten r =
     (div-near binary64 x y 10 3 (aboveZero z) (belowZero z) 1041 (2 ^ 20) (omega arith) refl (p .is) ten
     (omega (arith, f .0)) (omega (arith, f .1)) (lit≤ tt) (lit≤ tt))))
 
-pub nearly-minus-thirtieth : (y : Float) {x : Float} {z : ℤ} {b : ℕ} → Exactly x z b → HasValue y true 30 1 → b ≤ 2 ^ 20 → Nearly (div binary64 x y) (negℤ z) 1 b
+pub nearly-minus-thirtieth : (y : Float) {x : Float} {z : ℤ} {b : ℕ} → Exactly x z b → HasValue y true 30 1 → b ≤ 2 ^ 20
+    → Nearly (div binary64 x y) (negℤ z) 1 b
 nearly-minus-thirtieth y {x} {z} {b} p thirty r =
     let f = abs-diff z (aboveZero z) (belowZero z) (2 ^ 20) (diff-of z) (le-trans (p .most) r) in
     nearly-of (belowZero z) (aboveZero z) (diff-neg z (aboveZero z) (belowZero z) (diff-of z)) (le-trans (le-of-eq (abs-turned z)) (p .most))
@@ -170,7 +184,8 @@ nearly-minus-thirtieth y {x} {z} {b} p thirty r =
     once x p n w = w
 
 -- ---- one times a double
-pub nearly-once : (x : Float) {y : Float} {z : ℤ} {k b : ℕ} → HasValue x false 1 1 → Nearly y z k b → b ≤ 25000000 → k ≤ 4096 → Nearly (mul binary64 x y) z (suc k) b
+pub nearly-once : (x : Float) {y : Float} {z : ℤ} {k b : ℕ} → HasValue x false 1 1 → Nearly y z k b → b ≤ 25000000 → k ≤ 4096
+    → Nearly (mul binary64 x y) z (suc k) b
 nearly-once x {y} {z} {k} {b} one p r s =
     let f = abs-diff z (aboveZero z) (belowZero z) 25000000 (diff-of z) (le-trans (p .most) r) in
     nearly-of (aboveZero z) (belowZero z) (diff-of z) (p .most)

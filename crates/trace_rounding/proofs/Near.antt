@@ -2,7 +2,8 @@
 use mathlib.Core.Path.{_≡_, sym, ap, _∙_, subst}
 use mathlib.Core.Bool.{Bool, true, false, not, _&&_, cond}
 use Prim.Native.Nat.{ℕ, suc, _+_, _-_, _*_, _^_, _≤_, _<_}
-use native.Mathlib.Nat.{le-trans, le-of-eq, lt-of-lt-of-le, lt-of-le-of-lt, mul-comm, mul-assoc, mul-right-comm, mul-pos, add-mul, mul-lt-mul-of-pos-right, lt-of-mul-lt-mul-right, le-of-mul-le-mul-right, mul-sub}
+use native.Mathlib.Nat.{le-trans, le-of-eq, lt-of-lt-of-le, lt-of-le-of-lt, mul-comm, mul-assoc, mul-right-comm, mul-pos, add-mul}
+use native.Mathlib.Nat.{mul-lt-mul-of-pos-right, lt-of-mul-lt-mul-right, le-of-mul-le-mul-right, mul-sub}
 use native.Mathlib.Omega.{arith}
 use lib.Dec.{T, ltb, ltb→lt, lt→ltb, nltb→le}
 use lib.Pow.{pow-pos}
@@ -20,13 +21,15 @@ lt-over A B C a b c P p q h = lt-of-mul-lt-mul-right C (lt-of-le-of-lt (le-of-eq
 
 ltb-over : (A B C a b c : ℕ) → 0 < C → 0 < c → A * c ≡ a * C → B * c ≡ b * C → ltb A B ≡ ltb a b
 ltb-over A B C a b c P P' p q =
-    iff (ltb A B) (ltb a b) (λ t. lt→ltb a b (lt-over A B C a b c P' p q (ltb→lt A B t))) (λ t. lt→ltb A B (lt-over a b c A B C P (sym p) (sym q) (ltb→lt a b t)))
+    iff (ltb A B) (ltb a b) (λ t. lt→ltb a b (lt-over A B C a b c P' p q (ltb→lt A B t)))
+    (λ t. lt→ltb A B (lt-over a b c A B C P (sym p) (sym q) (ltb→lt a b t)))
 
 add-over : (A B C a b c : ℕ) → A * c ≡ a * C → B * c ≡ b * C → (A + B) * c ≡ (a + b) * C
 add-over A B C a b c p q = rw (add-mul A B c, add-mul a b C, p, q)
 
 sub-over : (A B C a b c : ℕ) → A * c ≡ a * C → B * c ≡ b * C → (A - B) * c ≡ (a - b) * C
-sub-over A B C a b c p q = mul-comm (A - B) c ∙ mul-sub c A B ∙ rw (mul-comm c A, mul-comm c B, p, q) (sym (mul-comm (a - b) C ∙ mul-sub C a b ∙ rw (mul-comm C a, mul-comm C b)))
+sub-over A B C a b c p q = mul-comm (A - B) c ∙ mul-sub c A B ∙ rw (mul-comm c A, mul-comm c B, p, q)
+    (sym (mul-comm (a - b) C ∙ mul-sub C a b ∙ rw (mul-comm C a, mul-comm C b)))
 
 pub sum-over : (f : Format) (s t : Bool) (A B C a b c : ℕ) → 0 < C → 0 < c → A * c ≡ a * C → B * c ≡ b * C → sum f s A t B C ≡ sum f s a t b c
 unfolding sum
@@ -86,8 +89,10 @@ sum-rounded : (f : Format) (s t : Bool) (a b p n e q m d j : ℕ) → Off s (30 
     → p + q + (e + d) < n + m + 30 * 2 ^ (prec f + j) → n + m + (e + d) < p + q + 30 * 2 ^ (prec f + j) → suc (prec f + j) ≤ low f + suc (emax f)
     → Near f (sum f s a t b (2 ^ low f)) (p + q) (n + m) (e + d + 30 * 2 ^ j)
 unfolding sum
-sum-rounded f false false a b p n e q m d j x y k l room = rounded f false (a + b) (p + q) (n + m) (e + d) j (omega (arith, x .0, y .0), omega (arith, x .1, y .1)) k l room
-sum-rounded f true true a b p n e q m d j x y k l room = rounded f true (a + b) (p + q) (n + m) (e + d) j (omega (arith, x .0, y .0), omega (arith, x .1, y .1)) k l room
+sum-rounded f false false a b p n e q m d j x y k l room = rounded f false (a + b) (p + q) (n + m) (e + d) j
+    (omega (arith, x .0, y .0), omega (arith, x .1, y .1)) k l room
+sum-rounded f true true a b p n e q m d j x y k l room = rounded f true (a + b) (p + q) (n + m) (e + d) j
+    (omega (arith, x .0, y .0), omega (arith, x .1, y .1)) k l room
 sum-rounded f false true a b p n e q m d j x y k l room = go (ltb a b) (ltb→lt a b) (nltb→le a b)
   where
     go : (w : Bool) → (T w → a < b) → (T (not w) → b ≤ a)
@@ -100,7 +105,8 @@ sum-rounded f true false a b p n e q m d j x y k l room = go (ltb a b) (ltb b a)
         → Near f (cond w (round f false (b - a) (2 ^ low f)) (round f v (a - b) (2 ^ low f))) (p + q) (n + m) (e + d + 30 * 2 ^ j)
     go true v h g h' g' = rounded f false (b - a) (p + q) (n + m) (e + d) j (omega (arith, x .0, y .0, h tt), omega (arith, x .1, y .1, h tt)) k l room
     go false true h g h' g' = rounded f true (a - b) (p + q) (n + m) (e + d) j (omega (arith, x .0, y .0, g tt), omega (arith, x .1, y .1, g tt)) k l room
-    go false false h g h' g' = rounded f false (a - b) (p + q) (n + m) (e + d) j (omega (arith, x .0, y .0, g tt, g' tt), omega (arith, x .1, y .1, g tt, g' tt)) k l room
+    go false false h g h' g' = rounded f false (a - b) (p + q) (n + m) (e + d) j
+        (omega (arith, x .0, y .0, g tt, g' tt), omega (arith, x .1, y .1, g tt, g' tt)) k l room
 
 -- THE LEMMA: the sum of two floats near two exact numbers is near the sum of these, with one rounding more
 pub add-near : (f : Format) (x y : Float) (p n e q m d j : ℕ) → Near f x p n e → Near f y q m d
@@ -117,5 +123,6 @@ add-near f (fin s M E) (fin t N D) p n e q m d j x' y' k l room =
     let b = y' .0 in
     rw (sum-over f s t (M * up E * down D) (N * up D * down E) (down E * down D) a b u (mul-pos (down-pos E) (down-pos D)) (pow-pos (low f))
     (mul-right-comm (M * up E) (down D) u ∙ ap (λ (z : ℕ). z * down D) (x' .1) ∙ mul-assoc a (down E) (down D))
-    (mul-right-comm (N * up D) (down E) u ∙ ap (λ (z : ℕ). z * down E) (y' .1) ∙ mul-assoc b (down D) (down E) ∙ ap (λ (z : ℕ). b * z) (mul-comm (down D) (down E))))
+    (mul-right-comm (N * up D) (down E) u ∙ ap (λ (z : ℕ). z * down E) (y' .1) ∙ mul-assoc b (down D) (down E)
+    ∙ ap (λ (z : ℕ). b * z) (mul-comm (down D) (down E))))
     (sum-rounded f s t a b p n e q m d j (x' .2) (y' .2) k l room)

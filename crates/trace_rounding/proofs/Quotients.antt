@@ -2,7 +2,8 @@
 use mathlib.Core.Path.{_≡_, refl, sym, ap, _∙_, subst}
 use mathlib.Core.Bool.{Bool, true, false, not, true≢false}
 use Prim.Native.Nat.{ℕ, suc, _+_, _*_, _^_, _≤_, _<_}
-use native.Mathlib.Nat.{le-trans, le-of-eq, lt-irrefl, mul-comm, mul-assoc, mul-one, mul-right-comm, mul-left-comm, mul-pos, mul-le-mul-right, mul-lt-mul-of-pos-right, lt-of-lt-of-le, add-mul, zero-mul, one-mul}
+use native.Mathlib.Nat.{le-trans, le-of-eq, lt-irrefl, mul-comm, mul-assoc, mul-one, mul-right-comm, mul-left-comm, mul-pos, mul-le-mul-right}
+use native.Mathlib.Nat.{mul-lt-mul-of-pos-right, lt-of-lt-of-le, add-mul, zero-mul, one-mul}
 use native.Mathlib.Omega.{arith}
 use lib.Pow.{pow-pos}
 use lib.Ieee.{Float, nan, inf, fin, Format, prec, emax, low, up, down, unlike, round, mul, div}
@@ -49,7 +50,8 @@ quotient f s a b c p n j K B e o k l big room =
     let u = 2 ^ low f in
     let g = grid f a b in
     let small : a < K * b = strictly s a p n (K * b) o k l in
-    let r = round-off f s a b j B (lt-of-lt-of-le (mul-lt-mul-of-pos-right small (pow-pos (low f))) (le-trans (le-of-eq (mul-right-comm K b u)) (mul-le-mul-right b big))) room in
+    let r = round-off f s a b j B (lt-of-lt-of-le (mul-lt-mul-of-pos-right small (pow-pos (low f)))
+    (le-trans (le-of-eq (mul-right-comm K b u)) (mul-le-mul-right b big))) room in
     let w : a * u * c ≡ a * (u * c) = mul-assoc a u c in
     of-value f (round f s a b) s g (p * (u * c)) (n * (u * c)) (30 * 2 ^ j) (r .0)
     (off-by s (a * (u * c)) (30 * g) (p * (u * c)) (n * (u * c)) (30 * 2 ^ j)
@@ -79,7 +81,8 @@ crossed : (A d b a N e : ℕ) → A ≡ a * e → N ≡ b * d → A * d * b ≡ 
 crossed A d b a N e p q = rw (p, q) (simp (mul-assoc, mul-comm, mul-left-comm))
 
 -- by a b above zero
-pub div-near : (f : Format) (x y : Float) (b c p n j K : ℕ) → 0 < b → b * c ≡ 30 → Whole x p n → HasValue y false b 1 → p < n + K * b → n < p + K * b → K * 2 ^ low f ≤ 2 ^ (prec f + j)
+pub div-near : (f : Format) (x y : Float) (b c p n j K : ℕ) → 0 < b → b * c ≡ 30 → Whole x p n → HasValue y false b 1 → p < n + K * b → n < p + K * b
+    → K * 2 ^ low f ≤ 2 ^ (prec f + j)
     → suc (prec f + j) ≤ low f + suc (emax f) → Near f (div f x y) (p * (2 ^ low f * c)) (n * (2 ^ low f * c)) (30 * 2 ^ j)
 unfolding div
 div-near f nan y b c p n j K B e x' y' k l big room = absurd x'
@@ -98,7 +101,8 @@ div-near f (fin s M E) (fin false N D) b c p n j K B e x' y' k l big room =
     (quotient f s a b c p n j K B e (x' .2) k l big room)
 
 -- by a b below zero
-pub div-near-neg : (f : Format) (x y : Float) (b c p n j K : ℕ) → 0 < b → b * c ≡ 30 → Whole x p n → HasValue y true b 1 → p < n + K * b → n < p + K * b → K * 2 ^ low f ≤ 2 ^ (prec f + j)
+pub div-near-neg : (f : Format) (x y : Float) (b c p n j K : ℕ) → 0 < b → b * c ≡ 30 → Whole x p n → HasValue y true b 1 → p < n + K * b
+    → n < p + K * b → K * 2 ^ low f ≤ 2 ^ (prec f + j)
     → suc (prec f + j) ≤ low f + suc (emax f) → Near f (div f x y) (n * (2 ^ low f * c)) (p * (2 ^ low f * c)) (30 * 2 ^ j)
 unfolding div
 div-near-neg f nan y b c p n j K B e x' y' k l big room = absurd x'
@@ -128,7 +132,8 @@ whole-near f (fin s M E) p n h =
       subst (λ (z : ℕ). Off s z (p * (u * 30)) (n * (u * 30)) 0) (sym (mul-assoc a u 30) ∙ mul-comm (a * u) 30) (off-scale s a p n (u * 30) (h .2)),
     )
 
-pub one-near : (f : Format) (x y : Float) (p n e j : ℕ) → HasValue x false 1 1 → Near f y p n e → p + e < n + 30 * 2 ^ (prec f + j) → n + e < p + 30 * 2 ^ (prec f + j)
+pub one-near : (f : Format) (x y : Float) (p n e j : ℕ) → HasValue x false 1 1 → Near f y p n e → p + e < n + 30 * 2 ^ (prec f + j)
+    → n + e < p + 30 * 2 ^ (prec f + j)
     → suc (prec f + j) ≤ low f + suc (emax f) → Near f (mul f x y) p n (e + 30 * 2 ^ j)
 unfolding mul
 one-near f nan y p n e j x' y' k l room = absurd x'

@@ -54,12 +54,14 @@ sum-whole f false true a b p n q m x y k l = go (ltb a b) (ltb→lt a b) (nltb�
     go false h g = exactly f false (a - b) (p + q) (n + m) (omega (arith, x .0, y .0, g tt), omega (arith, x .1, y .1, g tt)) k l
 sum-whole f true false a b p n q m x y k l = go (ltb a b) (ltb b a) (ltb→lt a b) (nltb→le a b) (nltb→le b a)
   where
-    go : (w v : Bool) → (T w → a < b) → (T (not w) → b ≤ a) → (T (not v) → a ≤ b) → Whole (cond w (round f false (b - a) 1) (round f v (a - b) 1)) (p + q) (n + m)
+    go : (w v : Bool) → (T w → a < b) → (T (not w) → b ≤ a) → (T (not v) → a ≤ b)
+        → Whole (cond w (round f false (b - a) 1) (round f v (a - b) 1)) (p + q) (n + m)
     go true v h g g' = exactly f false (b - a) (p + q) (n + m) (omega (arith, x .0, y .0, h tt), omega (arith, x .1, y .1, h tt)) k l
     go false true h g g' = exactly f true (a - b) (p + q) (n + m) (omega (arith, x .0, y .0, g tt), omega (arith, x .1, y .1, g tt)) k l
     go false false h g g' = exactly f false (a - b) (p + q) (n + m) (omega (arith, x .0, y .0, g tt, g' tt), omega (arith, x .1, y .1, g tt, g' tt)) k l
 
-pub add-whole : (f : Format) (x y : Float) (p n q m : ℕ) → Whole x p n → Whole y q m → p + q ≤ n + m + 2 ^ prec f → n + m ≤ p + q + 2 ^ prec f → Whole (add f x y) (p + q) (n + m)
+pub add-whole : (f : Format) (x y : Float) (p n q m : ℕ) → Whole x p n → Whole y q m → p + q ≤ n + m + 2 ^ prec f → n + m ≤ p + q + 2 ^ prec f
+    → Whole (add f x y) (p + q) (n + m)
 unfolding add
 add-whole f nan y p n q m x' y' k l = absurd x'
 add-whole f (inf s) y p n q m x' y' k l = absurd x'
@@ -70,7 +72,8 @@ add-whole f (fin s M E) (fin t N D) p n q m x' y' k l =
     let b = y' .0 in
     rw (sum-over f s t (M * up E * down D) (N * up D * down E) (down E * down D) a b 1 (mul-pos (down-pos E) (down-pos D)) (pow-pos 0)
     (mul-right-comm (M * up E) (down D) 1 ∙ ap (λ (z : ℕ). z * down D) (x' .1) ∙ mul-assoc a (down E) (down D))
-    (mul-right-comm (N * up D) (down E) 1 ∙ ap (λ (z : ℕ). z * down E) (y' .1) ∙ mul-assoc b (down D) (down E) ∙ ap (λ (z : ℕ). b * z) (mul-comm (down D) (down E))))
+    (mul-right-comm (N * up D) (down E) 1 ∙ ap (λ (z : ℕ). z * down E) (y' .1) ∙ mul-assoc b (down D) (down E)
+    ∙ ap (λ (z : ℕ). b * z) (mul-comm (down D) (down E))))
     (sum-whole f s t a b p n q m (x' .2) (y' .2) k l)
 
 -- the other way round, for a difference

@@ -18,5 +18,6 @@ kept : (r : Written) → readBack done Refused (written r) ≡ r
 kept Done = refl
 kept (Refused q) = ap Refused (number-back q)
 
-pub square-weights : (before : List Float) (r s : Written) (after last : List Float) → ShipsSquares before r after → ShipsSquares before s last → (r ≡ s) × (after ≡ last)
+pub square-weights : (before : List Float) (r s : Written) (after last : List Float) → ShipsSquares before r after → ShipsSquares before s last
+    → (r ≡ s) × (after ≡ last)
 square-weights before r s after last p q = (retract written (readBack done Refused) kept r s (one (p .0) (q .0)), one (p .1) (q .1))

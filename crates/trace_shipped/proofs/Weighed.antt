@@ -23,7 +23,8 @@ use Rattle.trace_shipped.specs.Weights.{squareWeight, shippedSquares}
 pub weighs : (pst : List ℤ) (place white : ℕ) (z : ℤ) → place < 768 → pst ≡ pstTable → white ≡ whiteOf (place / 128)
     → z ≡ weightIn pst white (place % 64) (place % 128 / 64) → held w16 z ≡ squareWeight place
 unfolding squareWeight
-weighs pst place white z h et ew ez = ap (held w16) is ∙ toZ-ofZ w16 (pstOf code (place % 64) (place % 128 / 64)) (fits-abs {w = w16} 117 tt (small code (place % 64) (place % 128 / 64) low (omega arith) (omega arith)))
+weighs pst place white z h et ew ez = ap (held w16) is ∙ toZ-ofZ w16 (pstOf code (place % 64) (place % 128 / 64))
+    (fits-abs {w = w16} 117 tt (small code (place % 64) (place % 128 / 64) low (omega arith) (omega arith)))
   where
     code : ℕ
     code = codeOf (place / 128) 0

@@ -14,7 +14,8 @@ use Rattle.trace_stray.proofs.Squares.{placed, Sum, step}
 
 module _ (x : Float) (z : ℤ) (f : ℕ → ℕ) (count : Exactly x z 64) (ones : (k : ℕ) → f k ≤ 1) where
   -- the first n entries, where entry k is f k
-  pub folded-sum : (entries : List ℤ) {s : Float} {w : ℤ} (n : ℕ) → ((k : ℕ) → k < 768 → getD entries k (pos 0) ≡ pos (f k)) → n ≤ 768 → sumN n f ≤ 768 → Sum s w 0
+  pub folded-sum : (entries : List ℤ) {s : Float} {w : ℤ} (n : ℕ) → ((k : ℕ) → k < 768 → getD entries k (pos 0) ≡ pos (f k)) → n ≤ 768 → sumN n f ≤ 768
+      → Sum s w 0
       → Sum (folded shippedSquares x entries s n) (w +ℤ sumZ n (λ k. placed z k (getD entries k (pos 0)))) (sumN n f)
   unfolding folded sumN sumZ
   folded-sum entries {s} {w} zero h m l p = subst (λ (i : ℤ). Sum s i 0) (sym (+ℤ-idr w)) p

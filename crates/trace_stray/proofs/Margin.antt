@@ -3,7 +3,8 @@
 use mathlib.Core.Path.{_≡_, sym, ap, _∙_, subst}
 use mathlib.Core.Bool.{Bool, true, false, cond}
 use Prim.Native.Nat.{ℕ, suc, _+_, _*_, _^_, _≤_, _<_}
-use native.Mathlib.Nat.{le-trans, le-of-eq, lt-of-le-of-lt, lt-of-lt-of-le, add-mul, mul-assoc, mul-comm, mul-right-comm, mul-one, zero-mul, mul-le-mul-right, mul-lt-mul-of-pos-right, lt-of-mul-lt-mul-right}
+use native.Mathlib.Nat.{le-trans, le-of-eq, lt-of-le-of-lt, lt-of-lt-of-le, add-mul, mul-assoc, mul-comm, mul-right-comm, mul-one, zero-mul}
+use native.Mathlib.Nat.{mul-le-mul-right, mul-lt-mul-of-pos-right, lt-of-mul-lt-mul-right}
 use native.Mathlib.Omega.{arith}
 use lib.Dec.{lit<}
 use lib.Pow.{pow-pos}
@@ -25,7 +26,8 @@ traded n U D E P h l =
 part : (n A B U D E : ℕ) → A ≡ n + B → A * U ≤ B * U + E * D → n * U ≤ E * D
 part n A B U D E d h = omega (arith, ap (λ (i : ℕ). i * U) d, add-mul n B U)
 
-distance : (w : ℤ) (A B U D E : ℕ) → Diff w A B → 0 < D → A * U ≤ B * U + E * D → B * U ≤ A * U + E * D → E * million < millionth * U → natAbs w * million < millionth * D
+distance : (w : ℤ) (A B U D E : ℕ) → Diff w A B → 0 < D → A * U ≤ B * U + E * D → B * U ≤ A * U + E * D → E * million < millionth * U
+    → natAbs w * million < millionth * D
 distance (pos n) A B U D E d P h k l = traded n U D E P (part n A B U D E d h) l
 distance (negsuc n) A B U D E d P h k l = traded (suc n) U D E P (part (suc n) B A U D E d k) l
 
@@ -40,27 +42,48 @@ spread a v U D p e =
 -- a whole number v with a sign, less z times D
 taken : (s : Bool) (v D : ℕ) (z : ℤ) → Diff (signed s v *ℤ pos 30 -ℤ z *ℤ pos D) (cond s 0 (v * 30) + belowZero z * D) (cond s (v * 30) 0 + aboveZero z * D)
 taken false v D z =
-    diff-minus (pos v *ℤ pos 30) (z *ℤ pos D) (v * 30) 0 (aboveZero z * D) (belowZero z * D) (diff-pos (v * 30)) (diff-scale z D (aboveZero z) (belowZero z) (diff-of z))
+    diff-minus (pos v *ℤ pos 30) (z *ℤ pos D) (v * 30) 0 (aboveZero z * D) (belowZero z * D) (diff-pos (v * 30))
+    (diff-scale z D (aboveZero z) (belowZero z) (diff-of z))
 taken true v D z =
     diff-minus (negℤ (pos v) *ℤ pos 30) (z *ℤ pos D) 0 (v * 30) (aboveZero z * D) (belowZero z * D)
     (diff-scale (negℤ (pos v)) 30 0 v (diff-neg (pos v) v 0 (diff-pos v))) (diff-scale z D (aboveZero z) (belowZero z) (diff-of z))
 
 apart : (s : Bool) (a v U D E : ℕ) (z w : ℤ) → v * U ≡ a * D → 0 < D → E * million < millionth * U → Off s (30 * a) (aboveZero z * U) (belowZero z * U) E
     → Diff w (cond s 0 (v * 30) + belowZero z * D) (cond s (v * 30) 0 + aboveZero z * D) → natAbs w * million < millionth * D
-apart false a v U D E z w e P l o d = distance w (v * 30 + belowZero z * D) (0 + aboveZero z * D) U D E d P (under (aboveZero z) (belowZero z) (o .0)) (over (aboveZero z) (belowZero z) (o .1)) l
+apart false a v U D E z w e P l o d = distance w (v * 30 + belowZero z * D) (0 + aboveZero z * D) U D E d P (under (aboveZero z) (belowZero z) (o .0))
+    (over (aboveZero z) (belowZero z) (o .1)) l
   where
     under : (p n : ℕ) → 30 * a + n * U ≤ p * U + E → (v * 30 + n * D) * U ≤ (0 + p * D) * U + E * D
     under p n h = omega (arith, mul-le-mul-right D h, spread a v U D n e, add-mul (p * U) E D, add-mul 0 (p * D) U, mul-right-comm p U D)
 
     over : (p n : ℕ) → p * U ≤ 30 * a + n * U + E → (0 + p * D) * U ≤ (v * 30 + n * D) * U + E * D
     over p n h = omega (arith, mul-le-mul-right D h, spread a v U D n e, add-mul (30 * a + n * U) E D, add-mul 0 (p * D) U, mul-right-comm p U D)
-apart true a v U D E z w e P l o d = distance w (0 + belowZero z * D) (v * 30 + aboveZero z * D) U D E d P (under (aboveZero z) (belowZero z) (o .0)) (over (aboveZero z) (belowZero z) (o .1)) l
+apart true a v U D E z w e P l o d = distance w (0 + belowZero z * D) (v * 30 + aboveZero z * D) U D E d P (under (aboveZero z) (belowZero z) (o .0))
+    (over (aboveZero z) (belowZero z) (o .1)) l
   where
     under : (p n : ℕ) → n * U ≤ p * U + 30 * a + E → (0 + n * D) * U ≤ (v * 30 + p * D) * U + E * D
-    under p n h = omega (arith, mul-le-mul-right D h, spread a v U D p e, add-mul (p * U + 30 * a) E D, add-mul (p * U) (30 * a) D, add-mul (30 * a) (p * U) D, add-mul 0 (n * D) U, mul-right-comm n U D)
+    under p n h = omega (
+      arith,
+      mul-le-mul-right D h,
+      spread a v U D p e,
+      add-mul (p * U + 30 * a) E D,
+      add-mul (p * U) (30 * a) D,
+      add-mul (30 * a) (p * U) D,
+      add-mul 0 (n * D) U,
+      mul-right-comm n U D,
+    )
 
     over : (p n : ℕ) → p * U + 30 * a ≤ n * U + E → (v * 30 + p * D) * U ≤ (0 + n * D) * U + E * D
-    over p n h = omega (arith, mul-le-mul-right D h, spread a v U D p e, add-mul (n * U) E D, add-mul (p * U) (30 * a) D, add-mul (30 * a) (p * U) D, add-mul 0 (n * D) U, mul-right-comm n U D)
+    over p n h = omega (
+      arith,
+      mul-le-mul-right D h,
+      spread a v U D p e,
+      add-mul (n * U) E D,
+      add-mul (p * U) (30 * a) D,
+      add-mul (30 * a) (p * U) D,
+      add-mul 0 (n * D) U,
+      mul-right-comm n U D,
+    )
 
 few : (k K h U : ℕ) → k ≤ K → K * h * million < millionth * U → k * h * million < millionth * U
 few k K h U l m = lt-of-le-of-lt (mul-le-mul-right million (mul-le-mul-right h l)) m
@@ -69,7 +92,8 @@ once : (z : ℤ) → Diff z (aboveZero z * 1) (belowZero z * 1)
 once z = diff-swap z (aboveZero z) (belowZero z) (aboveZero z * 1) (belowZero z * 1) (diff-of z) (omega (arith, mul-one (aboveZero z), mul-one (belowZero z)))
 
 -- the same for a power of two that is a whole number
-taken-up : (s : Bool) (m u : ℕ) (z : ℤ) → Diff (signed s m *ℤ pos u *ℤ pos 30 -ℤ z) (cond s 0 (m * u * 30) + belowZero z * 1) (cond s (m * u * 30) 0 + aboveZero z * 1)
+taken-up : (s : Bool) (m u : ℕ) (z : ℤ) → Diff (signed s m *ℤ pos u *ℤ pos 30 -ℤ z) (cond s 0 (m * u * 30) + belowZero z * 1)
+    (cond s (m * u * 30) 0 + aboveZero z * 1)
 taken-up false m u z = diff-minus (pos m *ℤ pos u *ℤ pos 30) z (m * u * 30) 0 (aboveZero z * 1) (belowZero z * 1) (diff-pos (m * u * 30)) (once z)
 taken-up true m u z =
     diff-minus (negℤ (pos m) *ℤ pos u *ℤ pos 30) z 0 (m * u * 30) (aboveZero z * 1) (belowZero z * 1)

@@ -32,21 +32,27 @@ unfolding ofBits
 ten = (refl, refl)
 
 -- a count that is at most m, weighed by v
-pub counts : {s : Float} {z : ℤ} {b : ℕ} (l : List ℤ) (m v : ℕ) → Exactly s z b → ((i : ℕ) → natAbs (getD l i (pos 0)) ≤ m) → m + m ≤ 2 ^ 10 → v ≤ 2 ^ 10 → b ≤ 2 ^ 30
+pub counts : {s : Float} {z : ℤ} {b : ℕ} (l : List ℤ) (m v : ℕ) → Exactly s z b → ((i : ℕ) → natAbs (getD l i (pos 0)) ≤ m) → m + m ≤ 2 ^ 10
+    → v ≤ 2 ^ 10 → b ≤ 2 ^ 30
     → Exactly (countAdded s l (dbl (pos v))) (z +ℤ difference l *ℤ pos v) (b + (m + m) * v)
 counts {s} {z} {b} l m v p h i j k =
     let w : (m + m) * v ≤ 2 ^ 10 * 2 ^ 10 = mul-le-mul i j in
     exactly-add p
-    (exactly-mul (exactly-int (difference l) (m + m) (abs-minus (getD l 0 (pos 0)) (getD l 1 (pos 0)) m m (h 0) (h 1)) (omega arith)) (exactly-int (pos v) v (omega arith) (omega arith)) (omega arith))
+    (exactly-mul (exactly-int (difference l) (m + m) (abs-minus (getD l 0 (pos 0)) (getD l 1 (pos 0)) m m (h 0) (h 1)) (omega arith))
+    (exactly-int (pos v) v (omega arith) (omega arith)) (omega arith))
     (omega arith)
 
 -- attacked squares, at most 1728 a colour, weighed by v
-pub moves : {s : Float} {z : ℤ} {k b : ℕ} (white black : ℤ) (v : ℕ) → Nearly s z k b → natAbs white ≤ 1728 → natAbs black ≤ 1728 → v ≤ 100 → b ≤ 10000000 → k ≤ 2 ^ 9
-    → Nearly (moved s white black (dbl (pos v))) (z +ℤ white *ℤ pos v *ℤ pos 3 -ℤ black *ℤ pos v *ℤ pos 3) (suc (suc (k + 1) + 1)) (b + 1728 * v * 3 + 1728 * v * 3)
+pub moves : {s : Float} {z : ℤ} {k b : ℕ} (white black : ℤ) (v : ℕ) → Nearly s z k b → natAbs white ≤ 1728 → natAbs black ≤ 1728 → v ≤ 100
+    → b ≤ 10000000 → k ≤ 2 ^ 9
+    → Nearly (moved s white black (dbl (pos v))) (z +ℤ white *ℤ pos v *ℤ pos 3 -ℤ black *ℤ pos v *ℤ pos 3) (suc (suc (k + 1) + 1))
+    (b + 1728 * v * 3 + 1728 * v * 3)
 moves {s} {z} {k} {b} white black v p h i j r q =
     nearly-sub
-    (nearly-add p (nearly-tenth d10 (exactly-mul (exactly-int white 1728 h (omega arith)) (exactly-int (pos v) v (omega arith) (omega arith)) (omega arith)) ten (omega arith)) (omega arith) (omega arith))
-    (nearly-tenth d10 (exactly-mul (exactly-int black 1728 i (omega arith)) (exactly-int (pos v) v (omega arith) (omega arith)) (omega arith)) ten (omega arith))
+    (nearly-add p (nearly-tenth d10 (exactly-mul (exactly-int white 1728 h (omega arith)) (exactly-int (pos v) v (omega arith) (omega arith))
+    (omega arith)) ten (omega arith)) (omega arith) (omega arith))
+    (nearly-tenth d10 (exactly-mul (exactly-int black 1728 i (omega arith)) (exactly-int (pos v) v (omega arith) (omega arith)) (omega arith)) ten
+    (omega arith))
     (omega arith) (omega arith)
 
 -- ---- the part's exact sum, in the source's order, and as the exact sum has it
@@ -60,7 +66,8 @@ with z white black v = z +ℤ white *ℤ pos v *ℤ pos 3 -ℤ black *ℤ pos v 
 
 abbrev inOrder : Trace → ℤ
 inOrder t =
-    with (with (with (with (materialSum t *ℤ pos 30) (attackedIn t 1 0) (attackedIn t 1 1) 24) (attackedIn t 2 0) (attackedIn t 2 1) 47) (attackedIn t 3 0) (attackedIn t 3 1) 39)
+    with (with (with (with (materialSum t *ℤ pos 30) (attackedIn t 1 0) (attackedIn t 1 1) 24) (attackedIn t 2 0) (attackedIn t 2 1) 47)
+    (attackedIn t 3 0) (attackedIn t 3 1) 39)
     (attackedIn t 4 0) (attackedIn t 4 1) 21
     +ℤ pos 11 *ℤ t .side *ℤ pos 30
 
@@ -71,7 +78,8 @@ namedSum t =
     +ℤ sumZ 6 (λ kind. (attackedIn t kind 0 -ℤ attackedIn t kind 1) *ℤ pos (factorOf kind)) *ℤ pos 3
 
 -- z is p − n; a tenth of mobility more
-diff-with : (z white black : ℤ) (v p n : ℕ) → Diff z p n → Diff (with z white black v) (p + aboveZero white * v * 3 + belowZero black * v * 3) (n + belowZero white * v * 3 + aboveZero black * v * 3)
+diff-with : (z white black : ℤ) (v p n : ℕ) → Diff z p n → Diff (with z white black v) (p + aboveZero white * v * 3 + belowZero black * v * 3)
+    (n + belowZero white * v * 3 + aboveZero black * v * 3)
 diff-with z white black v p n d =
     diff-minus (z +ℤ white *ℤ pos v *ℤ pos 3) (black *ℤ pos v *ℤ pos 3) _ _ _ _
     (diff-add z (white *ℤ pos v *ℤ pos 3) p n _ _ d (diff-scale (white *ℤ pos v) 3 _ _ (diff-scale white v _ _ (diff-of white))))
@@ -94,7 +102,8 @@ regrouped m s a b c d e f g h i j k l =
     (diff-with (with (with (m *ℤ pos 30) c d 24) e f 47) g h 39 _ _
     (diff-with (with (m *ℤ pos 30) c d 24) e f 47 _ _
     (diff-with (m *ℤ pos 30) c d 24 _ _ (diff-scale m 30 _ _ (diff-of m))))))
-    (diff-scale (pos 11 *ℤ s) 30 (aboveZero s * 11) (belowZero s * 11) (subst (λ (z : ℤ). Diff z (aboveZero s * 11) (belowZero s * 11)) (*ℤ-comm s (pos 11)) (diff-scale s 11 _ _ (diff-of s)))))
+    (diff-scale (pos 11 *ℤ s) 30 (aboveZero s * 11) (belowZero s * 11)
+    (subst (λ (z : ℤ). Diff z (aboveZero s * 11) (belowZero s * 11)) (*ℤ-comm s (pos 11)) (diff-scale s 11 _ _ (diff-of s)))))
     (diff-add ((m +ℤ s *ℤ pos 11) *ℤ pos 30)
     ((pos 0 +ℤ (a -ℤ b) *ℤ pos 0 +ℤ (c -ℤ d) *ℤ pos 24 +ℤ (e -ℤ f) *ℤ pos 47 +ℤ (g -ℤ h) *ℤ pos 39 +ℤ (i -ℤ j) *ℤ pos 21 +ℤ (k -ℤ l) *ℤ pos 0) *ℤ pos 3) _ _ _ _
     (diff-scale (m +ℤ s *ℤ pos 11) 30 _ _ (diff-add m (s *ℤ pos 11) _ _ _ _ (diff-of m) (diff-scale s 11 _ _ (diff-of s))))
@@ -115,7 +124,8 @@ regrouped m s a b c d e f g h i j k l =
 in-order : (t : Trace) → inOrder t ≡ namedSum t
 unfolding namedSum sumZ
 in-order t =
-    regrouped (materialSum t) (t .side) (attackedIn t 0 0) (attackedIn t 0 1) (attackedIn t 1 0) (attackedIn t 1 1) (attackedIn t 2 0) (attackedIn t 2 1) (attackedIn t 3 0) (attackedIn t 3 1)
+    regrouped (materialSum t) (t .side) (attackedIn t 0 0) (attackedIn t 0 1) (attackedIn t 1 0) (attackedIn t 1 1) (attackedIn t 2 0)
+    (attackedIn t 2 1) (attackedIn t 3 0) (attackedIn t 3 1)
     (attackedIn t 4 0) (attackedIn t 4 1) (attackedIn t 5 0) (attackedIn t 5 1)
 
 -- 30·281154 + 6·1728·(24 + 47 + 39 + 21) + 330 thirtieths at most

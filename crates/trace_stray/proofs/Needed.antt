@@ -20,4 +20,5 @@ pub needed : Needed
 unfolding count
 needed shown =
     beyond
-    (subst (λ (x : Float). CloserThan (85 * million) x (negℤ (pos 3406) *ℤ pos 30)) high-fitted (shown high highBytes (ofSide 0) (negℤ (pos 3406)) refl (highest .scored)))
+    (subst (λ (x : Float). CloserThan (85 * million) x (negℤ (pos 3406) *ℤ pos 30)) high-fitted
+    (shown high highBytes (ofSide 0) (negℤ (pos 3406)) refl (highest .scored)))

@@ -53,9 +53,11 @@ five a b c d e t =
 
 pub ranged : (t : Trace) → inRanges t ≡ true → Ranged t
 ranged t e =
-    let all = five (countsWithin t) (allWithin (pos 1) (t .«bishop_pair»)) (allWithin (pos 1728) (t .mobility)) (isSide (t .side)) (within (pos 64) (t .«piece_count»)) (true-T e) in
+    let all = five (countsWithin t) (allWithin (pos 1) (t .«bishop_pair»)) (allWithin (pos 1728) (t .mobility)) (isSide (t .side))
+    (within (pos 64) (t .«piece_count»)) (true-T e) in
     let counts =
-    five (allWithin (pos 64) (t .pawns)) (allWithin (pos 64) (t .knights)) (allWithin (pos 64) (t .bishops)) (allWithin (pos 64) (t .rooks)) (allWithin (pos 64) (t .queens)) (all .0) in
+    five (allWithin (pos 64) (t .pawns)) (allWithin (pos 64) (t .knights)) (allWithin (pos 64) (t .bishops)) (allWithin (pos 64) (t .rooks))
+    (allWithin (pos 64) (t .queens)) (all .0) in
     record {
       pawns = λ i. at 64 (t .pawns) i (counts .0);
       knights = λ i. at 64 (t .knights) i (counts .1);

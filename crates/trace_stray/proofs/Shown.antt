@@ -15,9 +15,12 @@ use Rattle.trace_stray.proofs.Strayed.{is-near}
 -- A is near E, and E near S: all in D parts of a thirtieth
 nearer : (A E S : ℤ) (D : ℕ) → natAbs (A -ℤ E) * million < millionth * D → natAbs (E -ℤ S) ≤ 85 * D → natAbs (A -ℤ S) * million < agreed * D
 nearer A E S D h l =
-    let p = abs-diff (A -ℤ E) (aboveZero A + belowZero E) (belowZero A + aboveZero E) (natAbs (A -ℤ E)) (diff-minus A E _ _ _ _ (diff-of A) (diff-of E)) (omega arith) in
+    let p = abs-diff (A -ℤ E) (aboveZero A + belowZero E) (belowZero A + aboveZero E) (natAbs (A -ℤ E))
+    (diff-minus A E _ _ _ _ (diff-of A) (diff-of E)) (omega arith) in
     let q = abs-diff (E -ℤ S) (aboveZero E + belowZero S) (belowZero E + aboveZero S) (85 * D) (diff-minus E S _ _ _ _ (diff-of E) (diff-of S)) l in
-    let r : natAbs (A -ℤ S) ≤ natAbs (A -ℤ E) + 85 * D = diff-abs (A -ℤ S) (aboveZero A + belowZero S) (belowZero A + aboveZero S) (natAbs (A -ℤ E) + 85 * D) (diff-minus A S _ _ _ _ (diff-of A) (diff-of S)) (omega (arith, p .0, p .1, q .0, q .1)) (omega (arith, p .0, p .1, q .0, q .1)) in
+    let r : natAbs (A -ℤ S) ≤ natAbs (A -ℤ E) + 85 * D = diff-abs (A -ℤ S) (aboveZero A + belowZero S) (belowZero A + aboveZero S)
+    (natAbs (A -ℤ E) + 85 * D) (diff-minus A S _ _ _ _ (diff-of A) (diff-of S)) (omega (arith, p .0, p .1, q .0, q .1))
+    (omega (arith, p .0, p .1, q .0, q .1)) in
     sum (natAbs (A -ℤ S)) (natAbs (A -ℤ E)) h r
   where
     sum : (a b : ℕ) → b * million < millionth * D → a ≤ b + 85 * D → a * million < agreed * D
@@ -48,11 +51,16 @@ turned-back side s E = go (eqb side 0)
   where
     go : (t : Bool) → natAbs (s *ℤ pos 30 -ℤ cond t E (negℤ E)) ≤ 85 → natAbs (E -ℤ cond t s (negℤ s) *ℤ pos 30) ≤ 85
     go true l =
-        let q = abs-diff (s *ℤ pos 30 -ℤ E) (aboveZero s * 30 + belowZero E) (belowZero s * 30 + aboveZero E) 85 (diff-minus (s *ℤ pos 30) E _ _ _ _ (diff-scale s 30 _ _ (diff-of s)) (diff-of E)) l in
-        diff-abs (E -ℤ s *ℤ pos 30) (aboveZero E + belowZero s * 30) (belowZero E + aboveZero s * 30) 85 (diff-minus E (s *ℤ pos 30) _ _ _ _ (diff-of E) (diff-scale s 30 _ _ (diff-of s))) (omega (arith, q .0, q .1)) (omega (arith, q .0, q .1))
+        let q = abs-diff (s *ℤ pos 30 -ℤ E) (aboveZero s * 30 + belowZero E) (belowZero s * 30 + aboveZero E) 85
+        (diff-minus (s *ℤ pos 30) E _ _ _ _ (diff-scale s 30 _ _ (diff-of s)) (diff-of E)) l in
+        diff-abs (E -ℤ s *ℤ pos 30) (aboveZero E + belowZero s * 30) (belowZero E + aboveZero s * 30) 85
+        (diff-minus E (s *ℤ pos 30) _ _ _ _ (diff-of E) (diff-scale s 30 _ _ (diff-of s))) (omega (arith, q .0, q .1)) (omega (arith, q .0, q .1))
     go false l =
-        let q = abs-diff (s *ℤ pos 30 -ℤ negℤ E) (aboveZero s * 30 + aboveZero E) (belowZero s * 30 + belowZero E) 85 (diff-minus (s *ℤ pos 30) (negℤ E) _ _ _ _ (diff-scale s 30 _ _ (diff-of s)) (diff-neg E _ _ (diff-of E))) l in
-        diff-abs (E -ℤ negℤ s *ℤ pos 30) (aboveZero E + aboveZero s * 30) (belowZero E + belowZero s * 30) 85 (diff-minus E (negℤ s *ℤ pos 30) _ _ _ _ (diff-of E) (diff-scale (negℤ s) 30 _ _ (diff-neg s _ _ (diff-of s)))) (omega (arith, q .0, q .1)) (omega (arith, q .0, q .1))
+        let q = abs-diff (s *ℤ pos 30 -ℤ negℤ E) (aboveZero s * 30 + aboveZero E) (belowZero s * 30 + belowZero E) 85
+        (diff-minus (s *ℤ pos 30) (negℤ E) _ _ _ _ (diff-scale s 30 _ _ (diff-of s)) (diff-neg E _ _ (diff-of E))) l in
+        diff-abs (E -ℤ negℤ s *ℤ pos 30) (aboveZero E + aboveZero s * 30) (belowZero E + belowZero s * 30) 85
+        (diff-minus E (negℤ s *ℤ pos 30) _ _ _ _ (diff-of E) (diff-scale (negℤ s) 30 _ _ (diff-neg s _ _ (diff-of s)))) (omega (arith, q .0, q .1))
+        (omega (arith, q .0, q .1))
 
 pub shown : Shown
 shown bbs bytes state s kings e =

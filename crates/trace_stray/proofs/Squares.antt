@@ -18,7 +18,8 @@ use Rattle.places.specs.Places.{weightPlace, kindAt, squareAt, colourAt}
 use Rattle.doubles.specs.Doubles.{_⊕_, _⊖_, _⊗_, dbl, d2, d32}
 use Rattle.trace_shipped.specs.Weights.{squareWeight, shippedSquares}
 use Rattle.trace_double.specs.Double.{weightAt, between, entryAdded}
-use Rattle.trace_rounding.proofs.Doubles.{Exactly, exactly-int, exactly-add, exactly-sub, exactly-mul, Nearly, nearly-add, nearly-sub, nearly-minus-thirtieth, nearly-once}
+use Rattle.trace_rounding.proofs.Doubles.{Exactly, exactly-int, exactly-add, exactly-sub, exactly-mul, Nearly, nearly-add, nearly-sub}
+use Rattle.trace_rounding.proofs.Doubles.{nearly-minus-thirtieth, nearly-once}
 
 -- ---- the literals
 one : HasValue (dbl (pos 1)) false 1 1
@@ -81,7 +82,8 @@ term-nearly : (x : Float) (z : ℤ) (k : ℕ) → k < 768 → Exactly x z 64
 term-nearly x z k h r =
     nearly-once (dbl (pos 1))
     one
-    (between-nearly (weight-exactly (weightPlace (kindAt k) 0 (squareAt k)) (omega arith)) (weight-exactly (weightPlace (kindAt k) 1 (squareAt k)) (omega arith)) r)
+    (between-nearly (weight-exactly (weightPlace (kindAt k) 0 (squareAt k)) (omega arith))
+    (weight-exactly (weightPlace (kindAt k) 1 (squareAt k)) (omega arith)) r)
     (lit≤ tt) (lit≤ tt)
 
 -- ONE ENTRY MORE; an entry of 0 leaves the sum
@@ -102,9 +104,11 @@ step {s} {w} x z g k (suc zero) r h l m p = go (eqb (colourAt k) 0)
 
     go : (t : Bool) → Sum (cond t (s ⊕ v) (s ⊖ v)) (w +ℤ cond t (pos 1 *ℤ weightOf z k) (negℤ (pos 1 *ℤ weightOf z k))) (g + 1)
     go true = record {
-      nearly = same (ap (λ (i : ℤ). w +ℤ i) (sym (once (weightOf z k)))) (omega arith) (omega arith) (nearly-add (p .nearly) (term-nearly x z k h r) (omega arith) (omega arith));
+      nearly = same (ap (λ (i : ℤ). w +ℤ i) (sym (once (weightOf z k)))) (omega arith) (omega arith)
+          (nearly-add (p .nearly) (term-nearly x z k h r) (omega arith) (omega arith));
     }
     go false = record {
-      nearly = same (ap (λ (i : ℤ). w +ℤ negℤ i) (sym (once (weightOf z k)))) (omega arith) (omega arith) (nearly-sub (p .nearly) (term-nearly x z k h r) (omega arith) (omega arith));
+      nearly = same (ap (λ (i : ℤ). w +ℤ negℤ i) (sym (once (weightOf z k)))) (omega arith) (omega arith)
+          (nearly-sub (p .nearly) (term-nearly x z k h r) (omega arith) (omega arith));
     }
 step x z g k (suc (suc n)) r h l m p = absurd (omega arith)

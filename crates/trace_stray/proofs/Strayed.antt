@@ -64,7 +64,8 @@ every-trace t entries x e =
     let shape = passed (eqb (length entries) 768 && eqb (length shippedSquares) 768) R.Shape x _ e in
     let range = passed (inRanges t && areEntries entries) R.Trace x (given (double t entries shipped shippedSquares)) (shape .1) in
     subst (λ (y : Float). CloserThan millionth y (exactSum shippedWhole t entries)) (same-given (double t entries shipped shippedSquares) x (range .1))
-    (strays t entries (T-true (inRanges t) (and-l (inRanges t) (areEntries entries) (true-T (range .0)))) (T-true (areEntries entries) (and-r (inRanges t) (areEntries entries) (true-T (range .0)))))
+    (strays t entries (T-true (inRanges t) (and-l (inRanges t) (areEntries entries) (true-T (range .0))))
+    (T-true (areEntries entries) (and-r (inRanges t) (areEntries entries) (true-T (range .0)))))
 
 -- ---- a position's trace
 squares-length : length shippedSquares ≡ 768
@@ -74,10 +75,12 @@ squares-length = tabulate-length 768 (λ i. dbl (squareWeight i))
 -- what `Trace::eval` answers
 is-given : (bbs : List ℕ) (side : ℕ) → doubleOf (traceOf bbs side) (entriesOf bbs) shipped shippedSquares ≡ given (shippedDouble bbs side)
 is-given bbs side =
-    answered (eqb (length (entriesOf bbs)) 768) (eqb (length shippedSquares) 768) (inRanges (traceOf bbs side)) (areEntries (entriesOf bbs)) R.Shape R.Trace (shippedDouble bbs side)
+    answered (eqb (length (entriesOf bbs)) 768) (eqb (length shippedSquares) 768) (inRanges (traceOf bbs side)) (areEntries (entriesOf bbs)) R.Shape
+    R.Trace (shippedDouble bbs side)
     (ap (λ (n : ℕ). eqb n 768) (entries-length bbs)) (ap (λ (n : ℕ). eqb n 768) squares-length) (in-ranges bbs side) (are-entries bbs)
   where
-    answered : (a b c d : Bool) (m n : Refusal) (x : Float) → a ≡ true → b ≡ true → c ≡ true → d ≡ true → orRefuse (a && b) m (orRefuse (c && d) n (given x)) ≡ given x
+    answered : (a b c d : Bool) (m n : Refusal) (x : Float) → a ≡ true → b ≡ true → c ≡ true → d ≡ true
+        → orRefuse (a && b) m (orRefuse (c && d) n (given x)) ≡ given x
     answered a b c d m n x p q r s = rw (p, q, r, s)
 
 pub is-near : (bbs : List ℕ) (side : ℕ) → CloserThan millionth (shippedDouble bbs side) (exact bbs side)

@@ -50,7 +50,8 @@ module _ (e : ℕ → ℤ) (x : ℤ) where
   unfolding squareSum
   squares-placed =
       sym (sum-blocks 128 6 adds
-      ∙ whole-same 6 (λ kind. sumZ 128 (λ j. adds (128 * kind + j))) (λ kind. sumZ 64 (λ s. term shippedWhole e x kind s 0 -ℤ term shippedWhole e x kind s 1)) (λ kind h. a-kind kind))
+      ∙ whole-same 6 (λ kind. sumZ 128 (λ j. adds (128 * kind + j))) (λ kind. sumZ 64
+      (λ s. term shippedWhole e x kind s 0 -ℤ term shippedWhole e x kind s 1)) (λ kind h. a-kind kind))
 
 pub exact-placed : (t : Trace) (entries : List ℤ)
     → exactSum shippedWhole t entries ≡ namedSum t +ℤ sumZ 768 (λ k. placed (t .«piece_count») k (getD entries k (pos 0)))

@@ -54,7 +54,8 @@ exact bbs side = exactSum shippedWhole (traceOf bbs side) (entriesOf bbs)
 abbrev pub Stray : Type 0
 Stray =
     (bbs bytes : List ℕ) (side : ℕ) → consistent bbs bytes ≡ true
-    → (doubleOf (traceOf bbs side) (entriesOf bbs) shipped shippedSquares ≡ given (shippedDouble bbs side)) × CloserThan millionth (shippedDouble bbs side) (exact bbs side)
+    → (doubleOf (traceOf bbs side) (entriesOf bbs) shipped shippedSquares ≡ given (shippedDouble bbs side))
+    × CloserThan millionth (shippedDouble bbs side) (exact bbs side)
 
 -- the same for every trace that `Trace::eval` does not refuse, a position's or not
 abbrev pub EveryTrace : Type 0

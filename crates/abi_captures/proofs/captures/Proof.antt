@@ -22,7 +22,8 @@ returns c =
     let k = c .before .before .before .before in
     let a = k .before .before .before .before .args in
     let g = c .before .before .checked .given in
-    passed-refused (a .mode) (a .order .now) (a .bitboards .now) (a .board .now) (a .state) (a .from) (a .to) _ _ _ _ _ (k .captures .result) (k .before .taken .result) (k .before .taken .ensures) (k .captures .ensures) (g .0 .0) (g .1) (c .refused .result)
+    passed-refused (a .mode) (a .order .now) (a .bitboards .now) (a .board .now) (a .state) (a .from) (a .to) _ _ _ _ _ (k .captures .result)
+    (k .before .taken .result) (k .before .taken .ensures) (k .captures .ensures) (g .0 .0) (g .1) (c .refused .result)
     (c .refused .ensures)
 
 enum-told : tie.Need-enum-told
@@ -36,7 +37,8 @@ returns-2 c =
     let t = c .before .before .before .before .before in
     let k = t .before .before in
     let a = k .before .before .before .before .args in
-    passed-told (a .mode) (a .order .now) (a .bitboards .now) (a .board .now) (a .state) (a .from) (a .to) _ _ _ _ _ (k .captures .result) (k .before .taken .result) (k .before .taken .ensures) (k .captures .ensures) (t .enum-told .given .1) _
+    passed-told (a .mode) (a .order .now) (a .bitboards .now) (a .board .now) (a .state) (a .from) (a .to) _ _ _ _ _ (k .captures .result)
+    (k .before .taken .result) (k .before .taken .ensures) (k .captures .ensures) (t .enum-told .given .1) _
     (k .captures .result .listed .count) (c .stop-number .result) refl refl (c .stop-number .ensures)
 
 pub captures-spec : {M : Type 1} → statement M

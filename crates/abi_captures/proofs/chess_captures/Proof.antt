@@ -25,7 +25,8 @@ returns : tie.Need-returns
 returns c =
     let n = c .before .before .before .before in
     let a = n .before .before .before .args in
-    not-said (a .mode) (n .mode-of .result) (n .mode-of .ensures) (λ mode. toldOf mode (a .order .now) (a .bitboards .now) (a .board .now) (stateTaken (a .state)) (a .from) (a .to)) (c .before .before .named .given .0 .0) (c .before .before .named .given .1)
+    not-said (a .mode) (n .mode-of .result) (n .mode-of .ensures) (λ mode. toldOf mode (a .order .now) (a .bitboards .now) (a .board .now)
+    (stateTaken (a .state)) (a .from) (a .to)) (c .before .before .named .given .0 .0) (c .before .before .named .given .1)
     _ _ _ _ _ (c .refused .result) (c .refused .ensures)
 
 returns-2 : tie.Need-returns-2
@@ -33,7 +34,8 @@ returns-2 c =
     let d = c .before .before .before .before .before .before .before in
     let n = d .before .before in
     let a = n .before .before .before .args in
-    said-in (a .mode) (n .mode-of .result) (n .mode-of .ensures) (λ mode. toldOf mode (a .order .now) (a .bitboards .now) (a .board .now) (stateTaken (a .state)) (a .from) (a .to)) (d .named2 .given .0 .0) (d .named2 .given .1)
+    said-in (a .mode) (n .mode-of .result) (n .mode-of .ensures) (λ mode. toldOf mode (a .order .now) (a .bitboards .now) (a .board .now)
+    (stateTaken (a .state)) (a .from) (a .to)) (d .named2 .given .0 .0) (d .named2 .given .1)
     _ _ _ _ _ (c .captures .result) _ _ _ _ _ (c .captures .ensures)
 
 pub chess-captures-spec : {M : Type 1} → statement M

@@ -27,7 +27,8 @@ returns c =
     let r = k .compute-list .result in
     let s = k .before .before .before .before .before in
     traced (now (s .args .bitboards)) (now (s .args .board)) (s .args .state) (r .used) (k .before .before .taken .ensures)
-    (sym (ap (λ (x : Checked). paperOf x (r .trace)) (c .before .before .checked .given .1)) ∙ k .compute-list .ensures .answer) (c .refused .ensures) refl refl refl refl refl (k .compute-list .ensures .used)
+    (sym (ap (λ (x : Checked). paperOf x (r .trace)) (c .before .before .checked .given .1)) ∙ k .compute-list .ensures .answer) (c .refused .ensures)
+    refl refl refl refl refl (k .compute-list .ensures .used)
     (k .compute-list .ensures .lent)
 
 enum-told : tie.Need-enum-told

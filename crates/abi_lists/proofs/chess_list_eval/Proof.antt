@@ -19,17 +19,21 @@ use Rattle.abi_lists.proofs.chess_list_eval.Statement.{statement}
 use Rattle.abi_lists.proofs.chess_list_eval.Tie as tie
 
 -- the records that the call was handed are those of the lent numbers
-lent : (n : ℕ) (l : List ℕ) (q : List Float) (t u : Trace) (w v : Weights) {r : Answer Float} → r ≡ listDoubleOf t n l w q → t ≡ u → w ≡ v → r ≡ listDoubleOf u n l v q
+lent : (n : ℕ) (l : List ℕ) (q : List Float) (t u : Trace) (w v : Weights) {r : Answer Float} → r ≡ listDoubleOf t n l w q → t ≡ u → w ≡ v
+    → r ≡ listDoubleOf u n l v q
 lent n l q t u w v p f g = p ∙ ap (λ (x : Trace). listDoubleOf x n l w q) f ∙ ap (λ (x : Weights). listDoubleOf u n l x q) g
 
 handed : (k : tie.After-eval-list)
     → paper (k .eval-list .result)
-    ≡ listDoubleOf (traceOfNumbers (now (k .before .before .before .before .args .counts)) (now (k .before .before .before .before .args .mobility)) (k .before .before .before .before .args .sign) (k .before .before .before .before .args .pieces))
-    (k .before .before .before .before .args .used) (now (k .before .before .before .before .args .list)) (weightsOf (now (k .before .before .before .before .args .weights))) (now (k .before .before .before .before .args .squares))
+    ≡ listDoubleOf (traceOfNumbers (now (k .before .before .before .before .args .counts)) (now (k .before .before .before .before .args .mobility))
+    (k .before .before .before .before .args .sign) (k .before .before .before .before .args .pieces))
+    (k .before .before .before .before .args .used) (now (k .before .before .before .before .args .list))
+    (weightsOf (now (k .before .before .before .before .args .weights))) (now (k .before .before .before .before .args .squares))
 handed k =
     let s = k .before .before .before .before in
     let a = s .args in
-    lent (a .used) (now (a .list)) (now (a .squares)) (k .before .before .trace-of .result) (traceOfNumbers (now (a .counts)) (now (a .mobility)) (a .sign) (a .pieces))
+    lent (a .used) (now (a .list)) (now (a .squares)) (k .before .before .trace-of .result)
+    (traceOfNumbers (now (a .counts)) (now (a .mobility)) (a .sign) (a .pieces))
     (k .before .weights-of .result) (weightsOf (now (a .weights))) (k .eval-list .ensures)
     (k .before .before .trace-of .ensures
     ∙ trace-same refl refl refl refl refl refl refl (toZ-ofZ w32 (a .sign) (s .fits .sign)) (toZ-ofZ w32 (a .pieces) (s .fits .pieces)))

@@ -13,7 +13,8 @@ use Rattle.abi_lists.proofs.chess_list_of.Tie as tie
 -- the trace that the call was handed is that of the lent numbers
 handed : (k : tie.After-list-of)
     → k .before .before .trace-of .result
-    ≡ traceOfNumbers (now (k .before .before .before .args .counts)) (now (k .before .before .before .args .mobility)) (k .before .before .before .args .sign) (k .before .before .before .args .pieces)
+    ≡ traceOfNumbers (now (k .before .before .before .args .counts)) (now (k .before .before .before .args .mobility))
+    (k .before .before .before .args .sign) (k .before .before .before .args .pieces)
 handed k =
     let s = k .before .before .before in
     k .before .before .trace-of .ensures
@@ -38,7 +39,8 @@ returns : tie.Need-returns
 returns c =
     let k = c .before .before .before .before in
     let a = k .before .before .before .args in
-    list-passed (now (a .counts)) (now (a .mobility)) (a .sign) (a .pieces) (k .list-of .ensures) (handed k) (c .before .before .answer .given .1) (c .refused .ensures) refl
+    list-passed (now (a .counts)) (now (a .mobility)) (a .sign) (a .pieces) (k .list-of .ensures) (handed k) (c .before .before .answer .given .1)
+    (c .refused .ensures) refl
 
 returns-2 : tie.Need-returns-2
 returns-2 c =

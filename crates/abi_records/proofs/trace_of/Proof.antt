@@ -28,7 +28,8 @@ pair-requires-6 c κs = search needs
 returns : tie.Need-returns
 returns c =
     let s = c .before .before .before .before .before .before .before in
-    trace-same (c .before .before .before .before .before .pair .ensures) (c .before .before .before .before .pair2 .ensures) (c .before .before .before .pair3 .ensures) (c .before .before .pair4 .ensures) (c .before .pair5 .ensures) (c .pair6 .ensures) refl
+    trace-same (c .before .before .before .before .before .pair .ensures) (c .before .before .before .before .pair2 .ensures)
+    (c .before .before .before .pair3 .ensures) (c .before .before .pair4 .ensures) (c .before .pair5 .ensures) (c .pair6 .ensures) refl
     (toZ-ofZ w32 (s .args .side) (s .fits .side)) (toZ-ofZ w32 (s .args .pieces) (s .fits .pieces))
 
 pub trace-of-spec : {M : Type 1} → statement M

@@ -41,8 +41,12 @@ same-length-3 c = search needs
 
 returns : tie.Need-returns
 returns c =
-    let a = c .before .before .before .before .before .before .before .before .before .before .before .before .before .before .before .before .before .before .before .before .args in
-    sifted-through (now (a .state)) (now (a .line)) (now (a .chunk)) (now (a .samples)) (now (a .rows)) (now (a .sampled)) (now (a .wrote)) (c .before .before .before .before .before .before .before .before .before .before .before .before .before .before .state-of .ensures) (c .before .before .before .before .before .before .before .before .before .before .feed .ensures) (c .before .before .fed .given .1) refl (c .numbers-of .ensures) refl refl
+    let a = c .before .before .before .before .before .before .before .before .before .before .before .before .before .before .before .before .before
+    .before .before .before .args in
+    sifted-through (now (a .state)) (now (a .line)) (now (a .chunk)) (now (a .samples)) (now (a .rows)) (now (a .sampled)) (now (a .wrote))
+    (c .before .before .before .before .before .before .before .before .before .before .before .before .before .before .state-of .ensures)
+    (c .before .before .before .before .before .before .before .before .before .before .feed .ensures) (c .before .before .fed .given .1) refl
+    (c .numbers-of .ensures) refl refl
 
 same-length-4 : tie.Need-same-length-4
 same-length-4 c = search needs
@@ -55,8 +59,11 @@ same-length-6 c = search needs
 
 returns-2 : tie.Need-returns-2
 returns-2 c =
-    let a = c .before .before .before .before .before .before .before .before .before .before .before .before .before .before .before .before .before .before .args in
-    sifted-through (now (a .state)) (now (a .line)) (now (a .chunk)) (now (a .samples)) (now (a .rows)) (now (a .sampled)) (now (a .wrote)) (c .before .before .before .before .before .before .before .before .before .before .before .before .state-of .ensures) (c .before .before .before .before .before .before .before .before .feed .ensures) (c .enum-told .given .1) refl refl refl refl
+    let a = c .before .before .before .before .before .before .before .before .before .before .before .before .before .before .before .before .before
+    .before .args in
+    sifted-through (now (a .state)) (now (a .line)) (now (a .chunk)) (now (a .samples)) (now (a .rows)) (now (a .sampled)) (now (a .wrote))
+    (c .before .before .before .before .before .before .before .before .before .before .before .before .state-of .ensures)
+    (c .before .before .before .before .before .before .before .before .feed .ensures) (c .enum-told .given .1) refl refl refl refl
 
 same-length-7 : tie.Need-same-length-7
 same-length-7 c = search needs
@@ -69,8 +76,11 @@ same-length-9 c = search needs
 
 returns-3 : tie.Need-returns-3
 returns-3 c =
-    let a = c .before .before .before .before .before .before .before .before .before .before .before .before .before .before .before .before .before .before .args in
-    sifted-through (now (a .state)) (now (a .line)) (now (a .chunk)) (now (a .samples)) (now (a .rows)) (now (a .sampled)) (now (a .wrote)) (c .before .before .before .before .before .before .before .before .before .before .before .before .state-of .ensures) (c .before .before .before .before .before .before .before .before .feed .ensures) (c .enum-told2 .given .1) refl refl refl refl
+    let a = c .before .before .before .before .before .before .before .before .before .before .before .before .before .before .before .before .before
+    .before .args in
+    sifted-through (now (a .state)) (now (a .line)) (now (a .chunk)) (now (a .samples)) (now (a .rows)) (now (a .sampled)) (now (a .wrote))
+    (c .before .before .before .before .before .before .before .before .before .before .before .before .state-of .ensures)
+    (c .before .before .before .before .before .before .before .before .feed .ensures) (c .enum-told2 .given .1) refl refl refl refl
 
 same-length-10 : tie.Need-same-length-10
 same-length-10 c = search needs
@@ -83,8 +93,12 @@ same-length-12 c = search needs
 
 returns-4 : tie.Need-returns-4
 returns-4 c =
-    let a = c .before .before .before .before .before .before .before .before .before .before .before .before .before .before .before .before .before .before .before .before .args in
-    sifted-through (now (a .state)) (now (a .line)) (now (a .chunk)) (now (a .samples)) (now (a .rows)) (now (a .sampled)) (now (a .wrote)) (c .before .before .before .before .before .before .before .before .before .before .before .before .before .before .state-of .ensures) (c .before .before .before .before .before .before .before .before .before .before .feed .ensures) (c .before .before .fed2 .given .1) (c .refused .ensures) refl refl refl
+    let a = c .before .before .before .before .before .before .before .before .before .before .before .before .before .before .before .before .before
+    .before .before .before .args in
+    sifted-through (now (a .state)) (now (a .line)) (now (a .chunk)) (now (a .samples)) (now (a .rows)) (now (a .sampled)) (now (a .wrote))
+    (c .before .before .before .before .before .before .before .before .before .before .before .before .before .before .state-of .ensures)
+    (c .before .before .before .before .before .before .before .before .before .before .feed .ensures) (c .before .before .fed2 .given .1)
+    (c .refused .ensures) refl refl refl
 
 pub chess-samples-feed-spec : {M : Type 1} → statement M
 chess-samples-feed-spec =

@@ -36,7 +36,9 @@ same-length-2 c = search needs
 returns : tie.Need-returns
 returns c =
     let a = c .before .before .before .before .before .before .before .before .before .before .before .before .before .before .args in
-    ended-through (now (a .state)) (now (a .line)) (now (a .samples)) (now (a .rows)) (now (a .sampled)) (now (a .wrote)) (c .before .before .before .before .before .before .before .before .before .before .state-of .ensures) (c .before .before .before .before .before .before .before .finish .ensures) (c .before .finished .given .1) refl refl refl
+    ended-through (now (a .state)) (now (a .line)) (now (a .samples)) (now (a .rows)) (now (a .sampled)) (now (a .wrote))
+    (c .before .before .before .before .before .before .before .before .before .before .state-of .ensures)
+    (c .before .before .before .before .before .before .before .finish .ensures) (c .before .finished .given .1) refl refl refl
 
 same-length-3 : tie.Need-same-length-3
 same-length-3 c = search needs
@@ -47,7 +49,9 @@ same-length-4 c = search needs
 returns-2 : tie.Need-returns-2
 returns-2 c =
     let a = c .before .before .before .before .before .before .before .before .before .before .before .before .before .args in
-    ended-through (now (a .state)) (now (a .line)) (now (a .samples)) (now (a .rows)) (now (a .sampled)) (now (a .wrote)) (c .before .before .before .before .before .before .before .before .before .state-of .ensures) (c .before .before .before .before .before .before .finish .ensures) (c .enum-told .given .1) refl refl refl
+    ended-through (now (a .state)) (now (a .line)) (now (a .samples)) (now (a .rows)) (now (a .sampled)) (now (a .wrote))
+    (c .before .before .before .before .before .before .before .before .before .state-of .ensures)
+    (c .before .before .before .before .before .before .finish .ensures) (c .enum-told .given .1) refl refl refl
 
 same-length-5 : tie.Need-same-length-5
 same-length-5 c = search needs
@@ -58,7 +62,9 @@ same-length-6 c = search needs
 returns-3 : tie.Need-returns-3
 returns-3 c =
     let a = c .before .before .before .before .before .before .before .before .before .before .before .before .before .args in
-    ended-through (now (a .state)) (now (a .line)) (now (a .samples)) (now (a .rows)) (now (a .sampled)) (now (a .wrote)) (c .before .before .before .before .before .before .before .before .before .state-of .ensures) (c .before .before .before .before .before .before .finish .ensures) (c .enum-told2 .given .1) refl refl refl
+    ended-through (now (a .state)) (now (a .line)) (now (a .samples)) (now (a .rows)) (now (a .sampled)) (now (a .wrote))
+    (c .before .before .before .before .before .before .before .before .before .state-of .ensures)
+    (c .before .before .before .before .before .before .finish .ensures) (c .enum-told2 .given .1) refl refl refl
 
 same-length-7 : tie.Need-same-length-7
 same-length-7 c = search needs
@@ -69,7 +75,10 @@ same-length-8 c = search needs
 returns-4 : tie.Need-returns-4
 returns-4 c =
     let a = c .before .before .before .before .before .before .before .before .before .before .before .before .before .before .before .args in
-    ended-through (now (a .state)) (now (a .line)) (now (a .samples)) (now (a .rows)) (now (a .sampled)) (now (a .wrote)) (c .before .before .before .before .before .before .before .before .before .before .before .state-of .ensures) (c .before .before .before .before .before .before .before .before .finish .ensures) (c .before .before .finished2 .given .1) (c .refused .ensures) refl refl
+    ended-through (now (a .state)) (now (a .line)) (now (a .samples)) (now (a .rows)) (now (a .sampled)) (now (a .wrote))
+    (c .before .before .before .before .before .before .before .before .before .before .before .state-of .ensures)
+    (c .before .before .before .before .before .before .before .before .finish .ensures) (c .before .before .finished2 .given .1)
+    (c .refused .ensures) refl refl
 
 pub chess-samples-finish-spec : {M : Type 1} → statement M
 chess-samples-finish-spec =

@@ -34,7 +34,8 @@ returns c =
     let k = c .before .before .before .before .before .before .before .before .wanted in
     let t = c .before .before .before .before .before .before .before .before .before .taken in
     let q = c .before .before .refusal .given in
-    passed-refusal (now (a .bitboards)) (now (a .board)) (a .state) (t .result) (t .ensures) (a .request) (a .half) (now (a .out)) (now (a .length)) (w .last .1 .1 .1 .1 .0) (k .result) (k .ensures) (w .result) (w .ensures)
+    passed-refusal (now (a .bitboards)) (now (a .board)) (a .state) (t .result) (t .ensures) (a .request) (a .half) (now (a .out)) (now (a .length))
+    (w .last .1 .1 .1 .1 .0) (k .result) (k .ensures) (w .result) (w .ensures)
     (q .0 .0) (q .1) (c .refused .result) (c .refused .ensures)
 
 same-length-2 : tie.Need-same-length-2
@@ -47,7 +48,8 @@ returns-2 c =
     let k = c .before .before .before .before .before .before .before .wanted in
     let t = c .before .before .before .before .before .before .before .before .taken in
     let n = c .before .n .given in
-    passed-bytes (now (a .bitboards)) (now (a .board)) (a .state) (t .result) (t .ensures) (a .request) (a .half) (now (a .out)) (now (a .length)) (w .last .1 .1 .1 .1 .0) (k .result) (k .ensures) (w .result) (w .ensures)
+    passed-bytes (now (a .bitboards)) (now (a .board)) (a .state) (t .result) (t .ensures) (a .request) (a .half) (now (a .out)) (now (a .length))
+    (w .last .1 .1 .1 .1 .0) (k .result) (k .ensures) (w .result) (w .ensures)
     (n .0 .0) (n .1) _ refl
 
 pub chess-write-line-spec : {M : Type 1} → statement M

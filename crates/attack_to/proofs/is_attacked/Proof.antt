@@ -13,7 +13,8 @@ use Rattle.attack_to.proofs.is_attacked.Tie as tie
 returns : tie.Need-returns
 returns c =
     let a = c .before .before .before .args in
-    no-colour (a .color) (checked (a .bitboards .now) (a .board .now) (a .state) (onBoard (a .square) (isAttacked (a .bitboards .now) (a .square) (a .color)))) (omega arith)
+    no-colour (a .color) (checked (a .bitboards .now) (a .board .now) (a .state)
+    (onBoard (a .square) (isAttacked (a .bitboards .now) (a .square) (a .color)))) (omega arith)
 
 check-requires : tie.Need-check-requires
 check-requires c κs = search needs
@@ -27,7 +28,8 @@ returns-2 c =
     let a = k .before .before .before .before .args in
     pass-on (a .bitboards .now) (a .board .now) (a .state) (k .check .result) (k .check .ensures)
     (onBoard (a .square) (isAttacked (a .bitboards .now) (a .square) (a .color))) (c .before .refusal .given .0 .0) (c .before .refusal .given .1)
-    ∙ a-colour (a .color) (checked (a .bitboards .now) (a .board .now) (a .state) (onBoard (a .square) (isAttacked (a .bitboards .now) (a .square) (a .color)))) (omega arith)
+    ∙ a-colour (a .color) (checked (a .bitboards .now) (a .board .now) (a .state)
+    (onBoard (a .square) (isAttacked (a .bitboards .now) (a .square) (a .color)))) (omega arith)
 
 enum-told : tie.Need-enum-told
 enum-told c = search needs
@@ -38,8 +40,10 @@ returns-3 c =
     let k = e .before .before in
     let a = k .before .before .before .before .args in
     off-board (a .square) (isAttacked (a .bitboards .now) (a .square) (a .color)) (omega arith)
-    ∙ fit-rest (a .bitboards .now) (a .board .now) (a .state) (k .check .result) (k .check .ensures) (onBoard (a .square) (isAttacked (a .bitboards .now) (a .square) (a .color))) (e .enum-told .given .1)
-    ∙ a-colour (a .color) (checked (a .bitboards .now) (a .board .now) (a .state) (onBoard (a .square) (isAttacked (a .bitboards .now) (a .square) (a .color)))) (omega arith)
+    ∙ fit-rest (a .bitboards .now) (a .board .now) (a .state) (k .check .result) (k .check .ensures)
+    (onBoard (a .square) (isAttacked (a .bitboards .now) (a .square) (a .color))) (e .enum-told .given .1)
+    ∙ a-colour (a .color) (checked (a .bitboards .now) (a .board .now) (a .state)
+    (onBoard (a .square) (isAttacked (a .bitboards .now) (a .square) (a .color)))) (omega arith)
 
 is-attacked-requires : tie.Need-is-attacked-requires
 is-attacked-requires c κs = search needs
@@ -51,8 +55,10 @@ returns-4 c =
     let a = k .before .before .before .before .args in
     on-board (a .square) (isAttacked (a .bitboards .now) (a .square) (a .color)) (c .is-attacked .result) (omega arith)
     (c .is-attacked .ensures)
-    ∙ fit-rest (a .bitboards .now) (a .board .now) (a .state) (k .check .result) (k .check .ensures) (onBoard (a .square) (isAttacked (a .bitboards .now) (a .square) (a .color))) (e .enum-told .given .1)
-    ∙ a-colour (a .color) (checked (a .bitboards .now) (a .board .now) (a .state) (onBoard (a .square) (isAttacked (a .bitboards .now) (a .square) (a .color)))) (omega arith)
+    ∙ fit-rest (a .bitboards .now) (a .board .now) (a .state) (k .check .result) (k .check .ensures)
+    (onBoard (a .square) (isAttacked (a .bitboards .now) (a .square) (a .color))) (e .enum-told .given .1)
+    ∙ a-colour (a .color) (checked (a .bitboards .now) (a .board .now) (a .state)
+    (onBoard (a .square) (isAttacked (a .bitboards .now) (a .square) (a .color)))) (omega arith)
 
 pub is-attacked-spec : {M : Type 1} → statement M
 is-attacked-spec =

@@ -41,7 +41,8 @@ returns-3 c =
     let k = e .before .before in
     let a = k .before .before .before .before .args in
     ap given (c .is-check .ensures)
-    ∙ fit-rest (a .bitboards .now) (a .board .now) (a .state) (k .check .result) (k .check .ensures) (given (isCheck (a .bitboards .now) (a .color))) (e .enum-told .given .1)
+    ∙ fit-rest (a .bitboards .now) (a .board .now) (a .state) (k .check .result) (k .check .ensures) (given (isCheck (a .bitboards .now) (a .color)))
+    (e .enum-told .given .1)
     ∙ a-colour (a .color) (checked (a .bitboards .now) (a .board .now) (a .state) (given (isCheck (a .bitboards .now) (a .color)))) (omega arith)
 
 pub is-check-spec : {M : Type 1} → statement M

@@ -24,7 +24,11 @@ shl-t6 : tie.Need-shl-t6
 shl-t6 c = inside c
 
 returns-2 : tie.Need-returns-2
-returns-2 c = simp (ne-eqb (c .before .args .b) 0 (c .if1 .left), ← scan-is (c .before .args .b), take-away (c .before .args .b) (trailingZeros 64 (c .before .args .b)) (c .before .fits .b .fits) (inside c))
+returns-2 c = simp (
+  ne-eqb (c .before .args .b) 0 (c .if1 .left),
+  ← scan-is (c .before .args .b),
+  take-away (c .before .args .b) (trailingZeros 64 (c .before .args .b)) (c .before .fits .b .fits) (inside c),
+)
 
 pub next-spec : {M : Type 1} → statement M
 next-spec = tie.close (tie.spec returns cast-t4 cast-t5 shl-t6 returns-2)

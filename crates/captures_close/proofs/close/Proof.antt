@@ -56,20 +56,23 @@ returns c =
     let r = c .before .before .before .before .before .before .before .read in
     let g = c .before .before .before .before .before .answer .given in
     let p = c .before .before .refused in
-    line-refused (a .mode) (now (a .line)) (a .size) (r .result) (r .ensures) (g .0 .0) (g .1) (now (a .out)) (p .last .1 .1 .0) (a .at) (a .number) (p .result) (p .ensures)
+    line-refused (a .mode) (now (a .line)) (a .size) (r .result) (r .ensures) (g .0 .0) (g .1) (now (a .out)) (p .last .1 .1 .0) (a .at) (a .number)
+    (p .result) (p .ensures)
 
 same-length-2 : tie.Need-same-length-2
 same-length-2 c = search needs
 
 returns-2 : tie.Need-returns-2
 returns-2 c =
-    let a = c .before .before .before .before .before .before .before .before .before .before .before .before .before .before .before .before .before .before .before .args in
+    let a = c .before .before .before .before .before .before .before .before .before .before .before .before .before .before .before .before .before
+    .before .before .args in
     let r = c .before .before .before .before .before .before .before .before .before .before .before .before .before .before .before .before .read in
     let g = c .before .before .before .before .before .before .before .before .before .before .before .before .before .before .answer2 .given in
     let q = c .before .before .before .before .before .before .before .before .before .read2 in
     let t = c .before .before .before .before .captures in
     let p = c .before .before .put-told in
-    line-told (a .mode) (now (a .line)) (a .size) (r .result) (r .ensures) (g .0 .0) (g .0 .1 .0) (g .1) (q .result) (q .ensures) (t .result) (t .ensures) (now (a .out)) (p .last .1 .1 .0) (a .at) (a .number) (p .result) (p .ensures)
+    line-told (a .mode) (now (a .line)) (a .size) (r .result) (r .ensures) (g .0 .0) (g .0 .1 .0) (g .1) (q .result) (q .ensures) (t .result)
+    (t .ensures) (now (a .out)) (p .last .1 .1 .0) (a .at) (a .number) (p .result) (p .ensures)
 
 pub close-spec : {M : Type 1} → statement M
 close-spec =

@@ -43,7 +43,9 @@ returns c =
     let p = c .before .before .put in
     let w = c .before .before .before .before .before .before .write-listed in
     let a = c .before .before .before .before .before .before .before .before .before .args in
-    subst (λ (t : List ℕ). Puts (now (a .out)) (p .last .0) (a .at) t (p .result)) (adds-front (w .ensures) (fits-listed (a .line) (a .listed) (a .stop) (c .before .before .before .before .before .before .before .before .before .pre .most))) (p .ensures)
+    subst (λ (t : List ℕ). Puts (now (a .out)) (p .last .0) (a .at) t (p .result))
+    (adds-front (w .ensures) (fits-listed (a .line) (a .listed) (a .stop)
+    (c .before .before .before .before .before .before .before .before .before .pre .most))) (p .ensures)
 
 pub put-listed-spec : {M : Type 1} → statement M
 put-listed-spec =

@@ -24,7 +24,8 @@ returns : tie.Need-returns
 returns c =
     let a = c .before .before .before .before .before .before .before .before .args in
     let p = c .before .before .put-listed in
-    put-fit (now (a .out)) (p .last .1 .1 .1 .0) (a .at) (a .line) (a .told .checked) (a .told .listed) (a .told .stop) (p .result) (c .before .before .before .before .enum-told .given .1) (p .ensures)
+    put-fit (now (a .out)) (p .last .1 .1 .1 .0) (a .at) (a .line) (a .told .checked) (a .told .listed) (a .told .stop) (p .result)
+    (c .before .before .before .before .enum-told .given .1) (p .ensures)
 
 same-length-2 : tie.Need-same-length-2
 same-length-2 c = search needs
@@ -34,7 +35,8 @@ returns-2 c =
     let a = c .before .before .before .before .before .before .before .before .before .args in
     let p = c .before .before .refused in
     let g = c .before .before .before .before .before .checked .given in
-    put-refused (now (a .out)) (p .last .1 .1 .0) (a .at) (a .line) (a .told .checked) (a .told .listed) (a .told .stop) (p .result) (g .0 .0) (g .1) (p .ensures)
+    put-refused (now (a .out)) (p .last .1 .1 .0) (a .at) (a .line) (a .told .checked) (a .told .listed) (a .told .stop) (p .result) (g .0 .0) (g .1)
+    (p .ensures)
 
 pub put-told-spec : {M : Type 1} → statement M
 put-told-spec =

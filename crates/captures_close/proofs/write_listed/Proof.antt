@@ -26,13 +26,16 @@ slice-aggregate-write-captures-3 : tie.Need-slice-aggregate-write-captures-3
 slice-aggregate-write-captures-3 c = search needs
 
 write-captures-requires : tie.Need-write-captures-requires
-write-captures-requires c κs = let p = c .before .before .before .before .before .before .before .before .pre in record { room = p .0; most = p .1 .most; froms = p .1 .froms; kinds = p .1 .kinds; values = p .1 .values }
+write-captures-requires c κs = let p = c .before .before .before .before .before .before .before .before .pre in
+    record { room = p .0; most = p .1 .most; froms = p .1 .froms; kinds = p .1 .kinds; values = p .1 .values }
 
 array-share-prefix-taken : tie.Need-array-share-prefix-taken
 array-share-prefix-taken c = c .before .before .before .before .before .before .before .before .before .before .before .pre .1 .values
 
 slice-aggregate-settle : tie.Need-slice-aggregate-settle
-slice-aggregate-settle c = let a = c .before .before .before .before .before .before .before .before .before .before .before .before .args in sym (length-take-le (a .listed .count) (a .listed .taken) (c .before .before .before .before .before .before .before .before .before .before .before .before .pre .1 .values))
+slice-aggregate-settle c = let a = c .before .before .before .before .before .before .before .before .before .before .before .before .args in
+    sym (length-take-le (a .listed .count) (a .listed .taken)
+    (c .before .before .before .before .before .before .before .before .before .before .before .before .pre .1 .values))
 
 settle-requires : tie.Need-settle-requires
 settle-requires c κs = search needs
@@ -48,14 +51,19 @@ same-length c = search needs
 
 returns : tie.Need-returns
 returns c =
-    let a = c .before .before .before .before .before .before .before .before .before .before .before .before .before .before .before .before .before .before .args in
+    let a = c .before .before .before .before .before .before .before .before .before .before .before .before .before .before .before .before .before
+    .before .args in
     let w = c .before .before .before .before .before .before .before .before .before .write-captures in
     let z = c .before .before .before .before .before .settle in
     let s = c .before .before .before .stop in
     let worth = toZ-ofZ {w = w32} {z = z .result} (sfits-of (z .ok)) ∙ z .ensures in
     let put = subst (λ (v : ℤ). Puts (w .last .0) (s .last .1 .1 .1 .0) (w .result) (stopRow (a .line) (stopped (a .stop)) v) (s .result)) worth (s .ensures) in
-    then-stop (a .line) (a .listed) (a .stop) (now (a .out)) (w .last .0) (s .last .1 .1 .1 .0) (w .result) (c .or .result) (c .before .before .before .before .before .before .before .before .before .before .before .before .before .before .before .before .before .before .pre .0) (c .before .before .before .before .before .before .before .before .before .before .before .before .before .before .before .before .before .before .pre .1 .most) (w .ensures)
-    (adds-or (w .last .0) (w .result) (stopRow (a .line) (stopped (a .stop)) (settled (take (a .listed .count) (a .listed .taken)))) (s .last .1 .1 .1 .0) (s .result) (c .or .result) put (c .or .ensures))
+    then-stop (a .line) (a .listed) (a .stop) (now (a .out)) (w .last .0) (s .last .1 .1 .1 .0) (w .result) (c .or .result)
+    (c .before .before .before .before .before .before .before .before .before .before .before .before .before .before .before .before .before
+    .before .pre .0) (c .before .before .before .before .before .before .before .before .before .before .before .before .before .before .before
+    .before .before .before .pre .1 .most) (w .ensures)
+    (adds-or (w .last .0) (w .result) (stopRow (a .line) (stopped (a .stop)) (settled (take (a .listed .count) (a .listed .taken))))
+    (s .last .1 .1 .1 .0) (s .result) (c .or .result) put (c .or .ensures))
 
 pub write-listed-spec : {M : Type 1} → statement M
 write-listed-spec =

@@ -15,13 +15,15 @@ use Rattle.captures_feed.proofs.take.Tie as tie
 
 abbrev Inv-loop : tie.InvT-loop
 Inv-loop mode line₀ chunk out₀ begun₀ written₀ at₀ line out begun written at =
-    Turn mode (runBy (closeTold mode) (opened begun₀ line₀) (record { loaded = written₀ .loaded; refused = written₀ .refused; text = [] }) chunk) chunk out₀ line out begun written at
+    Turn mode (runBy (closeTold mode) (opened begun₀ line₀) (record { loaded = written₀ .loaded; refused = written₀ .refused; text = [] }) chunk) chunk
+    out₀ line out begun written at
 
 abbrev μ-loop : tie.MeasureT-loop
 μ-loop mode line₀ chunk out₀ begun₀ written₀ at₀ line out begun written at = length chunk - at
 
 loop-holds : tie.Need-loop-holds Inv-loop μ-loop
-loop-holds c = let a = c .before .before .before .args in turn-none (a .mode) (a .state) (now (a .line)) (now (a .chunk)) (now (a .out)) (c .before .before .before .pre)
+loop-holds c = let a = c .before .before .before .args in turn-none (a .mode) (a .state) (now (a .line)) (now (a .chunk)) (now (a .out))
+    (c .before .before .before .pre)
 
 next-requires : tie.Need-next-requires Inv-loop μ-loop
 next-requires c κs = search needs
@@ -31,14 +33,16 @@ counted-requires c κs =
     let a = c .before .before .before .before .before .before .before .before .before .before .before .before .args in
     let l = c .before .before .before .before .before .before .before .before .loop in
     let n = c .before .before .before .before .before .next in
-    turn-ready (a .mode) (ranOf (a .mode) (a .state) (now (a .line)) (now (a .chunk))) (now (a .chunk)) (now (a .out)) (l .line) (l .out) (l .begun) (l .written) (l .at) (l .inv) (n .result) (n .last .1 .0) (n .ensures)
+    turn-ready (a .mode) (ranOf (a .mode) (a .state) (now (a .line)) (now (a .chunk))) (now (a .chunk)) (now (a .out)) (l .line) (l .out) (l .begun)
+    (l .written) (l .at) (l .inv) (n .result) (n .last .1 .0) (n .ensures)
 
 loop-less : tie.Need-loop-less Inv-loop μ-loop
 loop-less c =
     let a = c .before .before .before .before .before .before .before .before .before .before .before .before .before .before .before .args in
     let l = c .before .before .before .before .before .before .before .before .before .before .before .loop in
     let n = c .before .before .before .before .before .before .before .before .next in
-    let h = turn-less (a .mode) (ranOf (a .mode) (a .state) (now (a .line)) (now (a .chunk))) (now (a .chunk)) (now (a .out)) (l .line) (l .out) (l .begun) (l .written) (l .at) (l .inv) (n .result) (n .last .1 .0) (n .ensures) (omega arith) in
+    let h = turn-less (a .mode) (ranOf (a .mode) (a .state) (now (a .line)) (now (a .chunk))) (now (a .chunk)) (now (a .out)) (l .line) (l .out)
+    (l .begun) (l .written) (l .at) (l .inv) (n .result) (n .last .1 .0) (n .ensures) (omega arith) in
     omega (arith, h)
 
 loop-again : tie.Need-loop-again Inv-loop μ-loop
@@ -47,7 +51,9 @@ loop-again c =
     let l = c .before .before .before .before .before .before .before .before .before .before .before .loop in
     let n = c .before .before .before .before .before .before .before .before .next in
     let k = c .before .before .counted in
-    turn-next (a .mode) (ranOf (a .mode) (a .state) (now (a .line)) (now (a .chunk))) (now (a .chunk)) (now (a .out)) (l .line) (l .out) (l .begun) (l .written) (l .at) (l .inv) (n .result) (n .last .1 .0) (n .ensures) (c .before .before .before .before .before .before .before .before .before .before .loop-test .taken) (k .last .1 .1 .1 .1 .1 .0) (k .result) (k .ensures)
+    turn-next (a .mode) (ranOf (a .mode) (a .state) (now (a .line)) (now (a .chunk))) (now (a .chunk)) (now (a .out)) (l .line) (l .out) (l .begun)
+    (l .written) (l .at) (l .inv) (n .result) (n .last .1 .0) (n .ensures)
+    (c .before .before .before .before .before .before .before .before .before .before .loop-test .taken) (k .last .1 .1 .1 .1 .1 .0) (k .result) (k .ensures)
 
 made-requires : tie.Need-made-requires Inv-loop μ-loop
 made-requires c κs = search needs
@@ -62,7 +68,8 @@ returns : tie.Need-returns Inv-loop μ-loop
 returns c =
     let a = c .before .before .before .before .before .before .args in
     let l = c .before .before .loop in
-    turn-end (a .mode) (a .state) (now (a .line)) (now (a .chunk)) (now (a .out)) (l .line) (l .out) (l .begun) (l .written) (l .at) (omega arith) (l .inv) (c .made .result) (c .made .ensures)
+    turn-end (a .mode) (a .state) (now (a .line)) (now (a .chunk)) (now (a .out)) (l .line) (l .out) (l .begun) (l .written) (l .at) (omega arith)
+    (l .inv) (c .made .result) (c .made .ensures)
 
 pub take-spec : {M : Type 1} → statement M
 take-spec =

@@ -14,7 +14,8 @@ use Rattle.exchange_least.proofs.lvp.Tie as tie
 returns : tie.Need-returns
 returns c =
     let a = c .before .before .before .args in
-    no-colour (a .color) (checked (a .bitboards .now) (a .board .now) (a .state) (rest (a .order .now) (a .bitboards .now) (a .color) (a .attacks) (a .occupied))) (omega arith)
+    no-colour (a .color) (checked (a .bitboards .now) (a .board .now) (a .state)
+    (rest (a .order .now) (a .bitboards .now) (a .color) (a .attacks) (a .occupied))) (omega arith)
 
 check-requires : tie.Need-check-requires
 check-requires c κs = search needs
@@ -27,7 +28,8 @@ returns-2 c =
     let k = c .before .before .before in
     let a = k .before .before .before .before .args in
     let after = rest (a .order .now) (a .bitboards .now) (a .color) (a .attacks) (a .occupied) in
-    pass-on (a .bitboards .now) (a .board .now) (a .state) (k .check .result) (k .check .ensures) after (c .before .refusal .given .0 .0) (c .before .refusal .given .1)
+    pass-on (a .bitboards .now) (a .board .now) (a .state) (k .check .result) (k .check .ensures) after (c .before .refusal .given .0 .0)
+    (c .before .refusal .given .1)
     ∙ a-colour (a .color) (checked (a .bitboards .now) (a .board .now) (a .state) after) (omega arith)
 
 enum-told : tie.Need-enum-told
@@ -43,7 +45,8 @@ returns-3 c =
     let k = e .before .before in
     let a = k .before .before .before .before .args in
     let after = rest (a .order .now) (a .bitboards .now) (a .color) (a .attacks) (a .occupied) in
-    no-order (a .order .now) (a .bitboards .now) (a .color) (a .attacks) (a .occupied) (sym (o .each-once .ensures) ∙ not-true (o .each-once .result) (c .if2 .taken))
+    no-order (a .order .now) (a .bitboards .now) (a .color) (a .attacks) (a .occupied)
+    (sym (o .each-once .ensures) ∙ not-true (o .each-once .result) (c .if2 .taken))
     ∙ fit-rest (a .bitboards .now) (a .board .now) (a .state) (k .check .result) (k .check .ensures) after (e .enum-told .given .1)
     ∙ a-colour (a .color) (checked (a .bitboards .now) (a .board .now) (a .state) after) (omega arith)
 
@@ -65,7 +68,8 @@ returns-4 c =
     let k = e .before .before in
     let a = k .before .before .before .before .args in
     let after = rest (a .order .now) (a .bitboards .now) (a .color) (a .attacks) (a .occupied) in
-    picked (a .order .now) (a .bitboards .now) (a .color) (a .attacks) (a .occupied) _ (sym (o .each-once .ensures) ∙ not-false (o .each-once .result) (f .if2 .left))
+    picked (a .order .now) (a .bitboards .now) (a .color) (a .attacks) (a .occupied) _
+    (sym (o .each-once .ensures) ∙ not-false (o .each-once .result) (f .if2 .left))
     (sym (ap paperAttacker (c .enum-told2 .given .1)) ∙ p .pick .ensures)
     ∙ fit-rest (a .bitboards .now) (a .board .now) (a .state) (k .check .result) (k .check .ensures) after (e .enum-told .given .1)
     ∙ a-colour (a .color) (checked (a .bitboards .now) (a .board .now) (a .state) after) (omega arith)
@@ -79,7 +83,8 @@ returns-5 c =
     let k = e .before .before in
     let a = k .before .before .before .before .args in
     let after = rest (a .order .now) (a .bitboards .now) (a .color) (a .attacks) (a .occupied) in
-    picked (a .order .now) (a .bitboards .now) (a .color) (a .attacks) (a .occupied) _ (sym (o .each-once .ensures) ∙ not-false (o .each-once .result) (f .if2 .left))
+    picked (a .order .now) (a .bitboards .now) (a .color) (a .attacks) (a .occupied) _
+    (sym (o .each-once .ensures) ∙ not-false (o .each-once .result) (f .if2 .left))
     (sym (ap paperAttacker (c .before .square .given .1)) ∙ p .pick .ensures)
     ∙ fit-rest (a .bitboards .now) (a .board .now) (a .state) (k .check .result) (k .check .ensures) after (e .enum-told .given .1)
     ∙ a-colour (a .color) (checked (a .bitboards .now) (a .board .now) (a .state) after) (omega arith)

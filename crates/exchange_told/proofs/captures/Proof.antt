@@ -27,7 +27,8 @@ returns c =
     let a = b .before .before .before .args in
     let g = c .before .before .refusal .given in
     let e =
-    sym (told-refused (a .mode) (a .order .now) (a .bitboards .now) (a .board .now) (a .state) (a .from) (a .to) (b .begins .result) (b .begins .ensures) (g .0 .0) (g .1)) in (
+    sym (told-refused (a .mode) (a .order .now) (a .bitboards .now) (a .board .now) (a .state) (a .from) (a .to) (b .begins .result)
+    (b .begins .ensures) (g .0 .0) (g .1)) in (
       sym (ap paper (g .1)) ∙ b .begins .ensures,
       subst (λ (cs : List Capture). HoldsCaptures cs (c .none .result)) e (c .none .ensures),
       stop-of-none ∙ ap theStop e,
@@ -49,7 +50,8 @@ part-stop-end : tie.Need-part-stop-end
 part-stop-end c =
     let l = c .before .before in
     let a = l .before .before .before .before .before .before .before .args in
-    within (a .mode) (a .order .now) (a .bitboards .now) (a .board .now) (a .state) (a .from) (a .to) (l .list .result .count) (l .list .result .taken) (l .list .ensures .0) (l .list .ensures .3)
+    within (a .mode) (a .order .now) (a .bitboards .now) (a .board .now) (a .state) (a .from) (a .to) (l .list .result .count) (l .list .result .taken)
+    (l .list .ensures .0) (l .list .ensures .3)
 
 stop-requires : tie.Need-stop-requires
 stop-requires c κs = search needs
@@ -60,11 +62,13 @@ returns-2 c =
     let t = l .before .before in
     let b = t .before .before in
     let a = b .before .before .before .args in
-    let e = sym (told-fit (a .mode) (a .order .now) (a .bitboards .now) (a .board .now) (a .state) (a .from) (a .to) (b .begins .result) (b .begins .ensures) (t .enum-told .given .1)) in (
+    let e = sym (told-fit (a .mode) (a .order .now) (a .bitboards .now) (a .board .now) (a .state) (a .from) (a .to) (b .begins .result)
+    (b .begins .ensures) (t .enum-told .given .1)) in (
       sym (ap paper (t .enum-told .given .1)) ∙ b .begins .ensures,
       subst (λ (cs : List Capture). HoldsCaptures cs (l .list .result)) e (l .list .ensures),
       c .stop .ensures
-          ∙ ap stopOf (values-are (a .mode) (a .order .now) (a .bitboards .now) (a .board .now) (a .state) (a .from) (a .to) (l .list .result .count) (l .list .result .taken)
+          ∙ ap stopOf (values-are (a .mode) (a .order .now) (a .bitboards .now) (a .board .now) (a .state) (a .from) (a .to) (l .list .result .count)
+          (l .list .result .taken)
           (l .list .ensures .0) (l .list .ensures .3)) ∙ ap theStop e,
     )
 

@@ -22,7 +22,8 @@ same-length-3 c = search needs
 returns : tie.Need-returns
 returns c =
     let s = c .before .before .before .before .before .before .before .before .before .args in
-    refused-shape (s .gradient .now) (fitFrom (s .m .now) (s .v .now) (s .weights .now)) (s .rate) (s .iteration) (sym (c .before .is-shaped .ensures) ∙ not-true _ (c .if1 .taken))
+    refused-shape (s .gradient .now) (fitFrom (s .m .now) (s .v .now) (s .weights .now)) (s .rate) (s .iteration)
+    (sym (c .before .is-shaped .ensures) ∙ not-true _ (c .if1 .taken))
 
 same-length-4 : tie.Need-same-length-4
 same-length-4 c = search needs

@@ -22,7 +22,8 @@ int-to-float-result c = search needs
 returns-2 : tie.Need-returns-2
 returns-2 c =
     let r = c .before .before .rounded-down in
-    counted (c .before .expected .result) (r .result) _ (c .before .before .before .before .args .score) (c .before .expected .ensures) (toZ-ofZ {w = w16} (sfits-of (r .ok))) (r .ensures)
+    counted (c .before .expected .result) (r .result) _ (c .before .before .before .before .args .score) (c .before .expected .ensures)
+    (toZ-ofZ {w = w16} (sfits-of (r .ok))) (r .ensures)
 
 pub points-spec : {M : Type 1} → statement M
 points-spec =

@@ -35,7 +35,8 @@ cast-result c = record { sfits = omega (arith, small c) }
 
 returns-3 : tie.Need-returns-3
 returns-3 c =
-    ap expectedPoints (toZ-pos w16 (c .truncating-f64-to-u64 .result) (cast-result c .sfits) ∙ ap pos (c .truncating-f64-to-u64 .ensures)) ∙ upper (c .before) .counts
+    ap expectedPoints (toZ-pos w16 (c .truncating-f64-to-u64 .result) (cast-result c .sfits) ∙ ap pos (c .truncating-f64-to-u64 .ensures))
+    ∙ upper (c .before) .counts
 
 truncating-f64-to-u64-requires-2 : tie.Need-truncating-f64-to-u64-requires-2
 truncating-f64-to-u64-requires-2 c κs = (lower c .low, lower c .high)
@@ -57,7 +58,8 @@ returns-4 c =
     let n = c .before .before in
     let t = n .before in
     ap expectedPoints (held-is {w = w16} (sfits-of (c .below-zero .ok)) (c .below-zero .ensures))
-    ∙ some-left (t .before .before .before .before .args .score) (n .nearest-u64-to-f64 .result) (t .truncating-f64-to-u642 .result) (lower (t .before)) (t .truncating-f64-to-u642 .ensures) (n .nearest-u64-to-f64 .ensures) (c .before .if4 .taken)
+    ∙ some-left (t .before .before .before .before .args .score) (n .nearest-u64-to-f64 .result) (t .truncating-f64-to-u642 .result)
+    (lower (t .before)) (t .truncating-f64-to-u642 .ensures) (n .nearest-u64-to-f64 .ensures) (c .before .if4 .taken)
 
 below-zero-requires-2 : tie.Need-below-zero-requires-2
 below-zero-requires-2 c κs = omega (arith, most (c .before .before))
@@ -67,7 +69,8 @@ returns-5 c =
     let n = c .before .before in
     let t = n .before in
     ap expectedPoints (held-is {w = w16} (sfits-of (c .below-zero2 .ok)) (c .below-zero2 .ensures))
-    ∙ none-left (t .before .before .before .before .args .score) (n .nearest-u64-to-f64 .result) (t .truncating-f64-to-u642 .result) (lower (t .before)) (t .truncating-f64-to-u642 .ensures) (n .nearest-u64-to-f64 .ensures) (c .before .if4 .left)
+    ∙ none-left (t .before .before .before .before .args .score) (n .nearest-u64-to-f64 .result) (t .truncating-f64-to-u642 .result)
+    (lower (t .before)) (t .truncating-f64-to-u642 .ensures) (n .nearest-u64-to-f64 .ensures) (c .before .if4 .left)
 
 pub rounded-down-spec : {M : Type 1} → statement M
 rounded-down-spec =

@@ -33,7 +33,8 @@ passed value k half lines a b p q =
 returns-3 : tie.Need-returns-3
 returns-3 c =
     let s = c .before .before .before .before .args in
-    passed (s .value) (s .k) (s .half) (s .lines) (c .before .before .before .if1 .left) (c .before .before .if2 .left) (c .before .points .ensures) (c .coefficient .ensures)
+    passed (s .value) (s .k) (s .half) (s .lines) (c .before .before .before .if1 .left) (c .before .before .if2 .left) (c .before .points .ensures)
+    (c .coefficient .ensures)
 
 pub weigh-spec : {M : Type 1} → statement M
 weigh-spec = tie.close (tie.spec returns returns-2 points-requires coefficient-requires returns-3)

@@ -45,7 +45,8 @@ squares-added-requires c κs =
     let v = w .before .seen in
     let l = two .before .if1 .left in
     let es = two .before .before .before .args .entries .now in
-    let all = sym (seen-entries es l (v .ensures)) ∙ T-true (v .result .entries) (and-r (w .in-ranges .result) (v .result .entries) (true-T (three .if3 .taken))) in
+    let all = sym (seen-entries es l (v .ensures)) ∙ T-true (v .result .entries)
+    (and-r (w .in-ranges .result) (v .result .entries) (true-T (three .if3 .taken))) in
     (n .named-added .ensures .1, l, all, seen-groups es l (v .ensures))
 
 same-length : tie.Need-same-length
@@ -68,7 +69,8 @@ returns-3 c =
     let u = tested-both t es (w .in-ranges .ensures) (seen-entries es (two .before .if1 .left) (w .before .seen .ensures)) (three .if3 .taken) in
     let x = read (t .«piece_count») (told .struct-told .given .1 .1 .1 .1 .1 .1 .1 .1 .0 .1) in
     worked t es (s .coefficient) g (two .before .if1 .left) (two .if2 .left) u _
-    (line t es (s .coefficient) g (two .before .if1 .left) u _ _ _ _ _ (named .named-parts .ensures) x (p .square-parts .ensures) (n .named-added .ensures .0) (q .squares-added .ensures))
+    (line t es (s .coefficient) g (two .before .if1 .left) u _ _ _ _ _ (named .named-parts .ensures) x (p .square-parts .ensures)
+    (n .named-added .ensures .0) (q .squares-added .ensures))
 
 returns-4 : tie.Need-returns-4
 returns-4 c =
@@ -76,7 +78,8 @@ returns-4 c =
     let two = w .before .before in
     let s = two .before .before .before .args in
     no-trace (s .trace) (s .entries .now) (s .coefficient) (s .gradient .now) (two .before .if1 .left) (two .if2 .left)
-    (tested-both (s .trace) (s .entries .now) (w .in-ranges .ensures) (seen-entries (s .entries .now) (two .before .if1 .left) (w .before .seen .ensures)) (c .if3 .left))
+    (tested-both (s .trace) (s .entries .now) (w .in-ranges .ensures)
+    (seen-entries (s .entries .now) (two .before .if1 .left) (w .before .seen .ensures)) (c .if3 .left))
 
 pub add-spec : {M : Type 1} → statement M
 add-spec =

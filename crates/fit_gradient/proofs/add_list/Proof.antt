@@ -11,7 +11,8 @@ use Rattle.fit_gradient.proofs.add_list.Statement.{statement}
 use Rattle.fit_gradient.proofs.add_list.Tie as tie
 
 returns : tie.Need-returns
-returns c = let s = c .before .before in list-unlike (s .args .trace) (s .args .used) (s .args .bytes .now) (s .args .coefficient) (s .args .gradient .now) (c .if1 .taken)
+returns c = let s = c .before .before in list-unlike (s .args .trace) (s .args .used) (s .args .bytes .now) (s .args .coefficient)
+    (s .args .gradient .now) (c .if1 .taken)
 
 in-ranges-requires : tie.Need-in-ranges-requires
 in-ranges-requires c κs = search needs
@@ -39,8 +40,11 @@ list-added-requires c κs =
     let m = c .before .before .before .before in
     let y = m .before .before .before .before .before .before .before in
     let l = y .before in
-    let s = l .before .before .before .before .before in
-    (m .named-added .ensures .1, subst (λ (n : ℕ). T (isList n (s .args .bytes .now))) (sym (c .index .ensures)) (true-T (sym (l .is-list .ensures) ∙ y .if3 .taken)))
+    let s = l .before .before .before .before .before in (
+      m .named-added .ensures .1,
+      subst (λ (n : ℕ). T (isList n (s .args .bytes .now))) (sym (c .index .ensures))
+          (true-T (sym (l .is-list .ensures) ∙ y .if3 .taken)),
+    )
 
 same-length : tie.Need-same-length
 same-length c = search needs
@@ -61,8 +65,10 @@ returns-2 c =
     let s = k .before .before in
     let t = s .args .trace in
     let x = read (t .«piece_count») (told .struct-told .given .1 .1 .1 .1 .1 .1 .1 .1 .0 .1) in
-    list-worked (s .args .trace) (s .args .used) (s .args .bytes .now) (s .args .coefficient) (s .args .gradient .now) (k .if1 .left) (r .in-ranges .ensures) (g .if2 .taken) (l .is-list .ensures) (y .if3 .taken) _
-    (list-line (s .args .trace) (s .args .used) (s .args .bytes .now) (s .args .coefficient) (s .args .gradient .now) (true-T (sym (l .is-list .ensures) ∙ y .if3 .taken)) (sym (r .in-ranges .ensures) ∙ g .if2 .taken) _ _ _ _ _ _
+    list-worked (s .args .trace) (s .args .used) (s .args .bytes .now) (s .args .coefficient) (s .args .gradient .now) (k .if1 .left)
+    (r .in-ranges .ensures) (g .if2 .taken) (l .is-list .ensures) (y .if3 .taken) _
+    (list-line (s .args .trace) (s .args .used) (s .args .bytes .now) (s .args .coefficient) (s .args .gradient .now)
+    (true-T (sym (l .is-list .ensures) ∙ y .if3 .taken)) (sym (r .in-ranges .ensures) ∙ g .if2 .taken) _ _ _ _ _ _
     (i .index .ensures) (named .named-parts .ensures) x (p .square-parts .ensures) (m .named-added .ensures .0) (q .list-added .ensures))
 
 returns-3 : tie.Need-returns-3
@@ -72,14 +78,16 @@ returns-3 c =
     let r = g .before in
     let k = r .before in
     let s = k .before .before in
-    no-list (s .args .trace) (s .args .used) (s .args .bytes .now) (s .args .coefficient) (s .args .gradient .now) (k .if1 .left) (r .in-ranges .ensures) (g .if2 .taken) (l .is-list .ensures) (c .if3 .left)
+    no-list (s .args .trace) (s .args .used) (s .args .bytes .now) (s .args .coefficient) (s .args .gradient .now) (k .if1 .left)
+    (r .in-ranges .ensures) (g .if2 .taken) (l .is-list .ensures) (c .if3 .left)
 
 returns-4 : tie.Need-returns-4
 returns-4 c =
     let r = c .before in
     let k = r .before in
     let s = k .before .before in
-    list-no-trace (s .args .trace) (s .args .used) (s .args .bytes .now) (s .args .coefficient) (s .args .gradient .now) (k .if1 .left) (r .in-ranges .ensures) (c .if2 .left)
+    list-no-trace (s .args .trace) (s .args .used) (s .args .bytes .now) (s .args .coefficient) (s .args .gradient .now) (k .if1 .left)
+    (r .in-ranges .ensures) (c .if2 .left)
 
 pub add-list-spec : {M : Type 1} → statement M
 add-list-spec =

@@ -18,7 +18,8 @@ use Rattle.fit_gradient.proofs.group_marked.Statement.{statement}
 use Rattle.fit_gradient.proofs.group_marked.Tie as tie
 
 abbrev Inv-loop : tie.InvT-loop
-Inv-loop gradient₀ parts entries group rest₀ gradient rest = (length gradient ≡ 779) × walk.Walk (foldFrom (entryBy parts entries) gradient₀ (16 * group)) 16 gradient rest
+Inv-loop gradient₀ parts entries group rest₀ gradient rest = (length gradient ≡ 779)
+    × walk.Walk (foldFrom (entryBy parts entries) gradient₀ (16 * group)) 16 gradient rest
 
 abbrev μ-loop : tie.MeasureT-loop
 μ-loop gradient₀ parts entries group rest₀ gradient rest = length (squares rest)
@@ -34,9 +35,11 @@ loop-holds c =
     let g = a .gradient .now in
     let step = entryBy (a .parts) e in (
       p .0,
-      walk.begun (foldFrom step g (16 * a .group)) 16 g (oddAt e (a .group)) (c .ones .result) (c .ones .ensures ∙ ones-of e (p .1) (a .group) (p .2)) (folds.none-yet step g (16 * a .group)) (omega arith)
+      walk.begun (foldFrom step g (16 * a .group)) 16 g (oddAt e (a .group)) (c .ones .result) (c .ones .ensures ∙ ones-of e (p .1) (a .group) (p .2))
+          (folds.none-yet step g (16 * a .group)) (omega arith)
           (λ j h. odd-small e (a .group) j)
-          (λ j h z. folds.one-still step g (16 * a .group) j (λ x. nothing (a .parts) x (16 * a .group + j) e (odd-none e (p .1) (p .3) (a .group) j (p .2) h z))),
+          (λ j h z. folds.one-still step g (16 * a .group) j (λ x. nothing (a .parts) x (16 * a .group + j) e
+          (odd-none e (p .1) (p .3) (a .group) j (p .2) h z))),
     )
 
 next-requires : tie.Need-next-requires Inv-loop μ-loop
@@ -63,16 +66,19 @@ returns c =
 
 -- the 1 that came, and those that are left
 came : (c : tie.After-known-told Inv-loop μ-loop)
-    → (squares (c .before .before .before .before .loop .rest) ≡ c .before .n .given .0 .0 ∷ squares (c .before .n .given .0 .1 .0)) × (c .before .n .given .0 .0 < 64)
+    → (squares (c .before .before .before .before .loop .rest) ≡ c .before .n .given .0 .0 ∷ squares (c .before .n .given .0 .1 .0))
+    × (c .before .n .given .0 .0 < 64)
 came c =
     let k = c .before .before .before in
-    next-at (k .before .loop .rest) (c .before .n .given .0 .0) (c .before .n .given .0 .1 .0) (k .before .loop .inv .1 .fits) (sym (ap lowest (c .before .n .given .1)) ∙ k .next .ensures)
+    next-at (k .before .loop .rest) (c .before .n .given .0 .0) (c .before .n .given .0 .1 .0) (k .before .loop .inv .1 .fits)
+    (sym (ap lowest (c .before .n .given .1)) ∙ k .next .ensures)
 
 below : (c : tie.After-known-told Inv-loop μ-loop) → c .before .n .given .0 .0 < 16
 below c =
     let l = c .before .before .before .before .loop in
     let a = c .before .before .before .before .before .before .before .args in
-    walk.walk-below (foldFrom (entryBy (a .parts) (a .entries .now)) (a .gradient .now) (16 * a .group)) 16 (l .gradient) (l .rest) (c .before .n .given .0 .0) (c .before .n .given .0 .1 .0) (l .inv .1) (came c .0)
+    walk.walk-below (foldFrom (entryBy (a .parts) (a .entries .now)) (a .gradient .now) (16 * a .group)) 16 (l .gradient) (l .rest)
+    (c .before .n .given .0 .0) (c .before .n .given .0 .1 .0) (l .inv .1) (came c .0)
 
 mul-k : tie.Need-mul-k Inv-loop μ-loop
 mul-k c = search needs
@@ -106,7 +112,8 @@ loop-again c =
     let F = foldFrom (entryBy (a .parts) (a .entries .now)) (a .gradient .now) (16 * a .group) in (
       m .mark .ensures .1,
       walk.walk-on F 16 (l .gradient) (l .rest) j r (l .inv .1) (came k .0) (m .mark .last .0) (omega arith)
-          (one-read (a .parts) (a .entries .now) (a .gradient .now) (16 * a .group) j (m .before .«mark-arg2» .given) (walk.walk-at F 16 (l .gradient) (l .rest) j r (l .inv .1) (came k .0)) (m .mark .ensures .0)),
+          (one-read (a .parts) (a .entries .now) (a .gradient .now) (16 * a .group) j (m .before .«mark-arg2» .given)
+          (walk.walk-at F 16 (l .gradient) (l .rest) j r (l .inv .1) (came k .0)) (m .mark .ensures .0)),
     )
 
 pub group-marked-spec : {M : Type 1} → statement M

@@ -16,7 +16,8 @@ use Rattle.fit_gradient.proofs.list_added.Statement.{statement}
 use Rattle.fit_gradient.proofs.list_added.Tie as tie
 
 abbrev Inv-loop : tie.InvT-loop
-Inv-loop gradient₀ used bytes opening ending i₀ gradient i = (i ≤ used) × (length gradient ≡ 779) × (gradient ≡ over (markOne (pairs opening ending)) gradient₀ (listPlaces bytes i))
+Inv-loop gradient₀ used bytes opening ending i₀ gradient i = (i ≤ used) × (length gradient ≡ 779)
+    × (gradient ≡ over (markOne (pairs opening ending)) gradient₀ (listPlaces bytes i))
 
 abbrev μ-loop : tie.MeasureT-loop
 μ-loop gradient₀ used bytes opening ending i₀ gradient i = used - i
@@ -106,8 +107,12 @@ loop-again c =
     let m = c .before .before .raise in
     let p = s .args .parts in
     let o = p .«white_opening» ∷ p .«black_opening» ∷ [] in
-    let d = p .«white_ending» ∷ p .«black_ending» ∷ [] in
-    (omega arith, m .ensures .1, fold-more bs (markOne (s .args .parts)) (s .args .gradient .now) (l .i) (l .inv .2) (paired o d (l .gradient) _ (e .entry .result) (m .ensures .0) ∙ ap (markOne p (l .gradient)) at))
+    let d = p .«white_ending» ∷ p .«black_ending» ∷ [] in (
+      omega arith,
+      m .ensures .1,
+      fold-more bs (markOne (s .args .parts)) (s .args .gradient .now) (l .i) (l .inv .2)
+          (paired o d (l .gradient) _ (e .entry .result) (m .ensures .0) ∙ ap (markOne p (l .gradient)) at),
+    )
 
 same-length : tie.Need-same-length Inv-loop μ-loop
 same-length c =

@@ -26,8 +26,11 @@ returns-2 c =
     let r = c .before .before in
     let two = r .before .before in
     let one = two .before in
-    let s = one .before .before .before in
-    (marked (s .args .parts) (s .args .gradient .now) (s .args .k) (s .args .entry) (s .fits .entry .sfits) (one .before .if1 .left) (one .of-colour .ensures) (two .of-colour2 .ensures) (r .raise .ensures .0), r .raise .ensures .1)
+    let s = one .before .before .before in (
+      marked (s .args .parts) (s .args .gradient .now) (s .args .k) (s .args .entry) (s .fits .entry .sfits) (one .before .if1 .left)
+          (one .of-colour .ensures) (two .of-colour2 .ensures) (r .raise .ensures .0),
+      r .raise .ensures .1,
+    )
 
 pub mark-spec : {M : Type 1} → statement M
 mark-spec = tie.close (tie.spec returns of-colour-requires of-colour-requires-2 raise-requires same-length returns-2)

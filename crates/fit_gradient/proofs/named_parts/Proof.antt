@@ -39,8 +39,21 @@ int-to-float-t20 c = search needs
 
 returns : tie.Need-returns
 returns c =
-    let side = c .before .before .before .before .before .before .before .before .before .before .before .before .before .before .before .before .before .before .before .args .trace .side in
-    simp (c .before .before .before .before .before .before .before .before .before .before .before .count-part .ensures, c .before .before .before .before .before .before .before .before .before .before .count-part2 .ensures, c .before .before .before .before .before .before .before .before .before .count-part3 .ensures, c .before .before .before .before .before .before .before .before .count-part4 .ensures, c .before .before .before .before .before .before .before .count-part5 .ensures, c .before .before .before .before .before .before .count-part6 .ensures, c .before .before .before .before .before .mobility-part .ensures, c .before .before .before .before .mobility-part2 .ensures, c .before .before .before .mobility-part3 .ensures, c .before .before .mobility-part4 .ensures, read side (c .struct-told .given .1 .1 .1 .1 .1 .1 .1 .0 .1))
+    let side = c .before .before .before .before .before .before .before .before .before .before .before .before .before .before .before .before
+    .before .before .before .args .trace .side in
+    simp (
+      c .before .before .before .before .before .before .before .before .before .before .before .count-part .ensures,
+      c .before .before .before .before .before .before .before .before .before .before .count-part2 .ensures,
+      c .before .before .before .before .before .before .before .before .before .count-part3 .ensures,
+      c .before .before .before .before .before .before .before .before .count-part4 .ensures,
+      c .before .before .before .before .before .before .before .count-part5 .ensures,
+      c .before .before .before .before .before .before .count-part6 .ensures,
+      c .before .before .before .before .before .mobility-part .ensures,
+      c .before .before .before .before .mobility-part2 .ensures,
+      c .before .before .before .mobility-part3 .ensures,
+      c .before .before .mobility-part4 .ensures,
+      read side (c .struct-told .given .1 .1 .1 .1 .1 .1 .1 .0 .1),
+    )
 
 pub named-parts-spec : {M : Type 1} → statement M
 named-parts-spec =

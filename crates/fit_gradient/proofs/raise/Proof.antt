@@ -47,8 +47,10 @@ same-length c = search needs
 
 returns : tie.Need-returns
 returns c =
-    let s = c .before .before .args in
-    (at-places (s .gradient .now) (s .k) _ _ (s .opening) (s .ending) (omega arith) (omega arith), as-long (s .gradient .now) _ _ _ _ (c .before .before .pre .0))
+    let s = c .before .before .args in (
+      at-places (s .gradient .now) (s .k) _ _ (s .opening) (s .ending) (omega arith) (omega arith),
+      as-long (s .gradient .now) _ _ _ _ (c .before .before .pre .0),
+    )
 
 pub raise-spec : {M : Type 1} → statement M
 raise-spec =

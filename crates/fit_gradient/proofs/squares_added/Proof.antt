@@ -43,7 +43,8 @@ loop-holds c =
       walk.begun (after (a .parts) e g) 48 g (λ i. markOf (groupOf e i)) (a .groups) (p .3) (folds.none-yet step g 0) (omega arith)
           (λ i h. mark-small (groupOf e i))
           (λ i h z.
-          folds.all-still step (after (a .parts) e g i) (16 * i) 16 (λ j k x. nothing (a .parts) x (16 * i + j) e (group-none e (p .1) (p .2) i j h k (mark-none (groupOf e i) z)))
+          folds.all-still step (after (a .parts) e g i) (16 * i) 16 (λ j k x. nothing (a .parts) x (16 * i + j) e
+          (group-none e (p .1) (p .2) i j h k (mark-none (groupOf e i) z)))
           ∙ folds.group-more step g i),
     )
 
@@ -70,16 +71,19 @@ returns c =
 
 -- the group that came, and those that are left
 came : (c : tie.After-known-told Inv-loop μ-loop)
-    → (squares (c .before .before .before .before .loop .rest) ≡ c .before .n .given .0 .0 ∷ squares (c .before .n .given .0 .1 .0)) × (c .before .n .given .0 .0 < 64)
+    → (squares (c .before .before .before .before .loop .rest) ≡ c .before .n .given .0 .0 ∷ squares (c .before .n .given .0 .1 .0))
+    × (c .before .n .given .0 .0 < 64)
 came c =
     let k = c .before .before .before in
-    next-at (k .before .loop .rest) (c .before .n .given .0 .0) (c .before .n .given .0 .1 .0) (k .before .loop .inv .1 .fits) (sym (ap lowest (c .before .n .given .1)) ∙ k .next .ensures)
+    next-at (k .before .loop .rest) (c .before .n .given .0 .0) (c .before .n .given .0 .1 .0) (k .before .loop .inv .1 .fits)
+    (sym (ap lowest (c .before .n .given .1)) ∙ k .next .ensures)
 
 below : (c : tie.After-known-told Inv-loop μ-loop) → c .before .n .given .0 .0 < 48
 below c =
     let l = c .before .before .before .before .loop in
     let a = c .before .before .before .before .before .before .args in
-    walk.walk-below (after (a .parts) (a .entries .now) (a .gradient .now)) 48 (l .gradient) (l .rest) (c .before .n .given .0 .0) (c .before .n .given .0 .1 .0) (l .inv .1) (came c .0)
+    walk.walk-below (after (a .parts) (a .entries .now) (a .gradient .now)) 48 (l .gradient) (l .rest) (c .before .n .given .0 .0)
+    (c .before .n .given .0 .1 .0) (l .inv .1) (came c .0)
 
 cast-group-marked : tie.Need-cast-group-marked Inv-loop μ-loop
 cast-group-marked c = search needs

@@ -34,7 +34,8 @@ add-result c =
 returns : tie.Need-returns
 returns c =
     let s = c .before .before .before .before in
-    ap (λ (q : ℕ). (q + 1) / 2) (whole-one 54 (s .args .m * (1 + s .args .odd) * 2 ^ 54) (c .whole-root .result) (whole-fits _ (most s)) (c .whole-root .ensures))
+    ap (λ (q : ℕ). (q + 1) / 2) (whole-one 54 (s .args .m * (1 + s .args .odd) * 2 ^ 54) (c .whole-root .result) (whole-fits _ (most s))
+    (c .whole-root .ensures))
 
 returns-2 : tie.Need-returns-2
 returns-2 c =

@@ -25,7 +25,8 @@ mul-result : tie.Need-mul-result
 mul-result c = search needs
 
 -- what is rooted, and its root, rounded
-most : (c : tie.After-nearest) → c .before .before .scale .result .m * (1 + (c .before .before .scale .result .e + c .before .before .before .args .k) % 2) < 2 ^ 54 - 1
+most : (c : tie.After-nearest) → c .before .before .scale .result .m * (1
+    + (c .before .before .scale .result .e + c .before .before .before .args .k) % 2) < 2 ^ 54 - 1
 most c = doubled-or-not _ _ (c .before .before .scale .ensures .2) (omega arith)
 
 short : (c : tie.After-nearest) → c .nearest .result < 2 ^ 53

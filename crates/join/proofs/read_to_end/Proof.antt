@@ -43,10 +43,24 @@ returns : tie.Need-returns Inv-loop μ-loop
 returns c = search needs
 
 loop-less : tie.Need-loop-less Inv-loop μ-loop
-loop-less c = omega (arith, may-count (c .before .before .before .before .before .before .before .before .before .before .before .before .before .before .before .may-go-on .ensures) (c .before .before .before .before .before .before .before .before .before .before .before .before .before .before .if1 .taken))
+loop-less c = omega (
+  arith,
+  may-count
+      (c .before .before .before .before .before .before .before .before .before .before .before .before .before .before .before .may-go-on .ensures)
+      (c .before .before .before .before .before .before .before .before .before .before .before .before .before .before .if1 .taken),
+)
 
 loop-again : tie.Need-loop-again Inv-loop μ-loop
-loop-again c = (omega (arith, may-count (c .before .before .before .before .before .before .before .before .before .before .before .before .before .before .before .may-go-on .ensures) (c .before .before .before .before .before .before .before .before .before .before .before .before .before .before .if1 .taken)), search needs, search needs, search needs)
+loop-again c = (
+  omega (
+    arith,
+    may-count (c .before .before .before .before .before .before .before .before .before .before .before .before .before .before .before .may-go-on
+        .ensures) (c .before .before .before .before .before .before .before .before .before .before .before .before .before .before .if1 .taken),
+  ),
+  search needs,
+  search needs,
+  search needs,
+)
 
 enum-told : tie.Need-enum-told Inv-loop μ-loop
 enum-told c = search needs
@@ -97,4 +111,6 @@ returns-4 : tie.Need-returns-4 Inv-loop μ-loop
 returns-4 c = search needs
 
 pub read-to-end-spec : {M : Type 1} → statement M
-read-to-end-spec = tie.close (tie.spec Inv-loop μ-loop loop-holds may-go-on-requires add-turns read-some-requires enum-known-next same-length same-length-2 same-length-3 returns loop-less loop-again enum-told same-length-4 same-length-5 same-length-6 returns-2 enum-told-2 same-length-7 same-length-8 same-length-9 returns-3 slice-aggregate-stop stop-requires same-length-10 same-length-11 same-length-12 returns-4)
+read-to-end-spec = tie.close (tie.spec Inv-loop μ-loop loop-holds may-go-on-requires add-turns read-some-requires enum-known-next same-length
+    same-length-2 same-length-3 returns loop-less loop-again enum-told same-length-4 same-length-5 same-length-6 returns-2 enum-told-2 same-length-7
+    same-length-8 same-length-9 returns-3 slice-aggregate-stop stop-requires same-length-10 same-length-11 same-length-12 returns-4)

@@ -64,7 +64,8 @@ add-loaded c =
     let a = c .before .before .before .before .before .before .before .before .before .before .before .before .before .before .before .before .before .args in
     let l = c .before .before .before .before .before .before .before .before .before .before .before .before .before .loop in
     let n = c .before .before .before .before .before .before .before .before .before .before .next in
-    let e = next-line (l .begun) (l .line) (now (a .chunk)) (l .at) (n .result) (n .last .1 .0) (n .ensures) (c .before .before .before .before .before .before .if1 .taken) in
+    let e = next-line (l .begun) (l .line) (now (a .chunk)) (l .at) (n .result) (n .last .1 .0) (n .ensures)
+    (c .before .before .before .before .before .before .if1 .taken) in
     record { fits = omega (arith, l .inv .counts, number-most (c .before .before .before .close .result .loaded)) }
 
 cast-refused : tie.Need-cast-refused Inv-loop μ-loop
@@ -75,7 +76,8 @@ add-refused c =
     let a = c .before .before .before .before .before .before .before .before .before .before .before .before .before .before .before .before .before .args in
     let l = c .before .before .before .before .before .before .before .before .before .before .before .before .before .loop in
     let n = c .before .before .before .before .before .before .before .before .before .before .next in
-    let e = next-line (l .begun) (l .line) (now (a .chunk)) (l .at) (n .result) (n .last .1 .0) (n .ensures) (c .before .before .before .before .before .before .if1 .taken) in
+    let e = next-line (l .begun) (l .line) (now (a .chunk)) (l .at) (n .result) (n .last .1 .0) (n .ensures)
+    (c .before .before .before .before .before .before .if1 .taken) in
     record { fits = omega (arith, l .inv .counts, number-most (not (c .before .before .before .close .result .loaded))) }
 
 loop-less : tie.Need-loop-less Inv-loop μ-loop
@@ -84,7 +86,9 @@ loop-less c =
     let l = c .before .before .before .before .before .before .before .before .before .before .before .before .before .loop in
     let n = c .before .before .before .before .before .before .before .before .before .before .next in
     let more = c .before .before .before .before .before .before .before .before .before .before .before .before .loop-test .taken in
-    let h = turn-less (a .profile) (runBy (closeRow (a .profile)) (opened (record { held = a .state .held; cr = a .state .cr }) (now (a .line))) (rows (a .state .loaded) (a .state .refused) []) (now (a .chunk))) (now (a .chunk)) (now (a .out)) (l .line) (l .out) (l .begun) (l .loaded) (l .refused) (l .wrote) (l .at) more (l .inv) (n .result) (n .last .1 .0) (n .ensures) in
+    let h = turn-less (a .profile) (runBy (closeRow (a .profile)) (opened (record { held = a .state .held; cr = a .state .cr }) (now (a .line)))
+    (rows (a .state .loaded) (a .state .refused) []) (now (a .chunk))) (now (a .chunk)) (now (a .out)) (l .line) (l .out) (l .begun) (l .loaded)
+    (l .refused) (l .wrote) (l .at) more (l .inv) (n .result) (n .last .1 .0) (n .ensures) in
     omega (arith, h, more)
 
 loop-again : tie.Need-loop-again Inv-loop μ-loop
@@ -94,7 +98,11 @@ loop-again c =
     let n = c .before .before .before .before .before .before .before .before .before .before .next in
     let k = c .before .before .before .close in
     let said = saidUnder (a .profile) (n .last .1 .0) (n .result .size) in
-    turn-close (a .profile) (runBy (closeRow (a .profile)) (opened (record { held = a .state .held; cr = a .state .cr }) (now (a .line))) (rows (a .state .loaded) (a .state .refused) []) (now (a .chunk))) (now (a .chunk)) (now (a .out)) (l .line) (l .out) (l .begun) (l .loaded) (l .refused) (l .wrote) (l .at) (c .before .before .before .before .before .before .before .before .before .before .before .before .loop-test .taken) (l .inv) (n .result) (n .last .1 .0) (n .ensures)
+    turn-close (a .profile) (runBy (closeRow (a .profile)) (opened (record { held = a .state .held; cr = a .state .cr }) (now (a .line)))
+    (rows (a .state .loaded) (a .state .refused) []) (now (a .chunk))) (now (a .chunk)) (now (a .out)) (l .line) (l .out) (l .begun) (l .loaded)
+    (l .refused) (l .wrote) (l .at)
+    (c .before .before .before .before .before .before .before .before .before .before .before .before .loop-test .taken) (l .inv) (n .result)
+    (n .last .1 .0) (n .ensures)
     (c .before .before .before .before .before .before .if1 .taken) (k .last .1 .1 .1 .1 .0) (c .or .result)
     (closed-adds (l .loaded + l .refused + 1) (l .out) (k .last .1 .1 .1 .1 .0) (l .wrote) said (k .result) (k .ensures) (c .or .result) (c .or .ensures))
     (k .result .loaded) (k .ensures .loaded) (l .loaded + boolByte (k .result .loaded)) (l .refused + boolByte (not (k .result .loaded)))
@@ -105,7 +113,9 @@ loop-less-2 c =
     let a = c .before .before .before .before .before .before .before .before .before .before .before .args in
     let l = c .before .before .before .before .before .before .before .loop in
     let n = c .before .before .before .before .next in
-    let h = turn-less (a .profile) (runBy (closeRow (a .profile)) (opened (record { held = a .state .held; cr = a .state .cr }) (now (a .line))) (rows (a .state .loaded) (a .state .refused) []) (now (a .chunk))) (now (a .chunk)) (now (a .out)) (l .line) (l .out) (l .begun) (l .loaded) (l .refused) (l .wrote) (l .at) (omega arith) (l .inv) (n .result) (n .last .1 .0) (n .ensures) in
+    let h = turn-less (a .profile) (runBy (closeRow (a .profile)) (opened (record { held = a .state .held; cr = a .state .cr }) (now (a .line)))
+    (rows (a .state .loaded) (a .state .refused) []) (now (a .chunk))) (now (a .chunk)) (now (a .out)) (l .line) (l .out) (l .begun) (l .loaded)
+    (l .refused) (l .wrote) (l .at) (omega arith) (l .inv) (n .result) (n .last .1 .0) (n .ensures) in
     omega (arith, h)
 
 loop-again-2 : tie.Need-loop-again-2 Inv-loop μ-loop
@@ -113,7 +123,9 @@ loop-again-2 c =
     let a = c .before .before .before .before .before .before .before .before .before .before .before .args in
     let l = c .before .before .before .before .before .before .before .loop in
     let n = c .before .before .before .before .next in
-    turn-on (a .profile) (runBy (closeRow (a .profile)) (opened (record { held = a .state .held; cr = a .state .cr }) (now (a .line))) (rows (a .state .loaded) (a .state .refused) []) (now (a .chunk))) (now (a .chunk)) (now (a .out)) (l .line) (l .out) (l .begun) (l .loaded) (l .refused) (l .wrote) (l .at) (omega arith) (l .inv) (n .result) (n .last .1 .0) (n .ensures) (c .if1 .left)
+    turn-on (a .profile) (runBy (closeRow (a .profile)) (opened (record { held = a .state .held; cr = a .state .cr }) (now (a .line)))
+    (rows (a .state .loaded) (a .state .refused) []) (now (a .chunk))) (now (a .chunk)) (now (a .out)) (l .line) (l .out) (l .begun) (l .loaded)
+    (l .refused) (l .wrote) (l .at) (omega arith) (l .inv) (n .result) (n .last .1 .0) (n .ensures) (c .if1 .left)
 
 made-requires : tie.Need-made-requires Inv-loop μ-loop
 made-requires c κs = search needs
@@ -128,7 +140,8 @@ returns : tie.Need-returns Inv-loop μ-loop
 returns c =
     let a = c .before .before .before .before .before .before .args in
     let l = c .before .before .loop in
-    turn-end (a .profile) (a .state) (now (a .line)) (now (a .chunk)) (now (a .out)) (l .line) (l .out) (l .begun) (l .loaded) (l .refused) (l .wrote) (l .at) (omega arith) (l .inv)
+    turn-end (a .profile) (a .state) (now (a .line)) (now (a .chunk)) (now (a .out)) (l .line) (l .out) (l .begun) (l .loaded) (l .refused) (l .wrote)
+    (l .at) (omega arith) (l .inv)
     (c .made .result) (c .made .ensures)
 
 pub take-spec : {M : Type 1} → statement M

@@ -31,8 +31,10 @@ returns : tie.Need-returns
 returns c =
     let a = c .before .before .before .before .before .before .before .before .before .before .args in
     let p = c .before .before .before .last in
-    subst (λ (t : List ℕ). Adds (now (a .out)) 0 t (p .last .1 .1 .1 .0) (c .or .result)) (finished-none (a .profile) (a .state) (now (a .line)) (c .before .before .before .before .before .before .if1 .taken))
-    (adds-or (now (a .out)) 0 (lastRow (a .state .loaded + a .state .refused) (a .state .loaded) (a .state .refused)) (p .last .1 .1 .1 .0) (p .result) (c .or .result) (p .ensures) (c .or .ensures))
+    subst (λ (t : List ℕ). Adds (now (a .out)) 0 t (p .last .1 .1 .1 .0) (c .or .result))
+    (finished-none (a .profile) (a .state) (now (a .line)) (c .before .before .before .before .before .before .if1 .taken))
+    (adds-or (now (a .out)) 0 (lastRow (a .state .loaded + a .state .refused) (a .state .loaded) (a .state .refused)) (p .last .1 .1 .1 .0) (p .result)
+    (c .or .result) (p .ensures) (c .or .ensures))
 
 add-lines : tie.Need-add-lines
 add-lines c = search needs
@@ -50,7 +52,8 @@ or-requires-2 c κs = search needs
 
 add-last-2 : tie.Need-add-last-2
 add-last-2 c =
-    let e = one-unfinished (c .before .before .before .before .before .before .before .before .before .before .before .before .args .state) (c .before .before .before .before .before .before .before .before .if1 .left) in
+    let e = one-unfinished (c .before .before .before .before .before .before .before .before .before .before .before .before .args .state)
+    (c .before .before .before .before .before .before .before .before .if1 .left) in
     record { fits = omega (arith, c .before .before .before .before .before .before .before .before .before .before .before .before .pre .1) }
 
 last-requires-2 : tie.Need-last-requires-2
@@ -69,14 +72,20 @@ returns-2 c =
     let k = c .before .before .before .before .before .before .before .before .before .before .close in
     let first = c .before .before .before .before .before .before .before .or2 in
     let p = c .before .before .before .last2 in
-    finished-adds (a .profile) (a .state) (now (a .line)) (c .before .before .before .before .before .before .before .before .before .before .before .before .before .if1 .left) true (sym (c .before .before .before .before .before .before .if2 .taken) ∙ k .ensures .loaded)
-    (now (a .out)) (k .last .1 .1 .1 .1 .0) (p .last .1 .1 .1 .0) (first .result) (c .or3 .result) (c .before .before .before .before .before .before .before .before .before .before .before .before .before .before .before .before .before .pre .0)
-    (closed-adds lines (now (a .out)) (k .last .1 .1 .1 .1 .0) 0 (saidUnder (a .profile) (now (a .line)) (a .state .held)) (k .result) (k .ensures) (first .result) (first .ensures))
-    (adds-or (k .last .1 .1 .1 .1 .0) (first .result) (lastRow lines (a .state .loaded + 1) (a .state .refused)) (p .last .1 .1 .1 .0) (p .result) (c .or3 .result) (p .ensures) (c .or3 .ensures))
+    finished-adds (a .profile) (a .state) (now (a .line))
+    (c .before .before .before .before .before .before .before .before .before .before .before .before .before .if1 .left) true
+    (sym (c .before .before .before .before .before .before .if2 .taken) ∙ k .ensures .loaded)
+    (now (a .out)) (k .last .1 .1 .1 .1 .0) (p .last .1 .1 .1 .0) (first .result) (c .or3 .result)
+    (c .before .before .before .before .before .before .before .before .before .before .before .before .before .before .before .before .before .pre .0)
+    (closed-adds lines (now (a .out)) (k .last .1 .1 .1 .1 .0) 0 (saidUnder (a .profile) (now (a .line)) (a .state .held)) (k .result) (k .ensures)
+    (first .result) (first .ensures))
+    (adds-or (k .last .1 .1 .1 .1 .0) (first .result) (lastRow lines (a .state .loaded + 1) (a .state .refused)) (p .last .1 .1 .1 .0) (p .result)
+    (c .or3 .result) (p .ensures) (c .or3 .ensures))
 
 add-last-3 : tie.Need-add-last-3
 add-last-3 c =
-    let e = one-unfinished (c .before .before .before .before .before .before .before .before .before .before .before .before .args .state) (c .before .before .before .before .before .before .before .before .if1 .left) in
+    let e = one-unfinished (c .before .before .before .before .before .before .before .before .before .before .before .before .args .state)
+    (c .before .before .before .before .before .before .before .before .if1 .left) in
     record { fits = omega (arith, c .before .before .before .before .before .before .before .before .before .before .before .before .pre .1) }
 
 last-requires-3 : tie.Need-last-requires-3
@@ -95,10 +104,15 @@ returns-3 c =
     let k = c .before .before .before .before .before .before .before .before .before .before .close in
     let first = c .before .before .before .before .before .before .before .or2 in
     let p = c .before .before .before .last3 in
-    finished-adds (a .profile) (a .state) (now (a .line)) (c .before .before .before .before .before .before .before .before .before .before .before .before .before .if1 .left) false (sym (c .before .before .before .before .before .before .if2 .left) ∙ k .ensures .loaded)
-    (now (a .out)) (k .last .1 .1 .1 .1 .0) (p .last .1 .1 .1 .0) (first .result) (c .or4 .result) (c .before .before .before .before .before .before .before .before .before .before .before .before .before .before .before .before .before .pre .0)
-    (closed-adds lines (now (a .out)) (k .last .1 .1 .1 .1 .0) 0 (saidUnder (a .profile) (now (a .line)) (a .state .held)) (k .result) (k .ensures) (first .result) (first .ensures))
-    (adds-or (k .last .1 .1 .1 .1 .0) (first .result) (lastRow lines (a .state .loaded) (a .state .refused + 1)) (p .last .1 .1 .1 .0) (p .result) (c .or4 .result) (p .ensures) (c .or4 .ensures))
+    finished-adds (a .profile) (a .state) (now (a .line))
+    (c .before .before .before .before .before .before .before .before .before .before .before .before .before .if1 .left) false
+    (sym (c .before .before .before .before .before .before .if2 .left) ∙ k .ensures .loaded)
+    (now (a .out)) (k .last .1 .1 .1 .1 .0) (p .last .1 .1 .1 .0) (first .result) (c .or4 .result)
+    (c .before .before .before .before .before .before .before .before .before .before .before .before .before .before .before .before .before .pre .0)
+    (closed-adds lines (now (a .out)) (k .last .1 .1 .1 .1 .0) 0 (saidUnder (a .profile) (now (a .line)) (a .state .held)) (k .result) (k .ensures)
+    (first .result) (first .ensures))
+    (adds-or (k .last .1 .1 .1 .1 .0) (first .result) (lastRow lines (a .state .loaded) (a .state .refused + 1)) (p .last .1 .1 .1 .0) (p .result)
+    (c .or4 .result) (p .ensures) (c .or4 .ensures))
 
 pub last-rows-spec : {M : Type 1} → statement M
 last-rows-spec =

@@ -13,7 +13,12 @@ hold-more-requires : tie.Need-hold-more-requires
 hold-more-requires c κs = search needs
 
 close-row-requires : tie.Need-close-row-requires
-close-row-requires c κs = let a = c .before .before .before .before .before .before .args in let p = c .before .before .before .before .before .before .pre in (ready-more (a .s) (c .before .before .before .hold-more .result) (now (a .out)) (a .at) (a .byte) (c .before .before .before .hold-more .ensures) (c .before .before .if1 .taken) (p .0), held-fits (a .s) (c .before .before .before .hold-more .result) (now (a .row)) (a .byte) (c .before .before .before .hold-more .ensures) (p .1) (p .2))
+close-row-requires c κs = let a = c .before .before .before .before .before .before .args in let p =
+    c .before .before .before .before .before .before .pre in (
+      ready-more (a .s) (c .before .before .before .hold-more .result) (now (a .out)) (a .at)
+          (a .byte) (c .before .before .before .hold-more .ensures) (c .before .before .if1 .taken) (p .0),
+      held-fits (a .s) (c .before .before .before .hold-more .result) (now (a .row)) (a .byte) (c .before .before .before .hold-more .ensures) (p .1) (p .2),
+    )
 
 same-length : tie.Need-same-length
 same-length c = search needs
@@ -22,7 +27,10 @@ same-length-2 : tie.Need-same-length-2
 same-length-2 c = search needs
 
 returns : tie.Need-returns
-returns c = let a = c .before .before .before .before .before .before .before .before .before .args in let k = c .before .before .close-row in held-row (a .s) (now (a .row)) (now (a .out)) (a .byte) (a .at) (c .before .before .before .before .before .if1 .taken) (c .before .before .before .before .before .before .hold-more .result) (c .before .before .before .before .before .before .hold-more .ensures) (k .result) _ (k .ensures)
+returns c = let a = c .before .before .before .before .before .before .before .before .before .args in let k = c .before .before .close-row in
+    held-row (a .s) (now (a .row)) (now (a .out)) (a .byte) (a .at) (c .before .before .before .before .before .if1 .taken)
+    (c .before .before .before .before .before .before .hold-more .result) (c .before .before .before .before .before .before .hold-more .ensures)
+    (k .result) _ (k .ensures)
 
 stay-requires : tie.Need-stay-requires
 stay-requires c κs = search needs
@@ -31,7 +39,10 @@ same-length-3 : tie.Need-same-length-3
 same-length-3 c = search needs
 
 returns-2 : tie.Need-returns-2
-returns-2 c = let a = c .before .before .before .before .before .args in held-more (a .s) (now (a .row)) (now (a .out)) (a .byte) (a .at) (c .before .if1 .left) (omega (arith, c .before .before .before .before .before .pre .0 .room)) (c .stay .result) (stayed (a .at) (c .stay .ensures) (c .before .before .hold-more .ensures))
+returns-2 c = let a = c .before .before .before .before .before .args in
+    held-more (a .s) (now (a .row)) (now (a .out)) (a .byte) (a .at) (c .before .if1 .left)
+    (omega (arith, c .before .before .before .before .before .pre .0 .room)) (c .stay .result)
+    (stayed (a .at) (c .stay .ensures) (c .before .before .hold-more .ensures))
 
 pub byte-held-spec : {M : Type 1} → statement M
 byte-held-spec =

@@ -38,7 +38,13 @@ same-length : tie.Need-same-length
 same-length c = search needs
 
 returns : tie.Need-returns
-returns c = let a = c .before .before .before .before .before .before .before .before .before .before .before .args in let t = c .before .before .before .before .take in record { state = c .before .after-row .ensures ∙ ap (afterRow (a .s)) (t .ensures .kind); text = adds-or (now (a .out)) (a .at) (textOf (ownNumber (a .s)) (wholeNumber (a .s)) (take (a .s .held) (now (a .row)))) (t .last .1 .1 .1 .1 .1 .0) (t .result .placed) (c .or .result) (t .ensures .text) (c .or .ensures) }
+returns c = let a = c .before .before .before .before .before .before .before .before .before .before .before .args in let t =
+    c .before .before .before .before .take in record {
+      state = c .before .after-row .ensures ∙ ap (afterRow (a .s)) (t .ensures .kind);
+      text =
+          adds-or (now (a .out)) (a .at) (textOf (ownNumber (a .s)) (wholeNumber (a .s)) (take (a .s .held) (now (a .row)))) (t .last .1 .1 .1 .1 .1 .0)
+          (t .result .placed) (c .or .result) (t .ensures .text) (c .or .ensures);
+    }
 
 pub close-row-spec : {M : Type 1} → statement M
 close-row-spec =

@@ -21,7 +21,13 @@ same-length : tie.Need-same-length
 same-length c = search needs
 
 returns : tie.Need-returns
-returns c = let a = c .before .before .before .before .before .before .before .before .before .before .before .before .before .args in adds-then (adds-or (now (a .out)) (a .at) (now (a .whole)) (c .before .before .before .before .before .before .before .before .put .last .0) (c .before .before .before .before .before .before .before .before .put .result) (c .before .before .before .before .before .or .result) (c .before .before .before .before .before .before .before .before .put .ensures) (c .before .before .before .before .before .or .ensures)) (adds-or _ (c .before .before .before .before .before .or .result) (now (a .rest)) (c .before .before .before .put2 .last .0) (c .before .before .before .put2 .result) (c .or2 .result) (c .before .before .before .put2 .ensures) (c .or2 .ensures)) (c .before .before .before .before .before .before .before .before .before .before .before .before .before .pre)
+returns c = let a = c .before .before .before .before .before .before .before .before .before .before .before .before .before .args in
+    adds-then (adds-or (now (a .out)) (a .at) (now (a .whole)) (c .before .before .before .before .before .before .before .before .put .last .0)
+    (c .before .before .before .before .before .before .before .before .put .result) (c .before .before .before .before .before .or .result)
+    (c .before .before .before .before .before .before .before .before .put .ensures) (c .before .before .before .before .before .or .ensures))
+    (adds-or _ (c .before .before .before .before .before .or .result) (now (a .rest)) (c .before .before .before .put2 .last .0)
+    (c .before .before .before .put2 .result) (c .or2 .result) (c .before .before .before .put2 .ensures) (c .or2 .ensures))
+    (c .before .before .before .before .before .before .before .before .before .before .before .before .before .pre)
 
 pub put-both-spec : {M : Type 1} → statement M
 put-both-spec = tie.close (tie.spec put-requires or-requires put-requires-2 or-requires-2 same-length returns)

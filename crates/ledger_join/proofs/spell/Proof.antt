@@ -22,7 +22,10 @@ same-length : tie.Need-same-length
 same-length c = search needs
 
 returns-2 : tie.Need-returns-2
-returns-2 c = spelled (now (c .before .before .before .before .before .before .before .args .text)) _ (c .before .before .before .before .before .before .before .args .n) (c .or .result) (c .before .before .before .before .before .before .before .pre) (adds-or (now (c .before .before .before .before .before .before .before .args .text)) 0 _ (c .before .before .before .decimal .last .0) (c .before .before .before .decimal .result) (c .or .result) (c .before .before .before .decimal .ensures) (c .or .ensures))
+returns-2 c = spelled (now (c .before .before .before .before .before .before .before .args .text)) _
+    (c .before .before .before .before .before .before .before .args .n) (c .or .result) (c .before .before .before .before .before .before .before .pre)
+    (adds-or (now (c .before .before .before .before .before .before .before .args .text)) 0 _ (c .before .before .before .decimal .last .0)
+    (c .before .before .before .decimal .result) (c .or .result) (c .before .before .before .decimal .ensures) (c .or .ensures))
 
 pub spell-spec : {M : Type 1} → statement M
 spell-spec = tie.close (tie.spec returns add-decimal decimal-requires or-requires same-length returns-2)

@@ -34,7 +34,15 @@ same-length-2 : tie.Need-same-length-2
 same-length-2 c = search needs
 
 returns : tie.Need-returns
-returns c = let a = c .before .before .before .before .before .before .before .before .before .before .before .before .before .before .args in record { state = c .one-loaded .ensures; kept = c .before .before .before .before .before .before .before .before .put .ensures .1; put = subst (λ (x : List ℕ). Adds (now (a .out)) (a .at) (now (a .whole) ++ x) (c .before .before .before .put-both .last .0) (c .before .before .before .put-both .result)) (rest (a .front) (now (a .text))) (c .before .before .before .put-both .ensures) }
+returns c = let a = c .before .before .before .before .before .before .before .before .before .before .before .before .before .before .args in
+    record {
+      state = c .one-loaded .ensures;
+      kept = c .before .before .before .before .before .before .before .before .put .ensures .1;
+      put =
+          subst (λ (x : List ℕ). Adds (now (a .out)) (a .at) (now (a .whole) ++ x) (c .before .before .before .put-both .last .0)
+          (c .before .before .before .put-both .result)) (rest (a .front) (now (a .text))) (c .before .before .before .put-both .ensures);
+    }
 
 pub take-row-spec : {M : Type 1} → statement M
-take-row-spec = tie.close (tie.spec put-requires sub-put-both part-put-both-start part-put-both-end put-both-requires one-loaded-requires same-length same-length-2 returns)
+take-row-spec = tie.close (tie.spec put-requires sub-put-both part-put-both-start part-put-both-end put-both-requires one-loaded-requires same-length
+    same-length-2 returns)

@@ -27,11 +27,15 @@ begins-requires c κs = search needs
 
 returns : tie.Need-returns
 returns c =
-    let a = c .before .before .before .before .before .before .before .args in front-yes (c .before .before .before .before .spaced .ensures) (omega (arith, length-spaced (a .number))) (now (a .row)) (sym (c .before .begins .ensures) ∙ c .if1 .taken)
+    let a = c .before .before .before .before .before .before .before .args in
+    front-yes (c .before .before .before .before .spaced .ensures) (omega (arith, length-spaced (a .number))) (now (a .row))
+    (sym (c .before .begins .ensures) ∙ c .if1 .taken)
 
 returns-2 : tie.Need-returns-2
 returns-2 c =
-    let a = c .before .before .before .before .before .before .before .args in front-no (c .before .before .before .before .spaced .ensures) (omega (arith, length-spaced (a .number))) (now (a .row)) (sym (c .before .begins .ensures) ∙ c .if1 .left)
+    let a = c .before .before .before .before .before .before .before .args in
+    front-no (c .before .before .before .before .spaced .ensures) (omega (arith, length-spaced (a .number))) (now (a .row))
+    (sym (c .before .begins .ensures) ∙ c .if1 .left)
 
 pub front-spec : {M : Type 1} → statement M
 front-spec =

@@ -17,7 +17,8 @@ is-score-requires : tie.Need-is-score-requires
 is-score-requires c κs = search needs
 
 returns-2 : tie.Need-returns-2
-returns-2 c = c .is-score .ensures ∙ sym (ap (λ (b : Bool). b || isScore (now (c .before .before .before .before .args .s))) (sym (c .before .before .is-word .ensures) ∙ c .before .if1 .left))
+returns-2 c = c .is-score .ensures ∙ sym (ap (λ (b : Bool). b || isScore (now (c .before .before .before .before .args .s)))
+    (sym (c .before .before .is-word .ensures) ∙ c .before .if1 .left))
 
 pub is-shown-spec : {M : Type 1} → statement M
 is-shown-spec = tie.close (tie.spec is-word-requires returns is-score-requires returns-2)

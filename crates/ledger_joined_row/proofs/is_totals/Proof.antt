@@ -20,7 +20,8 @@ array-share-prefix-text c =
 
 slice-aggregate-is : tie.Need-slice-aggregate-is
 slice-aggregate-is c =
-    let a = c .before .before .before .before .before .args in taken-long (c .before .before .write-totals .ensures) (fits-last (a .lines) (a .loaded) (a .refused))
+    let a = c .before .before .before .before .before .args in taken-long (c .before .before .write-totals .ensures)
+    (fits-last (a .lines) (a .loaded) (a .refused))
 
 is-requires : tie.Need-is-requires
 is-requires c κs = search needs

@@ -43,4 +43,5 @@ returns c =
     (ap₂ _||_ (b .before .before .before .before .is2 .ensures) (c .before .either .ensures ∙ ap₂ _||_ (b .before .before .is3 .ensures) (b .is4 .ensures)))
 
 pub is-word-spec : {M : Type 1} → statement M
-is-word-spec = tie.close (tie.spec slice-aggregate-is is-requires slice-aggregate-is-2 is-requires-2 slice-aggregate-is-3 is-requires-3 slice-aggregate-is-4 is-requires-4 either-requires any-requires returns)
+is-word-spec = tie.close (tie.spec slice-aggregate-is is-requires slice-aggregate-is-2 is-requires-2 slice-aggregate-is-3 is-requires-3
+    slice-aggregate-is-4 is-requires-4 either-requires any-requires returns)

@@ -15,11 +15,13 @@ spaced-requires c κs = search needs
 
 sub-put : tie.Need-sub-put
 sub-put c =
-    let a = c .before .before .before .before .before .before .before .before .args in omega (arith, front-fits (a .number) (now (a .row)), c .before .before .before .before .before .front .ensures)
+    let a = c .before .before .before .before .before .before .before .before .args in
+    omega (arith, front-fits (a .number) (now (a .row)), c .before .before .before .before .before .front .ensures)
 
 part-put-start : tie.Need-part-put-start
 part-put-start c =
-    let a = c .before .before .before .before .before .before .before .before .args in omega (arith, front-fits (a .number) (now (a .row)), c .before .before .before .before .before .front .ensures)
+    let a = c .before .before .before .before .before .before .before .before .args in
+    omega (arith, front-fits (a .number) (now (a .row)), c .before .before .before .before .before .front .ensures)
 
 part-put-end : tie.Need-part-put-end
 part-put-end c = search needs
@@ -36,8 +38,13 @@ same-length c = search needs
 returns : tie.Need-returns
 returns c =
     let a = c .before .before .before .before .before .before .before .before .before .before .before .before .before .args in
-    renumber-adds (a .whole) (a .number) (c .before .before .before .before .before .before .before .before .before .before .front .result) (now (a .row)) (c .before .before .before .before .before .before .before .before .spaced .ensures)
-    (adds-or _ (c .before .before .before .before .before .before .before .before .spaced .result) _ (c .before .before .before .put .last .0) (c .before .before .before .put .result) (c .or .result) (c .before .before .before .put .ensures) (c .or .ensures)) (c .before .before .before .before .before .before .before .before .before .before .front .ensures) (c .before .before .before .before .before .before .before .before .before .before .before .before .before .pre .1) (c .before .before .before .before .before .before .before .before .before .before .before .before .before .pre .0)
+    renumber-adds (a .whole) (a .number) (c .before .before .before .before .before .before .before .before .before .before .front .result)
+    (now (a .row)) (c .before .before .before .before .before .before .before .before .spaced .ensures)
+    (adds-or _ (c .before .before .before .before .before .before .before .before .spaced .result) _ (c .before .before .before .put .last .0)
+    (c .before .before .before .put .result) (c .or .result) (c .before .before .before .put .ensures) (c .or .ensures))
+    (c .before .before .before .before .before .before .before .before .before .before .front .ensures)
+    (c .before .before .before .before .before .before .before .before .before .before .before .before .before .pre .1)
+    (c .before .before .before .before .before .before .before .before .before .before .before .before .before .pre .0)
 
 pub renumber-spec : {M : Type 1} → statement M
 renumber-spec =

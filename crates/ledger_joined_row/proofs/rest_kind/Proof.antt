@@ -12,16 +12,19 @@ says-refused-requires : tie.Need-says-refused-requires
 says-refused-requires c κs = search needs
 
 returns : tie.Need-returns
-returns c = let s = now (c .before .before .before .args .rest) in sym (ap (λ (x : Bool). cond x K.Refused (cond (saysLoaded s) K.Loaded K.Neither)) (sym (c .before .says-refused .ensures) ∙ c .if1 .taken))
+returns c = let s = now (c .before .before .before .args .rest) in sym
+    (ap (λ (x : Bool). cond x K.Refused (cond (saysLoaded s) K.Loaded K.Neither)) (sym (c .before .says-refused .ensures) ∙ c .if1 .taken))
 
 says-loaded-requires : tie.Need-says-loaded-requires
 says-loaded-requires c κs = search needs
 
 returns-2 : tie.Need-returns-2
-returns-2 c = sym (ap₂ (λ (x y : Bool). cond x K.Refused (cond y K.Loaded K.Neither)) (sym (c .before .before .before .says-refused .ensures) ∙ c .before .before .if1 .left) (sym (c .before .says-loaded .ensures) ∙ c .if2 .taken))
+returns-2 c = sym (ap₂ (λ (x y : Bool). cond x K.Refused (cond y K.Loaded K.Neither))
+    (sym (c .before .before .before .says-refused .ensures) ∙ c .before .before .if1 .left) (sym (c .before .says-loaded .ensures) ∙ c .if2 .taken))
 
 returns-3 : tie.Need-returns-3
-returns-3 c = sym (ap₂ (λ (x y : Bool). cond x K.Refused (cond y K.Loaded K.Neither)) (sym (c .before .before .before .says-refused .ensures) ∙ c .before .before .if1 .left) (sym (c .before .says-loaded .ensures) ∙ c .if2 .left))
+returns-3 c = sym (ap₂ (λ (x y : Bool). cond x K.Refused (cond y K.Loaded K.Neither))
+    (sym (c .before .before .before .says-refused .ensures) ∙ c .before .before .if1 .left) (sym (c .before .says-loaded .ensures) ∙ c .if2 .left))
 
 pub rest-kind-spec : {M : Type 1} → statement M
 rest-kind-spec = tie.close (tie.spec says-refused-requires returns says-loaded-requires returns-2 returns-3)

@@ -18,10 +18,18 @@ begins-requires : tie.Need-begins-requires
 begins-requires c κs = search needs
 
 sub-is-number : tie.Need-sub-is-number
-sub-is-number c = omega (arith, begins-fits (text "refused ") (now (c .before .before .before .before .args .rest)) (sym (c .before .begins .ensures) ∙ c .if1 .taken))
+sub-is-number c = omega (
+  arith,
+  begins-fits (text "refused ") (now (c .before .before .before .before .args .rest))
+      (sym (c .before .begins .ensures) ∙ c .if1 .taken),
+)
 
 part-is-number-start : tie.Need-part-is-number-start
-part-is-number-start c = omega (arith, begins-fits (text "refused ") (now (c .before .before .before .before .args .rest)) (sym (c .before .begins .ensures) ∙ c .if1 .taken))
+part-is-number-start c = omega (
+  arith,
+  begins-fits (text "refused ") (now (c .before .before .before .before .args .rest))
+      (sym (c .before .begins .ensures) ∙ c .if1 .taken),
+)
 
 part-is-number-end : tie.Need-part-is-number-end
 part-is-number-end c = search needs
@@ -30,10 +38,13 @@ is-number-requires : tie.Need-is-number-requires
 is-number-requires c κs = search needs
 
 returns : tie.Need-returns
-returns c = c .is-number .ensures ∙ refused-yes (now (c .before .before .before .before .before .before .args .rest)) (sym (c .before .before .before .begins .ensures) ∙ c .before .before .if1 .taken)
+returns c = c .is-number .ensures ∙ refused-yes (now (c .before .before .before .before .before .before .args .rest))
+    (sym (c .before .before .before .begins .ensures) ∙ c .before .before .if1 .taken)
 
 returns-2 : tie.Need-returns-2
-returns-2 c = sym (ap (λ (b : Bool). b && isNumber 1 99 (drop 8 (now (c .before .before .before .before .args .rest)))) (sym (c .before .begins .ensures) ∙ c .if1 .left))
+returns-2 c = sym (ap (λ (b : Bool). b && isNumber 1 99 (drop 8 (now (c .before .before .before .before .args .rest))))
+    (sym (c .before .begins .ensures) ∙ c .if1 .left))
 
 pub says-refused-spec : {M : Type 1} → statement M
-says-refused-spec = tie.close (tie.spec slice-aggregate-begins begins-requires sub-is-number part-is-number-start part-is-number-end is-number-requires returns returns-2)
+says-refused-spec = tie.close (tie.spec slice-aggregate-begins begins-requires sub-is-number part-is-number-start part-is-number-end is-number-requires
+    returns returns-2)

@@ -16,7 +16,8 @@ is-line-requires : tie.Need-is-line-requires
 is-line-requires c κs = search needs
 
 returns : tie.Need-returns
-returns c = let a = c .before .before .before .before .args in kind-line (a .number) (a .loaded) (a .refused) (now (a .row)) (c .before .before .row-kind .result) (c .before .before .row-kind .ensures) (sym (c .before .is-line .ensures) ∙ c .if1 .taken)
+returns c = let a = c .before .before .before .before .args in kind-line (a .number) (a .loaded) (a .refused) (now (a .row))
+    (c .before .before .row-kind .result) (c .before .before .row-kind .ensures) (sym (c .before .is-line .ensures) ∙ c .if1 .taken)
 
 one-less-requires : tie.Need-one-less-requires
 one-less-requires c κs = search needs
@@ -25,10 +26,18 @@ is-totals-requires : tie.Need-is-totals-requires
 is-totals-requires c κs = search needs
 
 returns-2 : tie.Need-returns-2
-returns-2 c = let a = c .before .before .before .before .before .before .before .args in kind-last (a .number) (a .loaded) (a .refused) (now (a .row)) (c .before .before .before .before .before .row-kind .result) _ (c .before .before .before .before .before .row-kind .ensures) (sym (c .before .before .before .before .is-line .ensures) ∙ c .before .before .before .if1 .left) (ap (λ (k : ℕ). same (now (a .row)) (lastRow k (a .loaded) (a .refused))) (sym (c .before .before .one-less .ensures)) ∙ sym (c .before .is-totals .ensures) ∙ c .if2 .taken)
+returns-2 c = let a = c .before .before .before .before .before .before .before .args in
+    kind-last (a .number) (a .loaded) (a .refused) (now (a .row)) (c .before .before .before .before .before .row-kind .result) _
+    (c .before .before .before .before .before .row-kind .ensures) (sym (c .before .before .before .before .is-line .ensures)
+    ∙ c .before .before .before .if1 .left) (ap (λ (k : ℕ). same (now (a .row)) (lastRow k (a .loaded) (a .refused)))
+    (sym (c .before .before .one-less .ensures)) ∙ sym (c .before .is-totals .ensures) ∙ c .if2 .taken)
 
 returns-3 : tie.Need-returns-3
-returns-3 c = let a = c .before .before .before .before .before .before .before .args in kind-last (a .number) (a .loaded) (a .refused) (now (a .row)) (c .before .before .before .before .before .row-kind .result) _ (c .before .before .before .before .before .row-kind .ensures) (sym (c .before .before .before .before .is-line .ensures) ∙ c .before .before .before .if1 .left) (ap (λ (k : ℕ). same (now (a .row)) (lastRow k (a .loaded) (a .refused))) (sym (c .before .before .one-less .ensures)) ∙ sym (c .before .is-totals .ensures) ∙ c .if2 .left)
+returns-3 c = let a = c .before .before .before .before .before .before .before .args in
+    kind-last (a .number) (a .loaded) (a .refused) (now (a .row)) (c .before .before .before .before .before .row-kind .result) _
+    (c .before .before .before .before .before .row-kind .ensures) (sym (c .before .before .before .before .is-line .ensures)
+    ∙ c .before .before .before .if1 .left) (ap (λ (k : ℕ). same (now (a .row)) (lastRow k (a .loaded) (a .refused)))
+    (sym (c .before .before .one-less .ensures)) ∙ sym (c .before .is-totals .ensures) ∙ c .if2 .left)
 
 pub sort-spec : {M : Type 1} → statement M
 sort-spec = tie.close (tie.spec row-kind-requires is-line-requires returns one-less-requires is-totals-requires returns-2 returns-3)

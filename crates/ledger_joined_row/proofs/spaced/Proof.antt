@@ -29,8 +29,14 @@ same-length c = search needs
 returns : tie.Need-returns
 returns c =
     let a = c .before .before .before .before .before .before .before .before .before .before .before .before .args in
-    adds-then (adds-or (now (a .out)) (a .at) (decimalOf (a .n)) (c .before .before .before .before .before .before .before .before .before .decimal .last .0) (c .before .before .before .before .before .before .before .before .before .decimal .result) (c .before .before .before .before .before .before .or .result) (c .before .before .before .before .before .before .before .before .before .decimal .ensures) (c .before .before .before .before .before .before .or .ensures))
-    (adds-or _ (c .before .before .before .before .before .before .or .result) (text " ") (c .before .before .before .put .last .0) (c .before .before .before .put .result) (c .or2 .result) (c .before .before .before .put .ensures) (c .or2 .ensures))
+    adds-then (adds-or (now (a .out)) (a .at) (decimalOf (a .n))
+    (c .before .before .before .before .before .before .before .before .before .decimal .last .0)
+    (c .before .before .before .before .before .before .before .before .before .decimal .result)
+    (c .before .before .before .before .before .before .or .result)
+    (c .before .before .before .before .before .before .before .before .before .decimal .ensures)
+    (c .before .before .before .before .before .before .or .ensures))
+    (adds-or _ (c .before .before .before .before .before .before .or .result) (text " ") (c .before .before .before .put .last .0)
+    (c .before .before .before .put .result) (c .or2 .result) (c .before .before .before .put .ensures) (c .or2 .ensures))
     (omega (arith, length-20 (a .n), c .before .before .before .before .before .before .before .before .before .before .before .before .pre))
 
 pub spaced-spec : {M : Type 1} → statement M

@@ -18,7 +18,8 @@ array-share-prefix-text : tie.Need-array-share-prefix-text
 array-share-prefix-text c = let a = c .before .before .before .before .args in taken-fits (c .before .write-number .ensures) (zero-and (length-20 (a .n)))
 
 slice-aggregate-is : tie.Need-slice-aggregate-is
-slice-aggregate-is c = let a = c .before .before .before .before .before .args in taken-long (c .before .before .write-number .ensures) (zero-and (length-20 (a .n)))
+slice-aggregate-is c = let a = c .before .before .before .before .before .args in
+    taken-long (c .before .before .write-number .ensures) (zero-and (length-20 (a .n)))
 
 is-requires : tie.Need-is-requires
 is-requires c κs = search needs

@@ -18,7 +18,8 @@ same-length c = search needs
 returns : tie.Need-returns
 returns c =
     let a = c .before .before .before .before .before .before .args in
-    adds-or (now (a .out)) 0 (lastRow (a .lines) (a .loaded) (a .refused)) (c .before .before .before .last .last .1 .1 .1 .0) (c .before .before .before .last .result) (c .or .result) (c .before .before .before .last .ensures) (c .or .ensures)
+    adds-or (now (a .out)) 0 (lastRow (a .lines) (a .loaded) (a .refused)) (c .before .before .before .last .last .1 .1 .1 .0)
+    (c .before .before .before .last .result) (c .or .result) (c .before .before .before .last .ensures) (c .or .ensures)
 
 pub write-totals-spec : {M : Type 1} → statement M
 write-totals-spec = tie.close (tie.spec last-requires or-requires same-length returns)

@@ -15,7 +15,8 @@ figures-requires : tie.Need-figures-requires
 figures-requires c κs = search needs
 
 returns-2 : tie.Need-returns-2
-returns-2 c = c .figures .ensures ∙ read-other (c .before .before .before .before .args .s .now) (sym (c .before .before .starts .ensures) ∙ c .before .if1 .left)
+returns-2 c = c .figures .ensures ∙ read-other (c .before .before .before .before .args .s .now)
+    (sym (c .before .before .starts .ensures) ∙ c .before .if1 .left)
 
 pub read-spec : {M : Type 1} → statement M
 read-spec = tie.close (tie.spec starts-requires returns figures-requires returns-2)

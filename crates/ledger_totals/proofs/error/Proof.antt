@@ -43,7 +43,8 @@ returns c =
     let p = c .before .before .put in
     let w = c .before .before .before .before .before .before .write-error in
     let a = c .before .before .before .before .before .before .before .before .before .args in
-    subst (λ (t : List ℕ). Puts (now (a .out)) (p .last .0) (a .at) t (p .result)) (adds-front (w .ensures) (fits-error (a .scored) (a .apart) (a .refused) (a .sum))) (p .ensures)
+    subst (λ (t : List ℕ). Puts (now (a .out)) (p .last .0) (a .at) t (p .result))
+    (adds-front (w .ensures) (fits-error (a .scored) (a .apart) (a .refused) (a .sum))) (p .ensures)
 
 pub error-spec : {M : Type 1} → statement M
 error-spec =

@@ -43,7 +43,8 @@ returns c =
     let p = c .before .before .put in
     let w = c .before .before .before .before .before .before .write in
     let a = c .before .before .before .before .before .before .before .before .before .args in
-    subst (λ (t : List ℕ). Puts (now (a .out)) (p .last .0) (a .at) t (p .result)) (adds-front (w .ensures) (fits-last (a .lines) (a .loaded) (a .refused))) (p .ensures)
+    subst (λ (t : List ℕ). Puts (now (a .out)) (p .last .0) (a .at) t (p .result))
+    (adds-front (w .ensures) (fits-last (a .lines) (a .loaded) (a .refused))) (p .ensures)
 
 pub last-spec : {M : Type 1} → statement M
 last-spec =

@@ -34,9 +34,12 @@ returns c =
     let a = c .before .before .before .before .before .before .before .before .before .before .before .before .before .before .args in
     let p = c .before .before .before .before .before .before .before .before .before .before .put in
     let q = c .before .before .before .put2 in
-    mean-none (a .scored) (a .sum) (c .before .before .before .before .before .before .if1 .taken) (c .before .before .before .before .before .before .before .before .before .before .before .before .before .before .pre)
-    (adds-or (now (a .out)) (a .at) (text " mean ") (p .last .0) (p .result) (c .before .before .before .before .before .before .before .or .result) (p .ensures) (c .before .before .before .before .before .before .before .or .ensures))
-    (adds-or (p .last .0) (c .before .before .before .before .before .before .before .or .result) (text "none") (q .last .0) (q .result) (c .or2 .result) (q .ensures) (c .or2 .ensures))
+    mean-none (a .scored) (a .sum) (c .before .before .before .before .before .before .if1 .taken)
+    (c .before .before .before .before .before .before .before .before .before .before .before .before .before .before .pre)
+    (adds-or (now (a .out)) (a .at) (text " mean ") (p .last .0) (p .result) (c .before .before .before .before .before .before .before .or .result)
+    (p .ensures) (c .before .before .before .before .before .before .before .or .ensures))
+    (adds-or (p .last .0) (c .before .before .before .before .before .before .before .or .result) (text "none") (q .last .0) (q .result)
+    (c .or2 .result) (q .ensures) (c .or2 .ensures))
 
 div-places : tie.Need-div-places
 div-places c = search needs
@@ -45,7 +48,8 @@ places-requires : tie.Need-places-requires
 places-requires c κs =
     let a = c .before .before .before .before .before .before .before .before .before .args in
     let p = c .before .before .before .before .before .put in
-    after-room 6 40 (adds-or (now (a .out)) (a .at) (text " mean ") (p .last .0) (p .result) (c .before .before .or .result) (p .ensures) (c .before .before .or .ensures)) (omega arith) (c .before .before .before .before .before .before .before .before .before .pre)
+    after-room 6 40 (adds-or (now (a .out)) (a .at) (text " mean ") (p .last .0) (p .result) (c .before .before .or .result) (p .ensures)
+    (c .before .before .or .ensures)) (omega arith) (c .before .before .before .before .before .before .before .before .before .pre)
 
 same-length-2 : tie.Need-same-length-2
 same-length-2 c = search needs
@@ -55,8 +59,10 @@ returns-2 c =
     let a = c .before .before .before .before .before .before .before .before .before .before .before .before .args in
     let p = c .before .before .before .before .before .before .before .before .put in
     let q = c .before .before .places in
-    mean-some (a .scored) (a .sum) (c .before .before .before .before .if1 .left) (c .before .before .before .before .before .before .before .before .before .before .before .before .pre)
-    (adds-or (now (a .out)) (a .at) (text " mean ") (p .last .0) (p .result) (c .before .before .before .before .before .or .result) (p .ensures) (c .before .before .before .before .before .or .ensures)) (q .ensures)
+    mean-some (a .scored) (a .sum) (c .before .before .before .before .if1 .left)
+    (c .before .before .before .before .before .before .before .before .before .before .before .before .pre)
+    (adds-or (now (a .out)) (a .at) (text " mean ") (p .last .0) (p .result) (c .before .before .before .before .before .or .result) (p .ensures)
+    (c .before .before .before .before .before .or .ensures)) (q .ensures)
 
 pub mean-spec : {M : Type 1} → statement M
 mean-spec =

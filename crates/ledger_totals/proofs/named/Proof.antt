@@ -28,8 +28,10 @@ returns c =
     let p = c .before .before .before .before .before .before .before .before .put in
     let q = c .before .before .before .decimal in
     let end = c .before .before .before .before .before .or .result in
-    adds-then (adds-or (now (a .out)) (a .at) (now (a .word)) (p .last .0) (p .result) end (p .ensures) (c .before .before .before .before .before .or .ensures))
-    (adds-or (p .last .0) end (decimalOf (a .n)) (q .last .0) (q .result) (c .or2 .result) (q .ensures) (c .or2 .ensures)) (omega (arith, length-20 (a .n), c .before .before .before .before .before .before .before .before .before .before .before .before .pre))
+    adds-then (adds-or (now (a .out)) (a .at) (now (a .word)) (p .last .0) (p .result) end (p .ensures)
+    (c .before .before .before .before .before .or .ensures))
+    (adds-or (p .last .0) end (decimalOf (a .n)) (q .last .0) (q .result) (c .or2 .result) (q .ensures) (c .or2 .ensures))
+    (omega (arith, length-20 (a .n), c .before .before .before .before .before .before .before .before .before .before .before .before .pre))
 
 pub named-spec : {M : Type 1} → statement M
 named-spec = tie.close (tie.spec put-requires or-requires decimal-requires or-requires-2 same-length returns)

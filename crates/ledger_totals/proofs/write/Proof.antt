@@ -35,7 +35,14 @@ named-requires-3 c κs =
     let h = length-named (text "lines ") (a .lines) in
     let i = length-named (text " loaded ") (a .loaded) in
     let e = adds-to (p .ensures) (omega arith) in
-    omega (arith, adds-to (q .ensures) (omega (arith, p .kept .0, c .before .before .before .before .before .before .before .before .before .before .before .before .before .pre)), p .kept .0, q .kept .0, c .before .before .before .before .before .before .before .before .before .before .before .before .before .pre)
+    omega (
+      arith,
+      adds-to (q .ensures)
+          (omega (arith, p .kept .0, c .before .before .before .before .before .before .before .before .before .before .before .before .before .pre)),
+      p .kept .0,
+      q .kept .0,
+      c .before .before .before .before .before .before .before .before .before .before .before .before .before .pre,
+    )
 
 slice-aggregate-put : tie.Need-slice-aggregate-put
 slice-aggregate-put c = search needs
@@ -52,14 +59,22 @@ same-length c = search needs
 returns : tie.Need-returns
 unfolding lastRow
 returns c =
-    let a = c .before .before .before .before .before .before .before .before .before .before .before .before .before .before .before .before .before .before .before .before .before .before .args in
+    let a = c .before .before .before .before .before .before .before .before .before .before .before .before .before .before .before .before .before
+    .before .before .before .before .before .args in
     let p = c .before .before .before .put in
     let n = c .before .before .before .before .before .before .before .before .named3 in
     let h = length-named (text "lines ") (a .lines) in
     let i = length-named (text " loaded ") (a .loaded) in
     let j = length-named (text " refused ") (a .refused) in
-    adds-4 (c .before .before .before .before .before .before .before .before .before .before .before .before .before .before .before .before .before .before .named .ensures) (c .before .before .before .before .before .before .before .before .before .before .before .before .before .named2 .ensures) (n .ensures)
-    (adds-or (n .last .0) (n .result) (text "\n") (p .last .0) (p .result) (c .or .result) (p .ensures) (c .or .ensures)) (omega (arith, c .before .before .before .before .before .before .before .before .before .before .before .before .before .before .before .before .before .before .before .before .before .before .pre))
+    adds-4 (c .before .before .before .before .before .before .before .before .before .before .before .before .before .before .before .before .before
+    .before .named .ensures) (c .before .before .before .before .before .before .before .before .before .before .before .before .before .named2
+    .ensures) (n .ensures)
+    (adds-or (n .last .0) (n .result) (text "\n") (p .last .0) (p .result) (c .or .result) (p .ensures) (c .or .ensures))
+    (omega (
+      arith,
+      c .before .before .before .before .before .before .before .before .before .before .before .before .before .before .before .before
+          .before .before .before .before .before .before .pre,
+    ))
 
 pub write-spec : {M : Type 1} → statement M
 write-spec =

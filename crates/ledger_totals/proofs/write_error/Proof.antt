@@ -20,7 +20,8 @@ slice-aggregate-named-2 c = search needs
 named-requires-2 : tie.Need-named-requires-2
 named-requires-2 c κs =
     let a = c .before .before .before .before .before .before .before .before .args in
-    let r1 = after-room 27 137 (c .before .before .before .before .named .ensures) (length-named (text "scored ") (a .scored)) (omega (arith, c .before .before .before .before .before .before .before .before .pre)) in
+    let r1 = after-room 27 137 (c .before .before .before .before .named .ensures) (length-named (text "scored ") (a .scored))
+    (omega (arith, c .before .before .before .before .before .before .before .before .pre)) in
     omega (arith, r1)
 
 slice-aggregate-named-3 : tie.Need-slice-aggregate-named-3
@@ -29,7 +30,9 @@ slice-aggregate-named-3 c = search needs
 named-requires-3 : tie.Need-named-requires-3
 named-requires-3 c κs =
     let a = c .before .before .before .before .before .before .before .before .before .before .before .before .before .args in
-    let r1 = after-room 27 137 (c .before .before .before .before .before .before .before .before .before .named .ensures) (length-named (text "scored ") (a .scored)) (omega (arith, c .before .before .before .before .before .before .before .before .before .before .before .before .before .pre)) in
+    let r1 = after-room 27 137 (c .before .before .before .before .before .before .before .before .before .named .ensures)
+    (length-named (text "scored ") (a .scored))
+    (omega (arith, c .before .before .before .before .before .before .before .before .before .before .before .before .before .pre)) in
     let r2 = after-room 27 110 (c .before .before .before .before .named2 .ensures) (length-named (text " apart ") (a .apart)) r1 in
     omega (arith, r2)
 
@@ -38,18 +41,34 @@ slice-aggregate-named-4 c = search needs
 
 named-requires-4 : tie.Need-named-requires-4
 named-requires-4 c κs =
-    let a = c .before .before .before .before .before .before .before .before .before .before .before .before .before .before .before .before .before .before .args in
-    let r1 = after-room 27 137 (c .before .before .before .before .before .before .before .before .before .before .before .before .before .before .named .ensures) (length-named (text "scored ") (a .scored)) (omega (arith, c .before .before .before .before .before .before .before .before .before .before .before .before .before .before .before .before .before .before .pre)) in
-    let r2 = after-room 27 110 (c .before .before .before .before .before .before .before .before .before .named2 .ensures) (length-named (text " apart ") (a .apart)) r1 in
+    let a = c .before .before .before .before .before .before .before .before .before .before .before .before .before .before .before .before .before
+    .before .args in
+    let r1 = after-room 27 137 (c .before .before .before .before .before .before .before .before .before .before .before .before .before .before
+    .named .ensures) (length-named (text "scored ") (a .scored)) (omega (
+      arith,
+      c .before .before .before .before .before .before .before .before .before .before .before .before .before .before .before .before
+          .before .before .pre,
+    )) in
+    let r2 = after-room 27 110 (c .before .before .before .before .before .before .before .before .before .named2 .ensures)
+    (length-named (text " apart ") (a .apart)) r1 in
     let r3 = after-room 29 81 (c .before .before .before .before .named3 .ensures) (length-named (text " refused ") (a .refused)) r2 in
     omega (arith, r3)
 
 mean-requires : tie.Need-mean-requires
 mean-requires c κs =
-    let a = c .before .before .before .before .before .before .before .before .before .before .before .before .before .before .before .before .before .before .before .before .before .before .args in
-    let r1 = after-room 27 137 (c .before .before .before .before .before .before .before .before .before .before .before .before .before .before .before .before .before .before .named .ensures) (length-named (text "scored ") (a .scored)) (omega (arith, c .before .before .before .before .before .before .before .before .before .before .before .before .before .before .before .before .before .before .before .before .before .before .pre)) in
-    let r2 = after-room 27 110 (c .before .before .before .before .before .before .before .before .before .before .before .before .before .named2 .ensures) (length-named (text " apart ") (a .apart)) r1 in
-    let r3 = after-room 29 81 (c .before .before .before .before .before .before .before .before .named3 .ensures) (length-named (text " refused ") (a .refused)) r2 in
+    let a = c .before .before .before .before .before .before .before .before .before .before .before .before .before .before .before .before .before
+    .before .before .before .before .before .args in
+    let r1 = after-room 27 137 (c .before .before .before .before .before .before .before .before .before .before .before .before .before .before
+    .before .before .before .before .named .ensures) (length-named (text "scored ") (a .scored))
+    (omega (
+      arith,
+      c .before .before .before .before .before .before .before .before .before .before .before .before .before .before .before
+          .before .before .before .before .before .before .before .pre,
+    )) in
+    let r2 = after-room 27 110 (c .before .before .before .before .before .before .before .before .before .before .before .before .before .named2
+    .ensures) (length-named (text " apart ") (a .apart)) r1 in
+    let r3 = after-room 29 81 (c .before .before .before .before .before .before .before .before .named3 .ensures)
+    (length-named (text " refused ") (a .refused)) r2 in
     let r4 = after-room 25 56 (c .before .before .before .named4 .ensures) (length-named (text " sum ") (a .sum)) r3 in
     omega (arith, r4)
 
@@ -67,10 +86,19 @@ same-length c = search needs
 
 returns : tie.Need-returns
 returns c =
-    let a = c .before .before .before .before .before .before .before .before .before .before .before .before .before .before .before .before .before .before .before .before .before .before .before .before .before .before .before .before .before .before .before .args in
+    let a = c .before .before .before .before .before .before .before .before .before .before .before .before .before .before .before .before .before
+    .before .before .before .before .before .before .before .before .before .before .before .before .before .before .args in
     let p = c .before .before .before .put in
     let m = c .before .before .before .before .before .before .before .before .mean in
-    error-adds (a .scored) (a .apart) (a .refused) (a .sum) (c .before .before .before .before .before .before .before .before .before .before .before .before .before .before .before .before .before .before .before .before .before .before .before .before .before .before .before .before .before .before .before .pre) (c .before .before .before .before .before .before .before .before .before .before .before .before .before .before .before .before .before .before .before .before .before .before .before .before .before .before .before .named .ensures) (c .before .before .before .before .before .before .before .before .before .before .before .before .before .before .before .before .before .before .before .before .before .before .named2 .ensures) (c .before .before .before .before .before .before .before .before .before .before .before .before .before .before .before .before .before .named3 .ensures) (c .before .before .before .before .before .before .before .before .before .before .before .before .named4 .ensures) (m .ensures)
+    error-adds (a .scored) (a .apart) (a .refused) (a .sum)
+    (c .before .before .before .before .before .before .before .before .before .before .before .before .before .before .before .before .before
+    .before .before .before .before .before .before .before .before .before .before .before .before .before .before .pre)
+    (c .before .before .before .before .before .before .before .before .before .before .before .before .before .before .before .before .before
+    .before .before .before .before .before .before .before .before .before .before .named .ensures)
+    (c .before .before .before .before .before .before .before .before .before .before .before .before .before .before .before .before .before
+    .before .before .before .before .before .named2 .ensures)
+    (c .before .before .before .before .before .before .before .before .before .before .before .before .before .before .before .before .before
+    .named3 .ensures) (c .before .before .before .before .before .before .before .before .before .before .before .before .named4 .ensures) (m .ensures)
     (adds-or (m .last .0) (m .result) (text "\n") (p .last .0) (p .result) (c .or .result) (p .ensures) (c .or .ensures))
 
 pub write-error-spec : {M : Type 1} → statement M

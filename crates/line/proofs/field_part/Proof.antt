@@ -24,7 +24,11 @@ find-requires c κs = search needs
 returns-2 : tie.Need-returns-2
 returns-2 c =
     let k = c .before .before .before in
-    record { start = found (now (k .before .before .args .line)) (k .field-bytes .ensures) (c .before .before .if1 .left) (c .find .ensures); length = ap length (k .field-bytes .ensures) }
+    record {
+      start = found (now (k .before .before .args .line)) (k .field-bytes .ensures) (c .before .before .if1 .left) (c .find .ensures);
+      length =
+          ap length (k .field-bytes .ensures);
+    }
 
 pub field-part-spec : {M : Type 1} → statement M
 field-part-spec =

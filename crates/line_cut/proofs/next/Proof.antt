@@ -40,7 +40,8 @@ returns c =
     let a = c .before .before .before .before .before .before .before .before .args in
     let l = c .before .before .before .before .before .loop in
     let r =
-    turn-close (findOf (holding (now (a .line)) (a .begun .held) (a .begun .cr)) (drop (a .from) (now (a .chunk)))) (a .from) (length (now (a .line))) (now (a .chunk)) (l .line) (l .held) (l .cr) (l .i) (l .inv)
+    turn-close (findOf (holding (now (a .line)) (a .begun .held) (a .begun .cr)) (drop (a .from) (now (a .chunk)))) (a .from) (length (now (a .line)))
+    (now (a .chunk)) (l .line) (l .held) (l .cr) (l .i) (l .inv)
     (omega arith) (c .before .before .if1 .taken) (c .before .bare .result) (c .before .bare .ensures) (c .found .result) (c .found .ensures) in
     record { answer = r .0; kept = r .1 }
 
@@ -58,8 +59,10 @@ loop-again c =
     let e = c .before .before .before .before .before in
     let a = e .before .before .before .before .before .before .args in
     let l = e .before .before .before .loop in
-    turn-push (findOf (holding (now (a .line)) (a .begun .held) (a .begun .cr)) (drop (a .from) (now (a .chunk)))) (a .from) (length (now (a .line))) (now (a .chunk)) (l .line) (l .held) (l .cr) (l .i) (l .inv)
-    (omega arith) (e .if1 .left) (c .before .before .before .keep-byte .last .0) (c .one-more .result) (c .before .before .before .keep-byte .ensures) (c .one-more .ensures)
+    turn-push (findOf (holding (now (a .line)) (a .begun .held) (a .begun .cr)) (drop (a .from) (now (a .chunk)))) (a .from) (length (now (a .line)))
+    (now (a .chunk)) (l .line) (l .held) (l .cr) (l .i) (l .inv)
+    (omega arith) (e .if1 .left) (c .before .before .before .keep-byte .last .0) (c .one-more .result) (c .before .before .before .keep-byte .ensures)
+    (c .one-more .ensures)
 
 found-requires-2 : tie.Need-found-requires-2 Inv-loop μ-loop
 found-requires-2 c κs = search needs
@@ -72,7 +75,8 @@ returns-2 c =
     let a = c .before .before .before .before .before .args in
     let l = c .before .before .loop in
     let r =
-    turn-end (findOf (holding (now (a .line)) (a .begun .held) (a .begun .cr)) (drop (a .from) (now (a .chunk)))) (a .from) (length (now (a .line))) (now (a .chunk)) (l .line) (l .held) (l .cr) (l .i) (l .inv)
+    turn-end (findOf (holding (now (a .line)) (a .begun .held) (a .begun .cr)) (drop (a .from) (now (a .chunk)))) (a .from) (length (now (a .line)))
+    (now (a .chunk)) (l .line) (l .held) (l .cr) (l .i) (l .inv)
     (omega arith) (c .found2 .result) (c .found2 .ensures) in
     record { answer = r .0; kept = r .1 }
 

@@ -26,7 +26,8 @@ returns-2 : tie.Need-returns-2
 returns-2 c =
     let j = c .before in
     let i = j .before .before .before in
-    is-draw (now (i .before .before .before .args .result)) (i .is .result) (i .is .ensures) (j .before .before .if1 .left) (j .is2 .result) (j .is2 .ensures) (c .if2 .taken)
+    is-draw (now (i .before .before .before .args .result)) (i .is .result) (i .is .ensures) (j .before .before .if1 .left) (j .is2 .result)
+    (j .is2 .ensures) (c .if2 .taken)
 
 slice-aggregate-is-3 : tie.Need-slice-aggregate-is-3
 slice-aggregate-is-3 c = search needs
@@ -39,14 +40,16 @@ returns-3 c =
     let k = c .before in
     let j = k .before .before .before in
     let i = j .before .before .before in
-    is-won (now (i .before .before .before .args .result)) (i .is .result) (i .is .ensures) (j .before .before .if1 .left) (j .is2 .result) (j .is2 .ensures) (k .before .before .if2 .left) (k .is3 .result) (k .is3 .ensures) (c .if3 .taken)
+    is-won (now (i .before .before .before .args .result)) (i .is .result) (i .is .ensures) (j .before .before .if1 .left) (j .is2 .result)
+    (j .is2 .ensures) (k .before .before .if2 .left) (k .is3 .result) (k .is3 .ensures) (c .if3 .taken)
 
 returns-4 : tie.Need-returns-4
 returns-4 c =
     let k = c .before in
     let j = k .before .before .before in
     let i = j .before .before .before in
-    no-result (now (i .before .before .before .args .result)) (i .is .result) (i .is .ensures) (j .before .before .if1 .left) (j .is2 .result) (j .is2 .ensures) (k .before .before .if2 .left) (k .is3 .result) (k .is3 .ensures) (c .if3 .left)
+    no-result (now (i .before .before .before .args .result)) (i .is .result) (i .is .ensures) (j .before .before .if1 .left) (j .is2 .result)
+    (j .is2 .ensures) (k .before .before .if2 .left) (k .is3 .result) (k .is3 .ensures) (c .if3 .left)
 
 pub half-points-spec : {M : Type 1} → statement M
 half-points-spec =

@@ -113,5 +113,6 @@ pub parse-spec : {M : Type 1} → statement M
 parse-spec =
     tie.close
     (tie.spec
-    refused-requires returns is-text-requires refused-requires-2 returns-2 find-requires refused-requires-3 returns-3 add-rest sub-rest part-rest-start part-rest-end
+    refused-requires returns is-text-requires refused-requires-2 returns-2 find-requires refused-requires-3 returns-3 add-rest sub-rest part-rest-start
+    part-rest-end
     find-requires-2 slice-aggregate-trim trim-requires slice-aggregate-trim-2 trim-requires-2 read-fields-requires returns-4)

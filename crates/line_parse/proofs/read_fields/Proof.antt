@@ -119,5 +119,6 @@ pub read-fields-spec : {M : Type 1} → statement M
 read-fields-spec =
     tie.close
     (tie.spec
-    find-requires slice-aggregate-place place-requires refused-requires returns sub-rest part-rest-start part-rest-end side-requires refused-requires-2 returns-2
+    find-requires slice-aggregate-place place-requires refused-requires returns sub-rest part-rest-start part-rest-end side-requires refused-requires-2
+    returns-2
     slice-aggregate-read read-requires enum-known-told refused-requires-3 enum-known-told-2 with-result-requires returns-3 returns-4)

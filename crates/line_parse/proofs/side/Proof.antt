@@ -30,7 +30,8 @@ is-requires c κs = search needs
 
 -- the word that both tests are of
 word : (c : tie.After-find) → take (c .find .result) (now (c .before .skip-spaces .result)) ≡ wordOf (now (c .before .before .before .args .s))
-word c = word-is (now (c .before .before .before .args .s)) (now (c .before .skip-spaces .result)) (c .find .result) (c .before .skip-spaces .ensures) (c .find .ensures)
+word c = word-is (now (c .before .before .before .args .s)) (now (c .before .skip-spaces .result)) (c .find .result) (c .before .skip-spaces .ensures)
+    (c .find .ensures)
 
 index-requires : tie.Need-index-requires
 index-requires c κs = search needs
@@ -56,18 +57,21 @@ returns-2 c =
     let i = j .before .before .before in
     let f = i .before .before .before in
     c .index2 .ensures
-    ∙ is-black (now (f .before .before .before .args .s)) _ (word f) (i .is .result) (i .is .ensures) (j .before .before .if1 .left) (j .is2 .result) (j .is2 .ensures) (c .before .if2 .taken)
+    ∙ is-black (now (f .before .before .before .args .s)) _ (word f) (i .is .result) (i .is .ensures) (j .before .before .if1 .left) (j .is2 .result)
+    (j .is2 .ensures) (c .before .if2 .taken)
 
 returns-3 : tie.Need-returns-3
 returns-3 c =
     let j = c .before in
     let i = j .before .before .before in
     let f = i .before .before .before in
-    no-side (now (f .before .before .before .args .s)) _ (word f) (i .is .result) (i .is .ensures) (j .before .before .if1 .left) (j .is2 .result) (j .is2 .ensures) (c .if2 .left)
+    no-side (now (f .before .before .before .args .s)) _ (word f) (i .is .result) (i .is .ensures) (j .before .before .if1 .left) (j .is2 .result)
+    (j .is2 .ensures) (c .if2 .left)
 
 pub side-spec : {M : Type 1} → statement M
 side-spec =
     tie.close
     (tie.spec
-    skip-spaces-requires find-requires slice-aggregate-word slice-aggregate-is is-requires index-requires returns slice-aggregate-is-2 is-requires-2 index-requires-2
+    skip-spaces-requires find-requires slice-aggregate-word slice-aggregate-is is-requires index-requires returns slice-aggregate-is-2 is-requires-2
+    index-requires-2
     returns-2 returns-3)

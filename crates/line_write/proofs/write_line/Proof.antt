@@ -21,7 +21,8 @@ returns : tie.Need-returns
 returns c =
     let a = c .before .before .before .before .before .before .before .args in
     let k = c .before .before .before .check in
-    unfit (now (a .bitboards)) (now (a .board)) (a .state) (k .result) (k .ensures) (a .wanted) (now (a .out)) (c .before .refusal .given .0 .0) (c .before .refusal .given .1)
+    unfit (now (a .bitboards)) (now (a .board)) (a .state) (k .result) (k .ensures) (a .wanted) (now (a .out)) (c .before .refusal .given .0 .0)
+    (c .before .refusal .given .1)
 
 same-length : tie.Need-same-length
 same-length c = search needs
@@ -31,7 +32,8 @@ returns-2 c =
     let a = c .before .before .before .before .before .before .before .before .before .before .args in
     let k = c .before .before .before .before .before .before .check in
     let w = c .before .before .write-text in
-    fit (now (a .bitboards)) (now (a .board)) (a .state) (k .result) (k .ensures) (a .wanted) (now (a .out)) (w .last .1 .1 .1 .0) (w .result) (c .before .before .before .before .enum-told .given .1) (w .ensures)
+    fit (now (a .bitboards)) (now (a .board)) (a .state) (k .result) (k .ensures) (a .wanted) (now (a .out)) (w .last .1 .1 .1 .0) (w .result)
+    (c .before .before .before .before .enum-told .given .1) (w .ensures)
 
 pub write-line-spec : {M : Type 1} → statement M
 write-line-spec =

@@ -38,7 +38,8 @@ returns-2 : tie.Need-returns-2
 returns-2 c =
     let a = c .before .before .before .before .before .before .before .before .before .args in
     let k = c .before .before .before .position in
-    nothing-more (now (a .board)) (a .state) (a .wanted) (now (a .out)) (k .last .1 .1 .0) (c .shown .result) (c .before .before .before .before .before .enum-told .given .1)
+    nothing-more (now (a .board)) (a .state) (a .wanted) (now (a .out)) (k .last .1 .1 .0) (c .shown .result)
+    (c .before .before .before .before .before .enum-told .given .1)
     (at-front (positionText (now (a .board)) (a .state)) (now (a .out)) (k .last .1 .1 .0) (k .result) (c .shown .result) (k .ensures) (c .shown .ensures))
 
 same-length-2 : tie.Need-same-length-2
@@ -50,7 +51,8 @@ returns-3 c =
     let k = c .before .before .before .line in
     let w = c .before .before .before .before .before .before .before .wanted in
     with-half (now (a .board)) (a .state) (a .wanted) (now (a .out)) (k .last .1 .1 .1 .0) (c .shown2 .result) (w .given .0 .0) (w .given .1) (omega arith)
-    (at-front (lineText (now (a .board)) (a .state) (w .given .0 .0)) (now (a .out)) (k .last .1 .1 .1 .0) (k .result) (c .shown2 .result) (k .ensures) (c .shown2 .ensures))
+    (at-front (lineText (now (a .board)) (a .state) (w .given .0 .0)) (now (a .out)) (k .last .1 .1 .1 .0) (k .result) (c .shown2 .result) (k .ensures)
+    (c .shown2 .ensures))
 
 pub write-text-spec : {M : Type 1} → statement M
 write-text-spec =

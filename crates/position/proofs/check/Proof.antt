@@ -41,13 +41,16 @@ decided : (bbs bytes : List ℕ) (r : Bool) → length bbs ≡ 14 → length byt
 decided bbs bytes r l m e = sym (e ∙ ap₂ (λ (a b : Bool). a && b && consistent bbs bytes) (eq-eqb (length bbs) 14 l) (eq-eqb (length bytes) 64 m))
 
 -- what is known once `fits` has been asked
-shape : (c : tie.After-fits2) → shaped (c .before .before .before .before .before .before .before .args .bitboards .now) (c .before .before .before .before .before .before .before .args .board .now) (c .before .before .before .before .before .before .before .args .state) ≡ true
+shape : (c : tie.After-fits2) → shaped (c .before .before .before .before .before .before .before .args .bitboards .now)
+    (c .before .before .before .before .before .before .before .args .board .now)
+    (c .before .before .before .before .before .before .before .args .state) ≡ true
 shape c =
     let b = c .before .before .before in
     let a = b .before .before .before .before .args in
     in-shape (a .bitboards .now) (a .board .now) (a .state) (b .before .if1 .left) (b .if2 .left) (omega arith)
 
-fitted : (c : tie.After-fits2) → consistent (c .before .before .before .before .before .before .before .args .bitboards .now) (c .before .before .before .before .before .before .before .args .board .now) ≡ c .fits2 .result
+fitted : (c : tie.After-fits2) → consistent (c .before .before .before .before .before .before .before .args .bitboards .now)
+    (c .before .before .before .before .before .before .before .args .board .now) ≡ c .fits2 .result
 fitted c =
     let b = c .before .before .before in
     let a = b .before .before .before .before .args in
@@ -118,4 +121,5 @@ pub check-spec : {M : Type 1} → statement M
 check-spec =
     tie.close
     (tie.spec
-    returns returns-2 index-requires returns-3 fits-requires at-odds-requires returns-4 at-home-requires returns-5 just-passed-requires returns-6 counters-fit-requires returns-7 returns-8)
+    returns returns-2 index-requires returns-3 fits-requires at-odds-requires returns-4 at-home-requires returns-5 just-passed-requires returns-6
+    counters-fit-requires returns-7 returns-8)

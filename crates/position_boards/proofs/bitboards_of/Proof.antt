@@ -19,8 +19,10 @@ array-read-strays-2 c = search needs
 returns : tie.Need-returns
 returns c =
     let s = c .before .before in
-    let bytes = s .before .args .board .now in
-    (made bytes (s .sorted .result) (c .boards-of .result) (s .sorted .ensures) (c .boards-of .ensures), strays-seen bytes (s .sorted .result) (s .sorted .ensures))
+    let bytes = s .before .args .board .now in (
+      made bytes (s .sorted .result) (c .boards-of .result) (s .sorted .ensures) (c .boards-of .ensures),
+      strays-seen bytes (s .sorted .result) (s .sorted .ensures),
+    )
 
 pub bitboards-of-spec : {M : Type 1} → statement M
 bitboards-of-spec =

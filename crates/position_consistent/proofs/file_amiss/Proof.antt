@@ -46,7 +46,8 @@ loop-again c =
     let a = c .before .before .before .before .before .args in
     let byte = getD (a .board .now) (8 * l .rank + a .file) 0 in (
       omega arith,
-      rw add-one (byte-amiss (rankRight (a .board .now) (a .codes) (a .file)) (l .rank) (l .amiss) byte (c .before .code-at .result) (l .inv .1) (ap (eqb byte) (c .before .code-at .ensures))),
+      rw add-one (byte-amiss (rankRight (a .board .now) (a .codes) (a .file)) (l .rank) (l .amiss) byte (c .before .code-at .result) (l .inv .1)
+          (ap (eqb byte) (c .before .code-at .ensures))),
     )
 
 returns : tie.Need-returns Inv-loop μ-loop

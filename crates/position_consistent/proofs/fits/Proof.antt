@@ -70,7 +70,8 @@ returns-3 c =
     let a = e1 .before .before .before .args in
     c .bytes-amiss .ensures
     ∙ ap₂ (λ (ones twos : ℕ). filesRight (a .board .now) ones twos (p3 .plane3 .result) (p4 .plane4 .result)) (p1 .plane .ensures) (p2 .plane2 .ensures)
-    ∙ ap₂ (λ (fours eights : ℕ). filesRight (a .board .now) (planeOf (a .bitboards .now) 0) (planeOf (a .bitboards .now) 1) fours eights) (p3 .plane3 .ensures) (p4 .plane4 .ensures)
+    ∙ ap₂ (λ (fours eights : ℕ). filesRight (a .board .now) (planeOf (a .bitboards .now) 0) (planeOf (a .bitboards .now) 1) fours eights)
+    (p3 .plane3 .ensures) (p4 .plane4 .ensures)
     ∙ bytes-decide (a .bitboards .now) (a .board .now) (stand e2) (e1 .if1 .left)
 
 pub fits-spec : {M : Type 1} → statement M

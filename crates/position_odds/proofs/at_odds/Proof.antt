@@ -27,7 +27,8 @@ returns-3 c =
     let y = h .before in
     let b = y .before in
     let a = b .before .before .before .args in
-    overlap-told (a .bitboards .now) (a .board .now) (b .if1 .left) (y .if2 .left) (h .overlap .result) (c .lowest .result) (h .overlap .ensures) (t .if3 .taken) (c .lowest .ensures)
+    overlap-told (a .bitboards .now) (a .board .now) (b .if1 .left) (y .if2 .left) (h .overlap .result) (c .lowest .result) (h .overlap .ensures)
+    (t .if3 .taken) (c .lowest .ensures)
 
 split-requires : tie.Need-split-requires
 split-requires c κs = search needs

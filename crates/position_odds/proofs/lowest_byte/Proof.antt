@@ -21,7 +21,12 @@ occupied-requires : tie.Need-occupied-requires Inv-loop μ-loop
 occupied-requires c κs = search needs
 
 loop-holds : tie.Need-loop-holds Inv-loop μ-loop
-loop-holds c = (omega arith, c .occupied .ensures, none-tried (agrees (c .before .before .before .args .bitboards .now) (c .before .before .before .args .board .now)))
+loop-holds c = (
+  omega arith,
+  c .occupied .ensures,
+  none-tried (agrees (c .before .before .before .args .bitboards .now)
+      (c .before .before .before .args .board .now)),
+)
 
 shared-slice-read-byte-right : tie.Need-shared-slice-read-byte-right Inv-loop μ-loop
 shared-slice-read-byte-right c = search needs
@@ -38,7 +43,8 @@ returns c =
     let l = r .before .before .before .loop in
     let a = r .before .before .before .before .before .before .before .args in
     stopped (agrees (a .bitboards .now) (a .board .now)) (l .k) (omega arith) (l .inv .2)
-    (sym (byte-agrees (a .bitboards .now) (a .board .now) (r .before .before .before .before .occupied .result) (l .k) (omega arith) (l .inv .1)) ∙ sym (r .byte-right .ensures) ∙ not-true (r .byte-right .result) (c .if1 .taken))
+    (sym (byte-agrees (a .bitboards .now) (a .board .now) (r .before .before .before .before .occupied .result) (l .k) (omega arith) (l .inv .1))
+    ∙ sym (r .byte-right .ensures) ∙ not-true (r .byte-right .result) (c .if1 .taken))
 
 add-k : tie.Need-add-k Inv-loop μ-loop
 add-k c = search needs
@@ -54,7 +60,8 @@ loop-again c =
       omega arith,
       l .inv .1,
       one-more (agrees (a .bitboards .now) (a .board .now)) (l .k) (l .inv .2)
-          (sym (byte-agrees (a .bitboards .now) (a .board .now) (r .before .before .before .before .occupied .result) (l .k) (omega arith) (l .inv .1)) ∙ sym (r .byte-right .ensures) ∙ not-false (r .byte-right .result) (c .if1 .left)),
+          (sym (byte-agrees (a .bitboards .now) (a .board .now) (r .before .before .before .before .occupied .result) (l .k) (omega arith) (l .inv .1))
+          ∙ sym (r .byte-right .ensures) ∙ not-false (r .byte-right .result) (c .if1 .left)),
     )
 
 cast-result-2 : tie.Need-cast-result-2 Inv-loop μ-loop

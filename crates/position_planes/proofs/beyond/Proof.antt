@@ -44,7 +44,8 @@ loop-again c =
     let l = w .before .before .loop in
     let a = w .before .before .before .args in (
       omega arith,
-      stack-next (λ rank. digitsOf (highOf (rankWord (a .board .now) rank)) 4) (l .rank) (l .inv .1) (c .gathered .ensures ∙ ap (λ (x : ℕ). digitsOf x 4) (c .before .high .ensures ∙ ap highOf (w .word .ensures .0))),
+      stack-next (λ rank. digitsOf (highOf (rankWord (a .board .now) rank)) 4) (l .rank) (l .inv .1)
+          (c .gathered .ensures ∙ ap (λ (x : ℕ). digitsOf x 4) (c .before .high .ensures ∙ ap highOf (w .word .ensures .0))),
     )
 
 returns : tie.Need-returns Inv-loop μ-loop

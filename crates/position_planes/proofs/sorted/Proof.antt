@@ -17,7 +17,8 @@ sliced-requires : tie.Need-sliced-requires
 sliced-requires c κs = search needs
 
 -- the planes are those of the board's own words
-planes : (c : tie.After-sliced) → Sliced (rankWord (c .before .before .before .args .board .now)) 8 (c .sliced .result .a) (c .sliced .result .b) (c .sliced .result .c) (c .sliced .result .d) (c .sliced .result .all)
+planes : (c : tie.After-sliced) → Sliced (rankWord (c .before .before .before .args .board .now)) 8 (c .sliced .result .a) (c .sliced .result .b)
+    (c .sliced .result .c) (c .sliced .result .d) (c .sliced .result .all)
 planes c =
     let m = c .before .before in
     let bytes = m .before .args .board .now in

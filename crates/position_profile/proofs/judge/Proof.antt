@@ -32,7 +32,8 @@ returns-2 c =
     let k = e .before .before in
     let a = k .before .before .before .args in
     c .judge .ensures
-    ∙ fit-rest (a .bitboards .now) (a .board .now) (a .state) (k .check .result) (k .check .ensures) (orProfile (a .bitboards .now) (a .state) (given tt)) (e .enum-told .given .1)
+    ∙ fit-rest (a .bitboards .now) (a .board .now) (a .state) (k .check .result) (k .check .ensures)
+    (orProfile (a .bitboards .now) (a .state) (given tt)) (e .enum-told .given .1)
 
 pub judge-spec : {M : Type 1} → statement M
 judge-spec =

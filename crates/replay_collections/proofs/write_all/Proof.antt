@@ -9,7 +9,8 @@ use Rattle.replay_collections.proofs.write_all.Statement.{statement}
 use Rattle.replay_collections.proofs.write_all.Tie as tie
 
 abbrev Inv-loop : tie.InvT-loop
-Inv-loop chunk₀ line₀ other₀ state₀ more₀ reads₀ chunk line other state more reads = (reads ≤ 1000000) × (length chunk ≡ length chunk₀) × (length line ≡ 256) × (length other ≡ 256)
+Inv-loop chunk₀ line₀ other₀ state₀ more₀ reads₀ chunk line other state more reads = (reads ≤ 1000000) × (length chunk ≡ length chunk₀)
+    × (length line ≡ 256) × (length other ≡ 256)
 
 abbrev μ-loop : tie.MeasureT-loop
 μ-loop chunk₀ line₀ other₀ state₀ more₀ reads₀ chunk line other state more reads = 1000000 - reads

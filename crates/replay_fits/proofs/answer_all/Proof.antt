@@ -31,10 +31,16 @@ past-requires : tie.Need-past-requires Inv-loop μ-loop
 past-requires c κs = search needs
 
 sub-rest : tie.Need-sub-rest Inv-loop μ-loop
-sub-rest c = past-found 10 (now (c .before .before .before .before .before .before .before .before .before .before .before .before .before .before .before .before .before .loop .rest)) (c .past .ensures)
+sub-rest c = past-found 10 (now
+    (c .before .before .before .before .before .before .before .before .before .before .before .before .before .before .before .before .before .loop
+    .rest)) (c .past .ensures)
 
 part-rest-start : tie.Need-part-rest-start Inv-loop μ-loop
-part-rest-start c = omega (arith, past-found 10 (now (c .before .before .before .before .before .before .before .before .before .before .before .before .before .before .before .before .before .loop .rest)) (c .past .ensures))
+part-rest-start c = omega (
+  arith,
+  past-found 10 (now (c .before .before .before .before .before .before .before .before .before .before .before .before .before .before .before .before
+      .before .loop .rest)) (c .past .ensures),
+)
 
 part-rest-end : tie.Need-part-rest-end Inv-loop μ-loop
 part-rest-end c = search needs
@@ -42,7 +48,8 @@ part-rest-end c = search needs
 loop-less : tie.Need-loop-less Inv-loop μ-loop
 loop-less c =
     let p = c .before in
-    left-shorter 10 (now (p .before .before .before .before .before .before .before .before .before .before .before .before .before .before .before .before .before .loop .rest)) (search needs) (p .past .ensures)
+    left-shorter 10 (now (p .before .before .before .before .before .before .before .before .before .before .before .before .before .before .before
+    .before .before .loop .rest)) (search needs) (p .past .ensures)
 
 loop-again : tie.Need-loop-again Inv-loop μ-loop
 loop-again c = search needs

@@ -23,14 +23,16 @@ returns c =
     let g = c .before .before in
     let d = g .before in
     let f = d .before in
-    c .turned .ensures ∙ minus-first (now (f .before .before .args .s)) (now (f .text-before .result)) (d .digits .result) (g .find .result) (f .text-before .ensures) (d .digits .ensures) (g .find .ensures) (c .before .if1 .taken)
+    c .turned .ensures ∙ minus-first (now (f .before .before .args .s)) (now (f .text-before .result)) (d .digits .result) (g .find .result)
+    (f .text-before .ensures) (d .digits .ensures) (g .find .ensures) (c .before .if1 .taken)
 
 returns-2 : tie.Need-returns-2
 returns-2 c =
     let g = c .before in
     let d = g .before in
     let f = d .before in
-    digit-first (now (f .before .before .args .s)) (now (f .text-before .result)) (d .digits .result) (g .find .result) (f .text-before .ensures) (d .digits .ensures) (g .find .ensures) (c .if1 .left)
+    digit-first (now (f .before .before .args .s)) (now (f .text-before .result)) (d .digits .result) (g .find .result) (f .text-before .ensures)
+    (d .digits .ensures) (g .find .ensures) (c .if1 .left)
 
 pub number-spec : {M : Type 1} → statement M
 number-spec = tie.close (tie.spec text-before-requires digits-requires find-requires turned-requires returns returns-2)

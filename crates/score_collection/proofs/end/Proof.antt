@@ -32,7 +32,8 @@ returns-2 c =
     end-sum (a .gathered) (now (a .line)) [] (c .before .before .before .before .before .if1 .left) (endedPaper (c .outcome .result))
     (c .outcome .ensures
     ∙ ap outcomeOf
-    (k .ensures ∙ ap (λ (s : Sum). cond (ltb 0 (a .gathered .begun .held)) s (a .gathered .sum)) (told-close (z .result) (z .ensures) (a .gathered .sum) (now (a .line)) (a .gathered .begun .held))))
+    (k .ensures ∙ ap (λ (s : Sum). cond (ltb 0 (a .gathered .begun .held)) s (a .gathered .sum))
+    (told-close (z .result) (z .ensures) (a .gathered .sum) (now (a .line)) (a .gathered .begun .held))))
 
 pub end-spec : {M : Type 1} → statement M
 end-spec =

@@ -30,7 +30,8 @@ returns-2 c =
     let t = c .before .before .take in
     let e = run-same (closeWith (z .result)) closeMore (told-close (z .result) (z .ensures))
     (opened (a .gathered .begun) (now (a .line))) (a .gathered .sum) (now (a .chunk)) in
-    feed-lines (a .gathered) (now (a .line)) (now (a .chunk)) (c .before .before .before .before .before .before .if1 .left) (t .result) (t .last .1 .0) (t .ensures .answer ∙ ap gatheredOf e)
+    feed-lines (a .gathered) (now (a .line)) (now (a .chunk)) (c .before .before .before .before .before .before .if1 .left) (t .result)
+    (t .last .1 .0) (t .ensures .answer ∙ ap gatheredOf e)
     (t .ensures .kept ∙ ap (λ (r : CutSoFar Sum). r .left .line) e)
 
 pub feed-spec : {M : Type 1} → statement M

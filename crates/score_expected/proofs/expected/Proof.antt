@@ -19,7 +19,8 @@ entry-requires c κs = search needs
 returns : tie.Need-returns
 returns c =
     c .entry .ensures
-    ∙ ap₂ entryIn (c .before .before .before .table .ensures) (toZ-ofZ {w = w32} (sfits-of (c .before .wide .ok)) ∙ c .before .wide .ensures ∙ toZ-ofZ {w = w16} (c .before .before .before .before .fits .score))
+    ∙ ap₂ entryIn (c .before .before .before .table .ensures) (toZ-ofZ {w = w32} (sfits-of (c .before .wide .ok)) ∙ c .before .wide .ensures
+    ∙ toZ-ofZ {w = w16} (c .before .before .before .before .fits .score))
 
 pub expected-spec : {M : Type 1} → statement M
 expected-spec = tie.close (tie.spec table-requires wide-requires entry-requires returns)

@@ -49,7 +49,8 @@ unfolding materialOf
 returns-2 c =
     let k = c .before .before .before in
     let a = k .before .before .before .before .args in
-    pass-on (a .bitboards .now) (a .board .now) (a .state) (k .check .result) (k .check .ensures) (total (a .bitboards .now) (a .color)) (c .before .refusal .given .0 .0) (c .before .refusal .given .1)
+    pass-on (a .bitboards .now) (a .board .now) (a .state) (k .check .result) (k .check .ensures) (total (a .bitboards .now) (a .color))
+    (c .before .refusal .given .0 .0) (c .before .refusal .given .1)
     ∙ a-colour (a .color) (checked (a .bitboards .now) (a .board .now) (a .state) (total (a .bitboards .now) (a .color))) (omega arith)
 
 enum-told : tie.Need-enum-told
@@ -61,12 +62,15 @@ material-requires c κs = search needs
 -- a total that is not refused is the rest of the definition
 passed : (c : tie.After-enum-told)
     → total (c .before .before .before .before .before .before .args .bitboards .now) (c .before .before .before .before .before .before .args .color)
-    ≡ materialOf (c .before .before .before .before .before .before .args .bitboards .now) (c .before .before .before .before .before .before .args .board .now) (c .before .before .before .before .before .before .args .state) (c .before .before .before .before .before .before .args .color)
+    ≡ materialOf (c .before .before .before .before .before .before .args .bitboards .now)
+    (c .before .before .before .before .before .before .args .board .now) (c .before .before .before .before .before .before .args .state)
+    (c .before .before .before .before .before .before .args .color)
 unfolding materialOf
 passed c =
     let k = c .before .before in
     let a = k .before .before .before .before .args in
-    fit-rest (a .bitboards .now) (a .board .now) (a .state) (k .check .result) (k .check .ensures) (total (a .bitboards .now) (a .color)) (c .enum-told .given .1)
+    fit-rest (a .bitboards .now) (a .board .now) (a .state) (k .check .result) (k .check .ensures) (total (a .bitboards .now) (a .color))
+    (c .enum-told .given .1)
     ∙ a-colour (a .color) (checked (a .bitboards .now) (a .board .now) (a .state) (total (a .bitboards .now) (a .color))) (omega arith)
 
 returns-3 : tie.Need-returns-3

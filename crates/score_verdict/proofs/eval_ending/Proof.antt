@@ -18,7 +18,8 @@ unfolding endingOf
 returns c =
     let k = c .before .before .before in
     let a = k .before .before .before .args in
-    pass-on (a .bitboards .now) (a .board .now) (a .state) (k .check .result) (k .check .ensures) (given (verdictOf (a .bitboards .now) (a .state .side))) (c .before .refusal .given .0 .0) (c .before .refusal .given .1)
+    pass-on (a .bitboards .now) (a .board .now) (a .state) (k .check .result) (k .check .ensures)
+    (given (verdictOf (a .bitboards .now) (a .state .side))) (c .before .refusal .given .0 .0) (c .before .refusal .given .1)
 
 enum-told : tie.Need-enum-told
 enum-told c = search needs
@@ -33,7 +34,8 @@ returns-2 c =
     let k = e .before .before in
     let a = k .before .before .before .args in
     ap given (c .ending .ensures)
-    ∙ fit-rest (a .bitboards .now) (a .board .now) (a .state) (k .check .result) (k .check .ensures) (given (verdictOf (a .bitboards .now) (a .state .side))) (e .enum-told .given .1)
+    ∙ fit-rest (a .bitboards .now) (a .board .now) (a .state) (k .check .result) (k .check .ensures)
+    (given (verdictOf (a .bitboards .now) (a .state .side))) (e .enum-told .given .1)
 
 pub eval-ending-spec : {M : Type 1} → statement M
 eval-ending-spec =

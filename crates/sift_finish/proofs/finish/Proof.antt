@@ -25,7 +25,8 @@ returns-2 : tie.Need-returns-2
 returns-2 c =
     let a = c .before .before .before .before .before .before .before .args in
     finish-many (a .state) (a .form) (now (a .line)) (now (a .made)) (now (a .rows)) (c .before .before .before .if1 .left)
-    (ap (λ (k : ℕ). ltb (a .state .loaded + a .state .refused + k) (2 ^ 64)) (sym (c .before .before .unfinished .ensures)) ∙ sym (c .before .countable .ensures) ∙ not-true _ (c .if2 .taken))
+    (ap (λ (k : ℕ). ltb (a .state .loaded + a .state .refused + k) (2 ^ 64)) (sym (c .before .before .unfinished .ensures))
+    ∙ sym (c .before .countable .ensures) ∙ not-true _ (c .if2 .taken))
 
 room-requires : tie.Need-room-requires
 room-requires c κs = search needs
@@ -39,14 +40,17 @@ returns-3 c =
     let e = c .before .before .before .before .unfinished .ensures in
     let m = c .before .room .ensures in
     finish-full (a .state) (a .form) (now (a .line)) (now (a .made)) (now (a .rows)) (c .before .before .before .before .before .if1 .left)
-    (ap (λ (k : ℕ). ltb (a .state .loaded + a .state .refused + k) (2 ^ 64)) (sym (c .before .before .before .before .unfinished .ensures)) ∙ sym (c .before .before .before .countable .ensures) ∙ not-false _ (c .before .before .if2 .left))
-    (subst (λ (n : ℕ). length (now (a .made)) / roomOf (a .form) < n) e (subst (λ (n : ℕ). length (now (a .made)) / n < c .before .before .before .before .unfinished .result) m (c .if3 .taken)))
+    (ap (λ (k : ℕ). ltb (a .state .loaded + a .state .refused + k) (2 ^ 64)) (sym (c .before .before .before .before .unfinished .ensures))
+    ∙ sym (c .before .before .before .countable .ensures) ∙ not-false _ (c .before .before .if2 .left))
+    (subst (λ (n : ℕ). length (now (a .made)) / roomOf (a .form) < n) e
+    (subst (λ (n : ℕ). length (now (a .made)) / n < c .before .before .before .before .unfinished .result) m (c .if3 .taken)))
 
 returns-4 : tie.Need-returns-4
 returns-4 c =
     let a = c .before .before .before .before .before .before .before .before .before .before .args in
     finish-rows-full (a .state) (a .form) (now (a .line)) (now (a .made)) (now (a .rows)) (c .before .before .before .before .before .before .if1 .left)
-    (ap (λ (k : ℕ). ltb (a .state .loaded + a .state .refused + k) (2 ^ 64)) (sym (c .before .before .before .before .before .unfinished .ensures)) ∙ sym (c .before .before .before .before .countable .ensures) ∙ not-false _ (c .before .before .before .if2 .left))
+    (ap (λ (k : ℕ). ltb (a .state .loaded + a .state .refused + k) (2 ^ 64)) (sym (c .before .before .before .before .before .unfinished .ensures))
+    ∙ sym (c .before .before .before .before .countable .ensures) ∙ not-false _ (c .before .before .before .if2 .left))
     (c .if4 .taken)
 
 last-requires : tie.Need-last-requires
@@ -54,9 +58,14 @@ last-requires c κs =
     let a = c .before .before .before .before .before .before .before .before .before .before .before .before .args in
     let e = c .before .before .before .before .before .before .before .unfinished .ensures in
     let m = c .before .before .before .before .room .ensures in
-    finish-ready (a .state) (a .form) (now (a .line)) (now (a .made)) (now (a .rows)) (c .before .before .before .before .before .before .before .before .if1 .left)
-    (ap (λ (k : ℕ). ltb (a .state .loaded + a .state .refused + k) (2 ^ 64)) (sym (c .before .before .before .before .before .before .before .unfinished .ensures)) ∙ sym (c .before .before .before .before .before .before .countable .ensures) ∙ not-false _ (c .before .before .before .before .before .if2 .left))
-    (subst (λ (n : ℕ). n ≤ length (now (a .made)) / roomOf (a .form)) e (subst (λ (n : ℕ). c .before .before .before .before .before .before .before .unfinished .result ≤ length (now (a .made)) / n) m (c .before .before .before .if3 .left)))
+    finish-ready (a .state) (a .form) (now (a .line)) (now (a .made)) (now (a .rows))
+    (c .before .before .before .before .before .before .before .before .if1 .left)
+    (ap (λ (k : ℕ). ltb (a .state .loaded + a .state .refused + k) (2 ^ 64))
+    (sym (c .before .before .before .before .before .before .before .unfinished .ensures))
+    ∙ sym (c .before .before .before .before .before .before .countable .ensures) ∙ not-false _ (c .before .before .before .before .before .if2 .left))
+    (subst (λ (n : ℕ). n ≤ length (now (a .made)) / roomOf (a .form)) e
+    (subst (λ (n : ℕ). c .before .before .before .before .before .before .before .unfinished .result ≤ length (now (a .made)) / n) m
+    (c .before .before .before .if3 .left)))
     (c .before .before .if4 .left)
 
 same-length : tie.Need-same-length
@@ -71,9 +80,15 @@ returns-5 c =
     let e = c .before .before .before .before .before .before .before .before .before .before .before .before .unfinished .ensures in
     let m = c .before .before .before .before .before .before .before .before .before .room .ensures in
     let t = c .before .before .before .before .last in
-    finish-rows (a .state) (a .form) (now (a .line)) (now (a .made)) (now (a .rows)) (c .before .before .before .before .before .before .before .before .before .before .before .before .before .if1 .left)
-    (ap (λ (k : ℕ). ltb (a .state .loaded + a .state .refused + k) (2 ^ 64)) (sym (c .before .before .before .before .before .before .before .before .before .before .before .before .unfinished .ensures)) ∙ sym (c .before .before .before .before .before .before .before .before .before .before .before .countable .ensures) ∙ not-false _ (c .before .before .before .before .before .before .before .before .before .before .if2 .left))
-    (subst (λ (n : ℕ). n ≤ length (now (a .made)) / roomOf (a .form)) e (subst (λ (n : ℕ). c .before .before .before .before .before .before .before .before .before .before .before .before .unfinished .result ≤ length (now (a .made)) / n) m (c .before .before .before .before .before .before .before .before .if3 .left)))
+    finish-rows (a .state) (a .form) (now (a .line)) (now (a .made)) (now (a .rows))
+    (c .before .before .before .before .before .before .before .before .before .before .before .before .before .if1 .left)
+    (ap (λ (k : ℕ). ltb (a .state .loaded + a .state .refused + k) (2 ^ 64))
+    (sym (c .before .before .before .before .before .before .before .before .before .before .before .before .unfinished .ensures))
+    ∙ sym (c .before .before .before .before .before .before .before .before .before .before .before .countable .ensures)
+    ∙ not-false _ (c .before .before .before .before .before .before .before .before .before .before .if2 .left))
+    (subst (λ (n : ℕ). n ≤ length (now (a .made)) / roomOf (a .form)) e
+    (subst (λ (n : ℕ). c .before .before .before .before .before .before .before .before .before .before .before .before .unfinished .result
+    ≤ length (now (a .made)) / n) m (c .before .before .before .before .before .before .before .before .if3 .left)))
     (c .before .before .before .before .before .before .before .if4 .left) (t .result) (t .last .1 .1 .1 .0) (t .last .1 .1 .1 .1 .0) (t .ensures)
 
 pub finish-spec : {M : Type 1} → statement M

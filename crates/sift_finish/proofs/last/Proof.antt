@@ -21,7 +21,8 @@ returns : tie.Need-returns
 returns c =
     let a = c .before .before .before .before .before .before .before .before .before .before .before .args in
     let p = c .before .before .before .last in
-    last-none (a .form) (a .state) (now (a .line)) (now (a .made)) (now (a .rows)) (p .last .1 .1 .1 .0) (c .before .before .before .before .before .before .if1 .taken) (p .result) (p .ensures) (c .or .result) (c .or .ensures)
+    last-none (a .form) (a .state) (now (a .line)) (now (a .made)) (now (a .rows)) (p .last .1 .1 .1 .0)
+    (c .before .before .before .before .before .before .if1 .taken) (p .result) (p .ensures) (c .or .result) (c .or .ensures)
 
 add-lines-2 : tie.Need-add-lines-2
 add-lines-2 c = search needs
@@ -29,7 +30,10 @@ add-lines-2 c = search needs
 add-lines-3 : tie.Need-add-lines-3
 add-lines-3 c =
     let a = c .before .before .before .before .before .before .args in
-    record { fits = last-counts (a .form) (a .state) (now (a .line)) (now (a .made)) (now (a .rows)) (c .before .before .before .before .before .before .pre) (c .before .if1 .left) }
+    record {
+      fits = last-counts (a .form) (a .state) (now (a .line)) (now (a .made)) (now (a .rows))
+          (c .before .before .before .before .before .before .pre) (c .before .if1 .left);
+    }
 
 close-requires : tie.Need-close-requires
 close-requires c κs = search needs
@@ -38,13 +42,23 @@ add-loaded : tie.Need-add-loaded
 add-loaded c =
     let a = c .before .before .before .before .before .before .before .before .before .before .before .before .before .before .before .args in
     let k = c .before .before .before .before .before .before .close in
-    record { fits = last-fits (a .form) (a .state) (now (a .line)) (now (a .made)) (now (a .rows)) (c .before .before .before .before .before .before .before .before .before .before .before .before .before .before .before .pre) (c .before .before .before .before .before .before .before .before .before .before .if1 .left) (k .result) (k .last .1 .1 .1 .1 .0) (k .last .1 .1 .1 .1 .1 .1 .0) (k .ensures) .0 }
+    record {
+      fits = last-fits (a .form) (a .state) (now (a .line)) (now (a .made)) (now (a .rows))
+          (c .before .before .before .before .before .before .before .before .before .before .before .before .before .before .before .pre)
+          (c .before .before .before .before .before .before .before .before .before .before .if1 .left) (k .result) (k .last .1 .1 .1 .1 .0)
+          (k .last .1 .1 .1 .1 .1 .1 .0) (k .ensures) .0;
+    }
 
 add-refused : tie.Need-add-refused
 add-refused c =
     let a = c .before .before .before .before .before .before .before .before .before .before .before .before .before .before .before .before .before .args in
     let k = c .before .before .before .before .before .before .before .before .close in
-    record { fits = last-fits (a .form) (a .state) (now (a .line)) (now (a .made)) (now (a .rows)) (c .before .before .before .before .before .before .before .before .before .before .before .before .before .before .before .before .before .pre) (c .before .before .before .before .before .before .before .before .before .before .before .before .if1 .left) (k .result) (k .last .1 .1 .1 .1 .0) (k .last .1 .1 .1 .1 .1 .1 .0) (k .ensures) .1 }
+    record {
+      fits = last-fits (a .form) (a .state) (now (a .line)) (now (a .made)) (now (a .rows))
+          (c .before .before .before .before .before .before .before .before .before .before .before .before .before .before .before .before .before .pre)
+          (c .before .before .before .before .before .before .before .before .before .before .before .before .if1 .left) (k .result)
+          (k .last .1 .1 .1 .1 .0) (k .last .1 .1 .1 .1 .1 .1 .0) (k .ensures) .1;
+    }
 
 last-requires-2 : tie.Need-last-requires-2
 last-requires-2 c κs = search needs
@@ -60,10 +74,15 @@ same-length-3 c = search needs
 
 returns-2 : tie.Need-returns-2
 returns-2 c =
-    let a = c .before .before .before .before .before .before .before .before .before .before .before .before .before .before .before .before .before .before .before .before .before .before .args in
+    let a = c .before .before .before .before .before .before .before .before .before .before .before .before .before .before .before .before .before
+    .before .before .before .before .before .args in
     let k = c .before .before .before .before .before .before .before .before .before .before .before .before .before .close in
     let p = c .before .before .before .last2 in
-    last-some (a .form) (a .state) (now (a .line)) (now (a .made)) (now (a .rows)) (c .before .before .before .before .before .before .before .before .before .before .before .before .before .before .before .before .before .before .before .before .before .before .pre) (c .before .before .before .before .before .before .before .before .before .before .before .before .before .before .before .before .before .if1 .left) (k .result) (k .last .1 .1 .1 .1 .0) (k .last .1 .1 .1 .1 .1 .1 .0) (k .ensures)
+    last-some (a .form) (a .state) (now (a .line)) (now (a .made)) (now (a .rows))
+    (c .before .before .before .before .before .before .before .before .before .before .before .before .before .before .before .before .before
+    .before .before .before .before .before .pre)
+    (c .before .before .before .before .before .before .before .before .before .before .before .before .before .before .before .before .before .if1
+    .left) (k .result) (k .last .1 .1 .1 .1 .0) (k .last .1 .1 .1 .1 .1 .1 .0) (k .ensures)
     (p .last .1 .1 .1 .0) (p .result) (p .ensures) (c .or2 .result) (c .or2 .ensures)
 
 pub last-spec : {M : Type 1} → statement M

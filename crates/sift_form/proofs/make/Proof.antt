@@ -42,7 +42,8 @@ returns : tie.Need-returns
 returns c =
     let a = c .before .before .before .before .before .before .before .before .before .args in
     let p = c .before .before .put in
-    subst (λ (form : Form). MakesForm form (now (a .bitboards)) (now (a .board)) (a .state) (a .half) (now (a .out)) (p .last .1 .1 .1 .1 .0) (a .at) (p .result)) (sym (c .before .before .before .before .enum-told .given .1)) (p .ensures)
+    subst (λ (form : Form). MakesForm form (now (a .bitboards)) (now (a .board)) (a .state) (a .half) (now (a .out)) (p .last .1 .1 .1 .1 .0) (a .at)
+    (p .result)) (sym (c .before .before .before .before .enum-told .given .1)) (p .ensures)
 
 same-length-2 : tie.Need-same-length-2
 same-length-2 c = search needs
@@ -51,7 +52,8 @@ returns-2 : tie.Need-returns-2
 returns-2 c =
     let a = c .before .before .before .before .before .before .before .before .before .args in
     let p = c .before .before .ended in
-    subst (λ (form : Form). MakesForm form (now (a .bitboards)) (now (a .board)) (a .state) (a .half) (now (a .out)) (p .last .1 .1 .1 .0) (a .at) (p .result)) (sym (c .before .before .before .before .enum-told2 .given .1)) (p .ensures)
+    subst (λ (form : Form). MakesForm form (now (a .bitboards)) (now (a .board)) (a .state) (a .half) (now (a .out)) (p .last .1 .1 .1 .0) (a .at)
+    (p .result)) (sym (c .before .before .before .before .enum-told2 .given .1)) (p .ensures)
 
 same-length-3 : tie.Need-same-length-3
 same-length-3 c = search needs
@@ -63,7 +65,8 @@ returns-3 c =
     let k = c .before .before .before .before .before in
     let a = k .before .before .before .before .before .before .args in
     let p = c .before .before .put2 in
-    subst (λ (form : Form). MakesForm form (now (a .bitboards)) (now (a .board)) (a .state) (a .half) (now (a .out)) (p .last .0) (a .at) (p .result)) (sym (k .before .enum-told3 .given .1))
+    subst (λ (form : Form). MakesForm form (now (a .bitboards)) (now (a .board)) (a .state) (a .half) (now (a .out)) (p .last .0) (a .at) (p .result))
+    (sym (k .before .enum-told3 .given .1))
     (subst (λ (text : List ℕ). Puts (now (a .out)) (p .last .0) (a .at) text (p .result)) (k .pack .ensures) (p .ensures))
 
 pub make-spec : {M : Type 1} → statement M

@@ -14,16 +14,38 @@ enum-known-next : tie.Need-enum-known-next
 enum-known-next c = search needs
 
 slice-reshare-prefix-write : tie.Need-slice-reshare-prefix-write
-slice-reshare-prefix-write c = omega (arith, made-within (c .before .before .before .before .before .before .before .before .before .feed .ensures) _ _ _ (c .before .next .given .1), c .before .before .before .before .before .before .before .before .before .feed .kept)
+slice-reshare-prefix-write c = omega (
+  arith,
+  made-within (c .before .before .before .before .before .before .before .before .before .feed .ensures) _ _
+      _ (c .before .next .given .1),
+  c .before .before .before .before .before .before .before .before .before .feed .kept,
+)
 
 slice-aggregate-write : tie.Need-slice-aggregate-write
-slice-aggregate-write c = sym (length-take-le _ _ (omega (arith, made-within (c .before .before .before .before .before .before .before .before .before .before .feed .ensures) _ _ _ (c .before .before .next .given .1), c .before .before .before .before .before .before .before .before .before .before .feed .kept)))
+slice-aggregate-write c = sym (length-take-le _ _ (omega (
+  arith,
+  made-within
+      (c .before .before .before .before .before .before .before .before .before .before .feed .ensures) _ _ _ (c .before .before .next .given .1),
+  c .before .before .before .before .before .before .before .before .before .before .feed .kept,
+)))
 
 slice-reshare-prefix-write-2 : tie.Need-slice-reshare-prefix-write-2
-slice-reshare-prefix-write-2 c = omega (arith, rows-within (c .before .before .before .before .before .before .before .before .before .before .feed .ensures) _ _ _ (c .before .before .next .given .1), c .before .before .before .before .before .before .before .before .before .before .feed .kept)
+slice-reshare-prefix-write-2 c =
+    omega (
+      arith,
+      rows-within (c .before .before .before .before .before .before .before .before .before .before .feed .ensures) _ _ _
+          (c .before .before .next .given .1),
+      c .before .before .before .before .before .before .before .before .before .before .feed .kept,
+    )
 
 slice-aggregate-write-2 : tie.Need-slice-aggregate-write-2
-slice-aggregate-write-2 c = sym (length-take-le _ _ (omega (arith, rows-within (c .before .before .before .before .before .before .before .before .before .before .before .feed .ensures) _ _ _ (c .before .before .before .next .given .1), c .before .before .before .before .before .before .before .before .before .before .before .feed .kept)))
+slice-aggregate-write-2 c = sym (length-take-le _ _ (omega (
+  arith,
+  rows-within
+      (c .before .before .before .before .before .before .before .before .before .before .before .feed .ensures) _ _ _
+      (c .before .before .before .next .given .1),
+  c .before .before .before .before .before .before .before .before .before .before .before .feed .kept,
+)))
 
 write-requires : tie.Need-write-requires
 write-requires c κs = search needs

@@ -7,10 +7,12 @@ use Rattle.store_counts.proofs.count.Statement.{statement}
 use Rattle.store_counts.proofs.count.Tie as tie
 
 returns : tie.Need-returns
-returns c = let a = c .before .before .before .args in not-770 (now (a .summary)) (now (a .bytes)) (summaryMore (now (a .summary)) (now (a .bytes))) (c .if1 .taken)
+returns c = let a = c .before .before .before .args in not-770 (now (a .summary)) (now (a .bytes)) (summaryMore (now (a .summary)) (now (a .bytes)))
+    (c .if1 .taken)
 
 returns-2 : tie.Need-returns-2
-returns-2 c = let a = c .before .before .before .before .args in not-34 (now (a .summary)) (now (a .bytes)) (summaryMore (now (a .summary)) (now (a .bytes))) (c .if2 .taken)
+returns-2 c = let a = c .before .before .before .before .args in not-34 (now (a .summary)) (now (a .bytes))
+    (summaryMore (now (a .summary)) (now (a .bytes))) (c .if2 .taken)
 
 shared-slice-read-wide : tie.Need-shared-slice-read-wide
 shared-slice-read-wide c = search needs
@@ -30,7 +32,8 @@ returns-3 c =
     let w = m .before in
     let e = w .before .before .before in
     let a = e .before .before .before .before .args in
-    counted-more (now (a .summary)) (now (a .bytes)) (e .before .if1 .left) (e .if2 .left) (m .move-by .last .0) (w .wide .result) (w .wide .ensures) (m .move-by .ensures)
+    counted-more (now (a .summary)) (now (a .bytes)) (e .before .if1 .left) (e .if2 .left) (m .move-by .last .0) (w .wide .result) (w .wide .ensures)
+    (m .move-by .ensures)
 
 pub count-spec : {M : Type 1} → statement M
 count-spec =

@@ -37,7 +37,8 @@ returns-3 c =
     let i = c .before .before in
     let f = i .before .before in
     let a = f .before .before .args in
-    mark-piece (now (a .summary)) (a .code) (a .square) (a .once) (f .if1 .left) (i .before .if2 .left) (i .count-place .result) (c .sum .result) (i .count-place .ensures) (c .sum .ensures)
+    mark-piece (now (a .summary)) (a .code) (a .square) (a .once) (f .if1 .left) (i .before .if2 .left) (i .count-place .result) (c .sum .result)
+    (i .count-place .ensures) (c .sum .ensures)
 
 pub mark-spec : {M : Type 1} → statement M
 mark-spec =

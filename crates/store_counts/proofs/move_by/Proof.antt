@@ -19,8 +19,12 @@ abbrev μ-loop : tie.MeasureT-loop
 
 loop-holds : tie.Need-loop-holds Inv-loop μ-loop
 loop-holds c =
-    let a = c .before .before .args in
-    (omega arith, c .before .before .pre .0, marks-none (now (a .summary)) (a .once) (now (a .bytes)) (c .before .before .pre .0) (λ p. omega (arith, c .before .slice-known .given p)))
+    let a = c .before .before .args in (
+      omega arith,
+      c .before .before .pre .0,
+      marks-none (now (a .summary)) (a .once) (now (a .bytes)) (c .before .before .pre .0)
+          (λ p. omega (arith, c .before .slice-known .given p)),
+    )
 
 code-on-requires : tie.Need-code-on-requires Inv-loop μ-loop
 code-on-requires c κs = (c .before .before .before .before .before .pre .1, omega arith)

@@ -43,7 +43,8 @@ returns c =
     let l = t .before .loop in
     let a = t .before .before .before .before .args in
     let r =
-    turn-close (findPiece (holdingPiece (now (a .piece)) (a .held)) (drop (a .from) (now (a .chunk)))) (a .from) (length (now (a .piece))) (now (a .chunk)) (l .piece) (l .held) (l .i) (l .inv)
+    turn-close (findPiece (holdingPiece (now (a .piece)) (a .held)) (drop (a .from) (now (a .chunk)))) (a .from) (length (now (a .piece)))
+    (now (a .chunk)) (l .piece) (l .held) (l .i) (l .inv)
     (omega arith) (k .keep-byte .last .0) (k .keep-byte .ensures) (omega arith) (c .found .result) (c .found .ensures) in
     record { answer = r .0; kept = r .1 }
 
@@ -59,7 +60,8 @@ loop-again c =
     let t = k .before .before .before in
     let l = t .before .loop in
     let a = t .before .before .before .before .args in
-    turn-fill (findPiece (holdingPiece (now (a .piece)) (a .held)) (drop (a .from) (now (a .chunk)))) (a .from) (length (now (a .piece))) (now (a .chunk)) (l .piece) (l .held) (l .i) (l .inv)
+    turn-fill (findPiece (holdingPiece (now (a .piece)) (a .held)) (drop (a .from) (now (a .chunk)))) (a .from) (length (now (a .piece)))
+    (now (a .chunk)) (l .piece) (l .held) (l .i) (l .inv)
     (omega arith) (k .keep-byte .last .0) (k .keep-byte .ensures) (omega arith)
 
 found-requires-2 : tie.Need-found-requires-2 Inv-loop μ-loop
@@ -74,7 +76,8 @@ returns-2 c =
     let l = t .loop in
     let a = t .before .before .before .args in
     let r =
-    turn-end (findPiece (holdingPiece (now (a .piece)) (a .held)) (drop (a .from) (now (a .chunk)))) (a .from) (length (now (a .piece))) (now (a .chunk)) (l .piece) (l .held) (l .i) (l .inv)
+    turn-end (findPiece (holdingPiece (now (a .piece)) (a .held)) (drop (a .from) (now (a .chunk)))) (a .from) (length (now (a .piece)))
+    (now (a .chunk)) (l .piece) (l .held) (l .i) (l .inv)
     (omega arith) (c .found2 .result) (c .found2 .ensures) in
     record { answer = r .0; kept = r .1 }
 

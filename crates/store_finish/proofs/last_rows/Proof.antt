@@ -32,7 +32,8 @@ returns c =
     let a = t .before .before .before .args in
     let p = d .last in
     subst (λ (x : List ℕ). Adds (now (a .out)) 0 x (p .last .1 .1 .1 .0) (c .or .result)) (finished-none (a .state) (t .if1 .taken))
-    (adds-or (now (a .out)) 0 (lastRow (a .state .loaded + a .state .refused) (a .state .loaded) (a .state .refused)) (p .last .1 .1 .1 .0) (p .result) (c .or .result) (p .ensures) (c .or .ensures))
+    (adds-or (now (a .out)) 0 (lastRow (a .state .loaded + a .state .refused) (a .state .loaded) (a .state .refused)) (p .last .1 .1 .1 .0) (p .result)
+    (c .or .result) (p .ensures) (c .or .ensures))
 
 add-lines : tie.Need-add-lines
 add-lines c = search needs
@@ -79,7 +80,8 @@ returns-2 c =
     let p = d .last2 in
     finished-adds (a .state) (e .if1 .left) (now (a .out)) (k .last .1 .1 .0) (p .last .1 .1 .1 .0) (o .or2 .result) (c .or3 .result) (s .pre .0)
     (adds-or (now (a .out)) 0 (refusedRow lines 18) (k .last .1 .1 .0) (k .result) (o .or2 .result) (k .ensures) (o .or2 .ensures))
-    (adds-or (k .last .1 .1 .0) (o .or2 .result) (lastRow lines (a .state .loaded) (a .state .refused + 1)) (p .last .1 .1 .1 .0) (p .result) (c .or3 .result) (p .ensures) (c .or3 .ensures))
+    (adds-or (k .last .1 .1 .0) (o .or2 .result) (lastRow lines (a .state .loaded) (a .state .refused + 1)) (p .last .1 .1 .1 .0) (p .result)
+    (c .or3 .result) (p .ensures) (c .or3 .ensures))
 
 pub last-rows-spec : {M : Type 1} → statement M
 last-rows-spec =

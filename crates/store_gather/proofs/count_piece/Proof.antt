@@ -33,7 +33,8 @@ returns-2 c =
     let f = c .before .before .before .before in
     let a = f .before .before .before .args in
     let many : ℕ → First = λ n. record { number = 10000001; refusal = n } in
-    too-many (a .number) (a .refusal) (now (a .piece)) (now (a .summary)) (f .if1 .left) (c .before .before .if2 .taken) (c .uncounted2 .result) (c .uncounted2 .ensures ∙ ap many (c .before .number .ensures))
+    too-many (a .number) (a .refusal) (now (a .piece)) (now (a .summary)) (f .if1 .left) (c .before .before .if2 .taken) (c .uncounted2 .result)
+    (c .uncounted2 .ensures ∙ ap many (c .before .number .ensures))
 
 read-requires : tie.Need-read-requires
 read-requires c κs = search needs
@@ -56,7 +57,8 @@ returns-3 c =
     let d = t .before .before in
     let f = d .before .before .before in
     let a = f .before .before .before .args in
-    turned-away (a .number) (a .refusal) (now (a .piece)) (now (a .summary)) (f .if1 .left) (d .before .if2 .left) (d .read .result) (d .read .ensures) (t .answer .given .0 .0) (t .answer .given .1)
+    turned-away (a .number) (a .refusal) (now (a .piece)) (now (a .summary)) (f .if1 .left) (d .before .if2 .left) (d .read .result) (d .read .ensures)
+    (t .answer .given .0 .0) (t .answer .given .1)
     (c .before .number2 .result) (c .before .number2 .ensures) (c .uncounted3 .result) (c .uncounted3 .ensures)
 
 enum-told : tie.Need-enum-told
@@ -78,7 +80,8 @@ returns-4 c =
     let d = t .before .before in
     let f = d .before .before .before in
     let a = f .before .before .before .args in
-    read-too (a .number) (a .refusal) (now (a .piece)) (now (a .summary)) (f .if1 .left) (d .before .if2 .left) (d .read .result) (d .read .ensures) _ _ (t .enum-told .given .1)
+    read-too (a .number) (a .refusal) (now (a .piece)) (now (a .summary)) (f .if1 .left) (d .before .if2 .left) (d .read .result) (d .read .ensures) _
+    _ (t .enum-told .given .1)
     (k .count .last .0) (k .count .ensures) (c .uncounted4 .result) (c .uncounted4 .ensures)
 
 pub count-piece-spec : {M : Type 1} → statement M

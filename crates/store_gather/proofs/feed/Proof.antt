@@ -9,10 +9,12 @@ returns : tie.Need-returns
 returns c = let a = c .before .before .before .before .args in no-buffer (a .state) (now (a .piece)) (now (a .chunk)) (now (a .summary)) (c .if1 .taken)
 
 returns-2 : tie.Need-returns-2
-returns-2 c = let a = c .before .before .before .before .before .args in no-summary (a .state) (now (a .piece)) (now (a .chunk)) (now (a .summary)) (c .if2 .taken)
+returns-2 c = let a = c .before .before .before .before .before .args in
+    no-summary (a .state) (now (a .piece)) (now (a .chunk)) (now (a .summary)) (c .if2 .taken)
 
 returns-3 : tie.Need-returns-3
-returns-3 c = let a = c .before .before .before .before .before .before .before .args in holds-all (a .state) (now (a .piece)) (now (a .chunk)) (now (a .summary)) (c .if3 .taken)
+returns-3 c = let a = c .before .before .before .before .before .before .before .args in
+    holds-all (a .state) (now (a .piece)) (now (a .chunk)) (now (a .summary)) (c .if3 .taken)
 
 take-requires : tie.Need-take-requires
 take-requires c κs = search needs
@@ -30,7 +32,8 @@ returns-4 c =
     let s = h .before .before in
     let p = s .before in
     let a = p .before .before .before .before .args in
-    fed (a .state) (now (a .piece)) (now (a .chunk)) (now (a .summary)) (p .if1 .left) (s .if2 .left) (h .if3 .left) (t .take .result) (t .take .last .1 .0) (t .take .last .1 .1 .1 .0) (t .take .ensures)
+    fed (a .state) (now (a .piece)) (now (a .chunk)) (now (a .summary)) (p .if1 .left) (s .if2 .left) (h .if3 .left) (t .take .result)
+    (t .take .last .1 .0) (t .take .last .1 .1 .1 .0) (t .take .ensures)
 
 pub feed-spec : {M : Type 1} → statement M
 feed-spec = tie.close (tie.spec returns returns-2 returns-3 take-requires same-length same-length-2 returns-4)

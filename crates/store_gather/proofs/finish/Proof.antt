@@ -33,7 +33,8 @@ returns-3 c =
     let h = c .before .before .before in
     let f = h .before .before in
     let a = f .before .before .args in
-    past-most (a .state) (a .records) (f .if1 .left) (h .if2 .left) (c .before .before .if3 .taken) (c .before .number .result) (c .before .number .ensures) (c .uncounted3 .result) (c .uncounted3 .ensures)
+    past-most (a .state) (a .records) (f .if1 .left) (h .if2 .left) (c .before .before .if3 .taken) (c .before .number .result)
+    (c .before .number .ensures) (c .uncounted3 .result) (c .uncounted3 .ensures)
 
 add-uncounted-2 : tie.Need-add-uncounted-2
 add-uncounted-2 c = search needs
@@ -49,7 +50,8 @@ returns-4 c =
     let h = c .before .before .before in
     let f = h .before .before in
     let a = f .before .before .args in
-    short-piece (a .state) (a .records) (f .if1 .left) (h .if2 .left) (c .before .before .if3 .left) (c .before .number2 .result) (c .before .number2 .ensures) (c .uncounted4 .result) (c .uncounted4 .ensures)
+    short-piece (a .state) (a .records) (f .if1 .left) (h .if2 .left) (c .before .before .if3 .left) (c .before .number2 .result)
+    (c .before .number2 .ensures) (c .uncounted4 .result) (c .uncounted4 .ensures)
 
 pub finish-spec : {M : Type 1} → statement M
 finish-spec =

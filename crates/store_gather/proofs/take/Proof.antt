@@ -39,7 +39,8 @@ loop-less c =
     let a = g .before .before .before .before .args in
     let l = g .loop in
     let n = d .next in
-    let h = turn-less (runGather (a .state) (now (a .piece)) (now (a .chunk)) (now (a .summary))) (now (a .chunk)) (l .piece) (l .summary) (l .held) (l .number) (l .refusal) (l .at) (l .inv) (n .result) (n .last .1 .0) (n .ensures) (d .before .before .loop-test .taken) in
+    let h = turn-less (runGather (a .state) (now (a .piece)) (now (a .chunk)) (now (a .summary))) (now (a .chunk)) (l .piece) (l .summary) (l .held)
+    (l .number) (l .refusal) (l .at) (l .inv) (n .result) (n .last .1 .0) (n .ensures) (d .before .before .loop-test .taken) in
     omega (arith, h)
 
 loop-again : tie.Need-loop-again Inv-loop μ-loop
@@ -51,7 +52,8 @@ loop-again c =
     let a = g .before .before .before .before .args in
     let l = g .loop in
     let n = d .next in
-    turn-close (runGather (a .state) (now (a .piece)) (now (a .chunk)) (now (a .summary))) (now (a .chunk)) (l .piece) (l .summary) (l .held) (l .number) (l .refusal) (l .at) (l .inv) (n .result) (n .last .1 .0) (n .ensures)
+    turn-close (runGather (a .state) (now (a .piece)) (now (a .chunk)) (now (a .summary))) (now (a .chunk)) (l .piece) (l .summary) (l .held)
+    (l .number) (l .refusal) (l .at) (l .inv) (n .result) (n .last .1 .0) (n .ensures)
     (t .if1 .taken) (k .count-piece .result) (k .count-piece .last .1 .1 .1 .0) (k .count-piece .ensures)
 
 loop-less-2 : tie.Need-loop-less-2 Inv-loop μ-loop
@@ -61,7 +63,8 @@ loop-less-2 c =
     let a = g .before .before .before .before .args in
     let l = g .loop in
     let n = d .next in
-    let h = turn-less (runGather (a .state) (now (a .piece)) (now (a .chunk)) (now (a .summary))) (now (a .chunk)) (l .piece) (l .summary) (l .held) (l .number) (l .refusal) (l .at) (l .inv) (n .result) (n .last .1 .0) (n .ensures) (d .before .before .loop-test .taken) in
+    let h = turn-less (runGather (a .state) (now (a .piece)) (now (a .chunk)) (now (a .summary))) (now (a .chunk)) (l .piece) (l .summary) (l .held)
+    (l .number) (l .refusal) (l .at) (l .inv) (n .result) (n .last .1 .0) (n .ensures) (d .before .before .loop-test .taken) in
     omega (arith, h)
 
 loop-again-2 : tie.Need-loop-again-2 Inv-loop μ-loop
@@ -71,7 +74,8 @@ loop-again-2 c =
     let a = g .before .before .before .before .args in
     let l = g .loop in
     let n = d .next in
-    turn-on (runGather (a .state) (now (a .piece)) (now (a .chunk)) (now (a .summary))) (now (a .chunk)) (l .piece) (l .summary) (l .held) (l .number) (l .refusal) (l .at) (l .inv) (n .result) (n .last .1 .0) (n .ensures) (c .if1 .left)
+    turn-on (runGather (a .state) (now (a .piece)) (now (a .chunk)) (now (a .summary))) (now (a .chunk)) (l .piece) (l .summary) (l .held) (l .number)
+    (l .refusal) (l .at) (l .inv) (n .result) (n .last .1 .0) (n .ensures) (c .if1 .left)
 
 same-length : tie.Need-same-length Inv-loop μ-loop
 same-length c = c .before .loop .inv .pieces .long ∙ sym (c .before .before .before .before .before .pre .size)
@@ -83,7 +87,8 @@ returns : tie.Need-returns Inv-loop μ-loop
 returns c =
     let a = c .before .before .before .before .before .args in
     let l = c .before .loop in
-    turn-end (a .state) (now (a .piece)) (now (a .chunk)) (now (a .summary)) (l .piece) (l .summary) (l .held) (l .number) (l .refusal) (l .at) (omega arith) (l .inv)
+    turn-end (a .state) (now (a .piece)) (now (a .chunk)) (now (a .summary)) (l .piece) (l .summary) (l .held) (l .number) (l .refusal) (l .at)
+    (omega arith) (l .inv)
 
 pub take-spec : {M : Type 1} → statement M
 take-spec =

@@ -23,7 +23,8 @@ returns c =
     let d = c .before .before .before .before in
     let r = d .before .before .before in
     let a = r .before .before .before .before .args in
-    reads-delivered (storedSays (now (a .run)) (a .number)) (r .read-at .result) (r .read-at .ensures) (now (a .bitboards)) (now (a .board)) (d .deliver .result) (d .deliver .last .1 .0) (d .deliver .last .1 .1 .0) (d .deliver .ensures)
+    reads-delivered (storedSays (now (a .run)) (a .number)) (r .read-at .result) (r .read-at .ensures) (now (a .bitboards)) (now (a .board))
+    (d .deliver .result) (d .deliver .last .1 .0) (d .deliver .last .1 .1 .0) (d .deliver .ensures)
 
 pub read-record-spec : {M : Type 1} → statement M
 read-record-spec = tie.close (tie.spec read-at-requires deliver-requires same-length same-length-2 returns)

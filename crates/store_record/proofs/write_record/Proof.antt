@@ -15,7 +15,8 @@ returns : tie.Need-returns
 returns c =
     let k = c .before .before .before in
     let a = k .before .before .before .before .args in
-    turned (now (a .bitboards)) (now (a .board)) (a .state) (a .half) (now (a .place)) (k .check .result) (k .check .ensures) (c .before .checked .given .0 .0) (c .before .checked .given .1)
+    turned (now (a .bitboards)) (now (a .board)) (a .state) (a .half) (now (a .place)) (k .check .result) (k .check .ensures)
+    (c .before .checked .given .0 .0) (c .before .checked .given .1)
 
 enum-told : tie.Need-enum-told
 enum-told c = search needs
@@ -25,14 +26,16 @@ returns-2 c =
     let e = c .before in
     let k = e .before .before in
     let a = k .before .before .before .before .args in
-    no-result (now (a .bitboards)) (now (a .board)) (a .state) (a .half) (now (a .place)) (k .check .result) (k .check .ensures) (e .enum-told .given .1) (c .if1 .taken)
+    no-result (now (a .bitboards)) (now (a .board)) (a .state) (a .half) (now (a .place)) (k .check .result) (k .check .ensures)
+    (e .enum-told .given .1) (c .if1 .taken)
 
 returns-3 : tie.Need-returns-3
 returns-3 c =
     let e = c .before .before in
     let k = e .before .before in
     let a = k .before .before .before .before .args in
-    no-place (now (a .bitboards)) (now (a .board)) (a .state) (a .half) (now (a .place)) (k .check .result) (k .check .ensures) (e .enum-told .given .1) (c .before .if1 .left) (c .if2 .taken)
+    no-place (now (a .bitboards)) (now (a .board)) (a .state) (a .half) (now (a .place)) (k .check .result) (k .check .ensures)
+    (e .enum-told .given .1) (c .before .if1 .left) (c .if2 .taken)
 
 pack-requires : tie.Need-pack-requires
 pack-requires c κs = search needs
@@ -54,7 +57,8 @@ returns-4 c =
     let e = t .before .before in
     let k = e .before .before in
     let a = k .before .before .before .before .args in
-    done (now (a .bitboards)) (now (a .board)) (a .state) (a .half) (now (a .place)) (k .check .result) (k .check .ensures) (e .enum-told .given .1) (t .before .if1 .left) (t .if2 .left) (p .pack .result) (u .put .last .0) (p .pack .ensures) (u .put .ensures .1)
+    done (now (a .bitboards)) (now (a .board)) (a .state) (a .half) (now (a .place)) (k .check .result) (k .check .ensures) (e .enum-told .given .1)
+    (t .before .if1 .left) (t .if2 .left) (p .pack .result) (u .put .last .0) (p .pack .ensures) (u .put .ensures .1)
 
 pub write-record-spec : {M : Type 1} → statement M
 write-record-spec =

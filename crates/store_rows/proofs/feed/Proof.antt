@@ -14,7 +14,8 @@ returns : tie.Need-returns
 returns c = let a = c .before .before .before .before .args in feed-shape (a .state) (now (a .piece)) (now (a .chunk)) (now (a .out)) (c .if1 .taken)
 
 returns-2 : tie.Need-returns-2
-returns-2 c = let a = c .before .before .before .before .before .before .args in feed-held (a .state) (now (a .piece)) (now (a .chunk)) (now (a .out)) (c .if2 .taken)
+returns-2 c = let a = c .before .before .before .before .before .before .args in
+    feed-held (a .state) (now (a .piece)) (now (a .chunk)) (now (a .out)) (c .if2 .taken)
 
 ends-requires : tie.Need-ends-requires
 ends-requires c κs = search needs
@@ -29,7 +30,8 @@ returns-3 c =
     let e = d .before .before in
     let a = e .before .before .before .before .args in
     feed-many (a .state) (now (a .piece)) (now (a .chunk)) (now (a .out)) (e .if1 .left) (d .if2 .left)
-    (ap (λ (k : ℕ). ltb (a .state .loaded + a .state .refused + k) (2 ^ 64)) (sym (n .ends .ensures)) ∙ sym (c .before .countable .ensures) ∙ not-true _ (c .if3 .taken))
+    (ap (λ (k : ℕ). ltb (a .state .loaded + a .state .refused + k) (2 ^ 64)) (sym (n .ends .ensures)) ∙ sym (c .before .countable .ensures)
+    ∙ not-true _ (c .if3 .taken))
 
 returns-4 : tie.Need-returns-4
 returns-4 c =
@@ -38,7 +40,8 @@ returns-4 c =
     let e = d .before .before in
     let a = e .before .before .before .before .args in
     feed-full (a .state) (now (a .piece)) (now (a .chunk)) (now (a .out)) (e .if1 .left) (d .if2 .left)
-    (ap (λ (k : ℕ). ltb (a .state .loaded + a .state .refused + k) (2 ^ 64)) (sym (n .ends .ensures)) ∙ sym (c .before .before .countable .ensures) ∙ not-false _ (c .before .if3 .left))
+    (ap (λ (k : ℕ). ltb (a .state .loaded + a .state .refused + k) (2 ^ 64)) (sym (n .ends .ensures)) ∙ sym (c .before .before .countable .ensures)
+    ∙ not-false _ (c .before .if3 .left))
     (omega (arith, c .if4 .taken, n .ends .ensures))
 
 take-requires : tie.Need-take-requires
@@ -50,7 +53,8 @@ take-requires c κs =
     let e = d .before .before in
     let a = e .before .before .before .before .args in
     feed-ready (a .state) (now (a .piece)) (now (a .chunk)) (now (a .out)) (e .if1 .left) (d .if2 .left)
-    (ap (λ (k : ℕ). ltb (a .state .loaded + a .state .refused + k) (2 ^ 64)) (sym (n .ends .ensures)) ∙ sym (g .before .countable .ensures) ∙ not-false _ (g .if3 .left))
+    (ap (λ (k : ℕ). ltb (a .state .loaded + a .state .refused + k) (2 ^ 64)) (sym (n .ends .ensures)) ∙ sym (g .before .countable .ensures)
+    ∙ not-false _ (g .if3 .left))
     (omega (arith, f .if4 .left, n .ends .ensures))
 
 same-length : tie.Need-same-length
@@ -69,7 +73,8 @@ returns-5 c =
     let e = d .before .before in
     let a = e .before .before .before .before .args in
     feed-rows (a .state) (now (a .piece)) (now (a .chunk)) (now (a .out)) (e .if1 .left) (d .if2 .left)
-    (ap (λ (k : ℕ). ltb (a .state .loaded + a .state .refused + k) (2 ^ 64)) (sym (n .ends .ensures)) ∙ sym (g .before .countable .ensures) ∙ not-false _ (g .if3 .left))
+    (ap (λ (k : ℕ). ltb (a .state .loaded + a .state .refused + k) (2 ^ 64)) (sym (n .ends .ensures)) ∙ sym (g .before .countable .ensures)
+    ∙ not-false _ (g .if3 .left))
     (omega (arith, f .if4 .left, n .ends .ensures)) (k .take .result) (k .take .last .1 .0) (k .take .last .1 .1 .1 .0) (k .take .ensures)
 
 pub feed-spec : {M : Type 1} → statement M

@@ -37,7 +37,8 @@ add-row c =
     let a = g .before .before .before .before .args in
     let l = g .loop in
     let n = d .next in
-    let e = turn-one (runStore (a .state) (now (a .piece)) (now (a .chunk))) (now (a .chunk)) (now (a .out)) (l .piece) (l .out) (l .held) (l .loaded) (l .refused) (l .wrote) (l .at) (d .before .before .loop-test .taken) (l .inv) (n .result) (n .last .1 .0) (n .ensures) (c .before .if1 .taken) in
+    let e = turn-one (runStore (a .state) (now (a .piece)) (now (a .chunk))) (now (a .chunk)) (now (a .out)) (l .piece) (l .out) (l .held) (l .loaded)
+    (l .refused) (l .wrote) (l .at) (d .before .before .loop-test .taken) (l .inv) (n .result) (n .last .1 .0) (n .ensures) (c .before .if1 .taken) in
     record { fits = omega (arith, l .inv .counts) }
 
 add-row-2 : tie.Need-add-row-2 Inv-loop μ-loop
@@ -47,7 +48,8 @@ add-row-2 c =
     let a = g .before .before .before .before .args in
     let l = g .loop in
     let n = d .next in
-    let e = turn-one (runStore (a .state) (now (a .piece)) (now (a .chunk))) (now (a .chunk)) (now (a .out)) (l .piece) (l .out) (l .held) (l .loaded) (l .refused) (l .wrote) (l .at) (d .before .before .loop-test .taken) (l .inv) (n .result) (n .last .1 .0) (n .ensures) (c .before .if1 .taken) in
+    let e = turn-one (runStore (a .state) (now (a .piece)) (now (a .chunk))) (now (a .chunk)) (now (a .out)) (l .piece) (l .out) (l .held) (l .loaded)
+    (l .refused) (l .wrote) (l .at) (d .before .before .loop-test .taken) (l .inv) (n .result) (n .last .1 .0) (n .ensures) (c .before .if1 .taken) in
     record { fits = omega (arith, l .inv .counts) }
 
 row-requires : tie.Need-row-requires Inv-loop μ-loop
@@ -67,7 +69,8 @@ add-loaded c =
     let a = g .before .before .before .before .args in
     let l = g .loop in
     let n = d .next in
-    let e = turn-one (runStore (a .state) (now (a .piece)) (now (a .chunk))) (now (a .chunk)) (now (a .out)) (l .piece) (l .out) (l .held) (l .loaded) (l .refused) (l .wrote) (l .at) (d .before .before .loop-test .taken) (l .inv) (n .result) (n .last .1 .0) (n .ensures) (t .if1 .taken) in
+    let e = turn-one (runStore (a .state) (now (a .piece)) (now (a .chunk))) (now (a .chunk)) (now (a .out)) (l .piece) (l .out) (l .held) (l .loaded)
+    (l .refused) (l .wrote) (l .at) (d .before .before .loop-test .taken) (l .inv) (n .result) (n .last .1 .0) (n .ensures) (t .if1 .taken) in
     let is = c .before .before .before .row .result .loaded in
     record { fits = omega (arith, l .inv .counts, number-most is, number-most (not is)) }
 
@@ -82,7 +85,8 @@ add-refused c =
     let a = g .before .before .before .before .args in
     let l = g .loop in
     let n = d .next in
-    let e = turn-one (runStore (a .state) (now (a .piece)) (now (a .chunk))) (now (a .chunk)) (now (a .out)) (l .piece) (l .out) (l .held) (l .loaded) (l .refused) (l .wrote) (l .at) (d .before .before .loop-test .taken) (l .inv) (n .result) (n .last .1 .0) (n .ensures) (t .if1 .taken) in
+    let e = turn-one (runStore (a .state) (now (a .piece)) (now (a .chunk))) (now (a .chunk)) (now (a .out)) (l .piece) (l .out) (l .held) (l .loaded)
+    (l .refused) (l .wrote) (l .at) (d .before .before .loop-test .taken) (l .inv) (n .result) (n .last .1 .0) (n .ensures) (t .if1 .taken) in
     let is = c .before .before .before .row .result .loaded in
     record { fits = omega (arith, l .inv .counts, number-most is, number-most (not is)) }
 
@@ -94,7 +98,8 @@ loop-less c =
     let a = g .before .before .before .before .args in
     let l = g .loop in
     let n = d .next in
-    let h = turn-less (runStore (a .state) (now (a .piece)) (now (a .chunk))) (now (a .chunk)) (now (a .out)) (l .piece) (l .out) (l .held) (l .loaded) (l .refused) (l .wrote) (l .at) (d .before .before .loop-test .taken) (l .inv) (n .result) (n .last .1 .0) (n .ensures) in
+    let h = turn-less (runStore (a .state) (now (a .piece)) (now (a .chunk))) (now (a .chunk)) (now (a .out)) (l .piece) (l .out) (l .held) (l .loaded)
+    (l .refused) (l .wrote) (l .at) (d .before .before .loop-test .taken) (l .inv) (n .result) (n .last .1 .0) (n .ensures) in
     omega (arith, h)
 
 loop-again : tie.Need-loop-again Inv-loop μ-loop
@@ -107,9 +112,11 @@ loop-again c =
     let l = g .loop in
     let n = d .next in
     let k = c .before .before .before .row in
-    turn-close (runStore (a .state) (now (a .piece)) (now (a .chunk))) (now (a .chunk)) (now (a .out)) (l .piece) (l .out) (l .held) (l .loaded) (l .refused) (l .wrote) (l .at) (d .before .before .loop-test .taken) (l .inv) (n .result) (n .last .1 .0) (n .ensures)
+    turn-close (runStore (a .state) (now (a .piece)) (now (a .chunk))) (now (a .chunk)) (now (a .out)) (l .piece) (l .out) (l .held) (l .loaded)
+    (l .refused) (l .wrote) (l .at) (d .before .before .loop-test .taken) (l .inv) (n .result) (n .last .1 .0) (n .ensures)
     (t .if1 .taken) (k .last .1 .1 .0) (c .or .result)
-    (closed-adds (l .loaded + l .refused + 1) (l .out) (k .last .1 .1 .0) (l .wrote) (pieceSays (n .last .1 .0)) (k .result) (k .ensures) (c .or .result) (c .or .ensures))
+    (closed-adds (l .loaded + l .refused + 1) (l .out) (k .last .1 .1 .0) (l .wrote) (pieceSays (n .last .1 .0)) (k .result) (k .ensures)
+    (c .or .result) (c .or .ensures))
     (k .result .loaded) (k .ensures .loaded) (l .loaded + boolByte (k .result .loaded)) (l .refused + boolByte (not (k .result .loaded)))
     (tally-number (k .result .loaded) (l .loaded)) (tally-number (not (k .result .loaded)) (l .refused))
 
@@ -120,7 +127,8 @@ loop-less-2 c =
     let a = g .before .before .before .before .args in
     let l = g .loop in
     let n = d .next in
-    let h = turn-less (runStore (a .state) (now (a .piece)) (now (a .chunk))) (now (a .chunk)) (now (a .out)) (l .piece) (l .out) (l .held) (l .loaded) (l .refused) (l .wrote) (l .at) (d .before .before .loop-test .taken) (l .inv) (n .result) (n .last .1 .0) (n .ensures) in
+    let h = turn-less (runStore (a .state) (now (a .piece)) (now (a .chunk))) (now (a .chunk)) (now (a .out)) (l .piece) (l .out) (l .held) (l .loaded)
+    (l .refused) (l .wrote) (l .at) (d .before .before .loop-test .taken) (l .inv) (n .result) (n .last .1 .0) (n .ensures) in
     omega (arith, h)
 
 loop-again-2 : tie.Need-loop-again-2 Inv-loop μ-loop
@@ -130,7 +138,8 @@ loop-again-2 c =
     let a = g .before .before .before .before .args in
     let l = g .loop in
     let n = d .next in
-    turn-on (runStore (a .state) (now (a .piece)) (now (a .chunk))) (now (a .chunk)) (now (a .out)) (l .piece) (l .out) (l .held) (l .loaded) (l .refused) (l .wrote) (l .at) (d .before .before .loop-test .taken) (l .inv) (n .result) (n .last .1 .0) (n .ensures) (c .if1 .left)
+    turn-on (runStore (a .state) (now (a .piece)) (now (a .chunk))) (now (a .chunk)) (now (a .out)) (l .piece) (l .out) (l .held) (l .loaded)
+    (l .refused) (l .wrote) (l .at) (d .before .before .loop-test .taken) (l .inv) (n .result) (n .last .1 .0) (n .ensures) (c .if1 .left)
 
 made-requires : tie.Need-made-requires Inv-loop μ-loop
 made-requires c κs = search needs
@@ -145,7 +154,8 @@ returns : tie.Need-returns Inv-loop μ-loop
 returns c =
     let a = c .before .before .before .before .before .before .args in
     let l = c .before .before .loop in
-    turn-end (a .state) (now (a .piece)) (now (a .chunk)) (now (a .out)) (l .piece) (l .out) (l .held) (l .loaded) (l .refused) (l .wrote) (l .at) (omega arith) (l .inv)
+    turn-end (a .state) (now (a .piece)) (now (a .chunk)) (now (a .out)) (l .piece) (l .out) (l .held) (l .loaded) (l .refused) (l .wrote) (l .at)
+    (omega arith) (l .inv)
     (c .made .result) (c .made .ensures)
 
 pub take-spec : {M : Type 1} → statement M

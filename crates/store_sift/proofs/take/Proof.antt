@@ -34,7 +34,9 @@ add-close c =
     let l = c .before .before .before .before .before .before .before .loop in
     let t = c .before .before .before .before .before .before .loop-test .taken in
     let n = c .before .before .before .before .next in
-    let h = turn-counts (a .form) (siftStore (madeOf (a .form)) (a .state) (now (a .piece)) (now (a .chunk))) (now (a .chunk)) (now (a .made)) (now (a .rows)) (l .piece) (l .made) (l .rows) (l .held) (l .loaded) (l .refused) (l .made-end) (l .rows-end) (l .at) t (l .inv) (n .result) (n .last .1 .0) (n .ensures) (c .before .if1 .taken) in
+    let h = turn-counts (a .form) (siftStore (madeOf (a .form)) (a .state) (now (a .piece)) (now (a .chunk))) (now (a .chunk)) (now (a .made))
+    (now (a .rows)) (l .piece) (l .made) (l .rows) (l .held) (l .loaded) (l .refused) (l .made-end) (l .rows-end) (l .at) t (l .inv) (n .result)
+    (n .last .1 .0) (n .ensures) (c .before .if1 .taken) in
     record { fits = omega (arith, h) }
 
 add-close-2 : tie.Need-add-close-2 Inv-loop μ-loop
@@ -43,7 +45,9 @@ add-close-2 c =
     let l = c .before .before .before .before .before .before .before .loop in
     let t = c .before .before .before .before .before .before .loop-test .taken in
     let n = c .before .before .before .before .next in
-    let h = turn-counts (a .form) (siftStore (madeOf (a .form)) (a .state) (now (a .piece)) (now (a .chunk))) (now (a .chunk)) (now (a .made)) (now (a .rows)) (l .piece) (l .made) (l .rows) (l .held) (l .loaded) (l .refused) (l .made-end) (l .rows-end) (l .at) t (l .inv) (n .result) (n .last .1 .0) (n .ensures) (c .before .if1 .taken) in
+    let h = turn-counts (a .form) (siftStore (madeOf (a .form)) (a .state) (now (a .piece)) (now (a .chunk))) (now (a .chunk)) (now (a .made))
+    (now (a .rows)) (l .piece) (l .made) (l .rows) (l .held) (l .loaded) (l .refused) (l .made-end) (l .rows-end) (l .at) t (l .inv) (n .result)
+    (n .last .1 .0) (n .ensures) (c .before .if1 .taken) in
     record { fits = omega (arith, h) }
 
 close-requires : tie.Need-close-requires Inv-loop μ-loop
@@ -51,39 +55,58 @@ close-requires c κs = search needs
 
 add-loaded : tie.Need-add-loaded Inv-loop μ-loop
 add-loaded c =
-    let a = c .before .before .before .before .before .before .before .before .before .before .before .before .before .before .before .before .before .before .before .before .args in
+    let a = c .before .before .before .before .before .before .before .before .before .before .before .before .before .before .before .before .before
+    .before .before .before .args in
     let l = c .before .before .before .before .before .before .before .before .before .before .before .before .before .before .before .loop in
     let t = c .before .before .before .before .before .before .before .before .before .before .before .before .before .before .loop-test .taken in
     let n = c .before .before .before .before .before .before .before .before .before .before .before .before .next in
     let k = c .before .before .before .before .before .close in
-    record { fits = turn-fits (a .form) (siftStore (madeOf (a .form)) (a .state) (now (a .piece)) (now (a .chunk))) (now (a .chunk)) (now (a .made)) (now (a .rows)) (l .piece) (l .made) (l .rows) (l .held) (l .loaded) (l .refused) (l .made-end) (l .rows-end) (l .at) t (l .inv) (n .result) (n .last .1 .0) (n .ensures) (c .before .before .before .before .before .before .before .before .before .if1 .taken) (k .last .1 .1 .1 .0) (k .last .1 .1 .1 .1 .1 .0) (k .result) (k .ensures) .0 }
+    record {
+      fits = turn-fits (a .form) (siftStore (madeOf (a .form)) (a .state) (now (a .piece)) (now (a .chunk))) (now (a .chunk)) (now (a .made))
+          (now (a .rows)) (l .piece) (l .made) (l .rows) (l .held) (l .loaded) (l .refused) (l .made-end) (l .rows-end) (l .at) t (l .inv) (n .result)
+          (n .last .1 .0) (n .ensures) (c .before .before .before .before .before .before .before .before .before .if1 .taken) (k .last .1 .1 .1 .0)
+          (k .last .1 .1 .1 .1 .1 .0) (k .result) (k .ensures) .0;
+    }
 
 add-refused : tie.Need-add-refused Inv-loop μ-loop
 add-refused c =
-    let a = c .before .before .before .before .before .before .before .before .before .before .before .before .before .before .before .before .before .before .before .before .before .args in
+    let a = c .before .before .before .before .before .before .before .before .before .before .before .before .before .before .before .before .before
+    .before .before .before .before .args in
     let l = c .before .before .before .before .before .before .before .before .before .before .before .before .before .before .before .before .loop in
     let t = c .before .before .before .before .before .before .before .before .before .before .before .before .before .before .before .loop-test .taken in
     let n = c .before .before .before .before .before .before .before .before .before .before .before .before .before .next in
     let k = c .before .before .before .before .before .before .close in
-    record { fits = turn-fits (a .form) (siftStore (madeOf (a .form)) (a .state) (now (a .piece)) (now (a .chunk))) (now (a .chunk)) (now (a .made)) (now (a .rows)) (l .piece) (l .made) (l .rows) (l .held) (l .loaded) (l .refused) (l .made-end) (l .rows-end) (l .at) t (l .inv) (n .result) (n .last .1 .0) (n .ensures) (c .before .before .before .before .before .before .before .before .before .before .if1 .taken) (k .last .1 .1 .1 .0) (k .last .1 .1 .1 .1 .1 .0) (k .result) (k .ensures) .1 }
+    record {
+      fits = turn-fits (a .form) (siftStore (madeOf (a .form)) (a .state) (now (a .piece)) (now (a .chunk))) (now (a .chunk)) (now (a .made))
+          (now (a .rows)) (l .piece) (l .made) (l .rows) (l .held) (l .loaded) (l .refused) (l .made-end) (l .rows-end) (l .at) t (l .inv) (n .result)
+          (n .last .1 .0) (n .ensures) (c .before .before .before .before .before .before .before .before .before .before .if1 .taken)
+          (k .last .1 .1 .1 .0) (k .last .1 .1 .1 .1 .1 .0) (k .result) (k .ensures) .1;
+    }
 
 loop-less : tie.Need-loop-less Inv-loop μ-loop
 loop-less c =
-    let a = c .before .before .before .before .before .before .before .before .before .before .before .before .before .before .before .before .before .before .before .before .before .args in
+    let a = c .before .before .before .before .before .before .before .before .before .before .before .before .before .before .before .before .before
+    .before .before .before .before .args in
     let l = c .before .before .before .before .before .before .before .before .before .before .before .before .before .before .before .before .loop in
     let t = c .before .before .before .before .before .before .before .before .before .before .before .before .before .before .before .loop-test .taken in
     let n = c .before .before .before .before .before .before .before .before .before .before .before .before .before .next in
-    let h = turn-less (a .form) (siftStore (madeOf (a .form)) (a .state) (now (a .piece)) (now (a .chunk))) (now (a .chunk)) (now (a .made)) (now (a .rows)) (l .piece) (l .made) (l .rows) (l .held) (l .loaded) (l .refused) (l .made-end) (l .rows-end) (l .at) t (l .inv) (n .result) (n .last .1 .0) (n .ensures) in
+    let h = turn-less (a .form) (siftStore (madeOf (a .form)) (a .state) (now (a .piece)) (now (a .chunk))) (now (a .chunk)) (now (a .made))
+    (now (a .rows)) (l .piece) (l .made) (l .rows) (l .held) (l .loaded) (l .refused) (l .made-end) (l .rows-end) (l .at) t (l .inv) (n .result)
+    (n .last .1 .0) (n .ensures) in
     omega (arith, h, t)
 
 loop-again : tie.Need-loop-again Inv-loop μ-loop
 loop-again c =
-    let a = c .before .before .before .before .before .before .before .before .before .before .before .before .before .before .before .before .before .before .before .before .before .args in
+    let a = c .before .before .before .before .before .before .before .before .before .before .before .before .before .before .before .before .before
+    .before .before .before .before .args in
     let l = c .before .before .before .before .before .before .before .before .before .before .before .before .before .before .before .before .loop in
     let t = c .before .before .before .before .before .before .before .before .before .before .before .before .before .before .before .loop-test .taken in
     let n = c .before .before .before .before .before .before .before .before .before .before .before .before .before .next in
     let k = c .before .before .before .before .before .before .close in
-    turn-close (a .form) (siftStore (madeOf (a .form)) (a .state) (now (a .piece)) (now (a .chunk))) (now (a .chunk)) (now (a .made)) (now (a .rows)) (l .piece) (l .made) (l .rows) (l .held) (l .loaded) (l .refused) (l .made-end) (l .rows-end) (l .at) t (l .inv) (n .result) (n .last .1 .0) (n .ensures) (c .before .before .before .before .before .before .before .before .before .before .if1 .taken) (k .last .1 .1 .1 .0) (k .last .1 .1 .1 .1 .1 .0) (k .result) (k .ensures)
+    turn-close (a .form) (siftStore (madeOf (a .form)) (a .state) (now (a .piece)) (now (a .chunk))) (now (a .chunk)) (now (a .made)) (now (a .rows))
+    (l .piece) (l .made) (l .rows) (l .held) (l .loaded) (l .refused) (l .made-end) (l .rows-end) (l .at) t (l .inv) (n .result) (n .last .1 .0)
+    (n .ensures) (c .before .before .before .before .before .before .before .before .before .before .if1 .taken) (k .last .1 .1 .1 .0)
+    (k .last .1 .1 .1 .1 .1 .0) (k .result) (k .ensures)
 
 loop-less-2 : tie.Need-loop-less-2 Inv-loop μ-loop
 loop-less-2 c =
@@ -91,7 +114,9 @@ loop-less-2 c =
     let l = c .before .before .before .before .before .before .loop in
     let t = c .before .before .before .before .before .loop-test .taken in
     let n = c .before .before .before .next in
-    let h = turn-less (a .form) (siftStore (madeOf (a .form)) (a .state) (now (a .piece)) (now (a .chunk))) (now (a .chunk)) (now (a .made)) (now (a .rows)) (l .piece) (l .made) (l .rows) (l .held) (l .loaded) (l .refused) (l .made-end) (l .rows-end) (l .at) t (l .inv) (n .result) (n .last .1 .0) (n .ensures) in
+    let h = turn-less (a .form) (siftStore (madeOf (a .form)) (a .state) (now (a .piece)) (now (a .chunk))) (now (a .chunk)) (now (a .made))
+    (now (a .rows)) (l .piece) (l .made) (l .rows) (l .held) (l .loaded) (l .refused) (l .made-end) (l .rows-end) (l .at) t (l .inv) (n .result)
+    (n .last .1 .0) (n .ensures) in
     omega (arith, h, t)
 
 loop-again-2 : tie.Need-loop-again-2 Inv-loop μ-loop
@@ -100,7 +125,9 @@ loop-again-2 c =
     let l = c .before .before .before .before .before .before .loop in
     let t = c .before .before .before .before .before .loop-test .taken in
     let n = c .before .before .before .next in
-    turn-on (a .form) (siftStore (madeOf (a .form)) (a .state) (now (a .piece)) (now (a .chunk))) (now (a .chunk)) (now (a .made)) (now (a .rows)) (l .piece) (l .made) (l .rows) (l .held) (l .loaded) (l .refused) (l .made-end) (l .rows-end) (l .at) t (l .inv) (n .result) (n .last .1 .0) (n .ensures) (c .if1 .left)
+    turn-on (a .form) (siftStore (madeOf (a .form)) (a .state) (now (a .piece)) (now (a .chunk))) (now (a .chunk)) (now (a .made)) (now (a .rows))
+    (l .piece) (l .made) (l .rows) (l .held) (l .loaded) (l .refused) (l .made-end) (l .rows-end) (l .at) t (l .inv) (n .result) (n .last .1 .0)
+    (n .ensures) (c .if1 .left)
 
 same-length : tie.Need-same-length Inv-loop μ-loop
 same-length c = c .before .loop .inv .pieces .long ∙ sym (c .before .before .before .before .before .before .pre .size)
@@ -115,7 +142,8 @@ returns : tie.Need-returns Inv-loop μ-loop
 returns c =
     let a = c .before .before .before .before .before .before .args in
     let l = c .before .loop in
-    turn-end (a .state) (a .form) (now (a .piece)) (now (a .chunk)) (now (a .made)) (now (a .rows)) (l .piece) (l .made) (l .rows) (l .held) (l .loaded) (l .refused) (l .made-end) (l .rows-end) (l .at) (c .loop-test .left) (l .inv)
+    turn-end (a .state) (a .form) (now (a .piece)) (now (a .chunk)) (now (a .made)) (now (a .rows)) (l .piece) (l .made) (l .rows) (l .held)
+    (l .loaded) (l .refused) (l .made-end) (l .rows-end) (l .at) (c .loop-test .left) (l .inv)
 
 pub take-spec : {M : Type 1} → statement M
 take-spec =

@@ -21,7 +21,8 @@ returns-2 c =
     let m = c .before .before .before in
     let f = m .before in
     let a = f .before .before .before .before .before .args in
-    add-position (now (a .bitboards)) (now (a .board)) (a .state) (a .half) (now (a .run)) (now (a .summary)) (f .if1 .left) (m .prepare .result) (m .prepare .ensures) (c .before .answer .given .0 .0) (c .before .answer .given .1)
+    add-position (now (a .bitboards)) (now (a .board)) (a .state) (a .half) (now (a .run)) (now (a .summary)) (f .if1 .left) (m .prepare .result)
+    (m .prepare .ensures) (c .before .answer .given .0 .0) (c .before .answer .given .1)
 
 enum-told : tie.Need-enum-told
 enum-told c = search needs
@@ -32,7 +33,8 @@ returns-3 c =
     let m = t .before .before in
     let f = m .before in
     let a = f .before .before .before .before .before .args in
-    add-length (now (a .bitboards)) (now (a .board)) (a .state) (a .half) (now (a .run)) (now (a .summary)) (f .if1 .left) (m .prepare .result) (m .prepare .ensures) (t .enum-told .given .1) (c .if2 .taken)
+    add-length (now (a .bitboards)) (now (a .board)) (a .state) (a .half) (now (a .run)) (now (a .summary)) (f .if1 .left) (m .prepare .result)
+    (m .prepare .ensures) (t .enum-told .given .1) (c .if2 .taken)
 
 slice-read-records : tie.Need-slice-read-records
 slice-read-records c = search needs
@@ -44,7 +46,8 @@ returns-4 c =
     let m = t .before .before in
     let f = m .before in
     let a = f .before .before .before .before .before .args in
-    add-many (now (a .bitboards)) (now (a .board)) (a .state) (a .half) (now (a .run)) (now (a .summary)) (f .if1 .left) (m .prepare .result) (m .prepare .ensures) (t .enum-told .given .1) (e .if2 .left) (c .if3 .taken)
+    add-many (now (a .bitboards)) (now (a .board)) (a .state) (a .half) (now (a .run)) (now (a .summary)) (f .if1 .left) (m .prepare .result)
+    (m .prepare .ensures) (t .enum-told .given .1) (e .if2 .left) (c .if3 .taken)
 
 returns-5 : tie.Need-returns-5
 returns-5 c =
@@ -53,7 +56,8 @@ returns-5 c =
     let m = t .before .before in
     let f = m .before in
     let a = f .before .before .before .before .before .args in
-    add-room (now (a .bitboards)) (now (a .board)) (a .state) (a .half) (now (a .run)) (now (a .summary)) (f .if1 .left) (m .prepare .result) (m .prepare .ensures) (t .enum-told .given .1) (e .if2 .left) (c .before .if3 .left) (c .if4 .taken)
+    add-room (now (a .bitboards)) (now (a .board)) (a .state) (a .half) (now (a .run)) (now (a .summary)) (f .if1 .left) (m .prepare .result)
+    (m .prepare .ensures) (t .enum-told .given .1) (e .if2 .left) (c .before .if3 .left) (c .if4 .taken)
 
 keep-requires : tie.Need-keep-requires
 keep-requires c κs = search needs
@@ -73,7 +77,9 @@ returns-6 c =
     let m = t .before .before in
     let f = m .before in
     let a = f .before .before .before .before .before .args in
-    add-done (now (a .bitboards)) (now (a .board)) (a .state) (a .half) (now (a .run)) (now (a .summary)) (f .if1 .left) (m .prepare .result) (m .prepare .ensures) (t .enum-told .given .1) (e .if2 .left) (g .before .if3 .left) (g .if4 .left) (k .keep .last .0) (k .keep .last .1 .0) (k .keep .ensures)
+    add-done (now (a .bitboards)) (now (a .board)) (a .state) (a .half) (now (a .run)) (now (a .summary)) (f .if1 .left) (m .prepare .result)
+    (m .prepare .ensures) (t .enum-told .given .1) (e .if2 .left) (g .before .if3 .left) (g .if4 .left) (k .keep .last .0) (k .keep .last .1 .0)
+    (k .keep .ensures)
 
 pub add-record-spec : {M : Type 1} → statement M
 add-record-spec =

@@ -26,7 +26,8 @@ returns c =
     let p = k .before .before .before .before .before in
     let b = p .before .before .before .before .before in
     let a = b .args in
-    keeping (now (a .run)) (now (a .summary)) (a .number) (now (a .bytes)) (p .put .last .0) (k .count .last .0) (b .pre) (search needs) (p .put .ensures .1) (k .count .ensures)
+    keeping (now (a .run)) (now (a .summary)) (a .number) (now (a .bytes)) (p .put .last .0) (k .count .last .0) (b .pre) (search needs)
+    (p .put .ensures .1) (k .count .ensures)
 
 pub keep-spec : {M : Type 1} → statement M
 keep-spec = tie.close (tie.spec mul-put put-requires count-requires same-length same-length-2 returns)

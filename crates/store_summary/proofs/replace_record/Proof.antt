@@ -26,7 +26,8 @@ returns-2 c =
     let m = c .before .before .before in
     let f = m .before in
     let a = f .before .before .before .before .before .args in
-    replace-position (now (a .bitboards)) (now (a .board)) (a .state) (a .half) (a .number) (now (a .run)) (now (a .summary)) (f .if1 .left) (m .prepare .result) (m .prepare .ensures) (c .before .answer .given .0 .0) (c .before .answer .given .1)
+    replace-position (now (a .bitboards)) (now (a .board)) (a .state) (a .half) (a .number) (now (a .run)) (now (a .summary)) (f .if1 .left)
+    (m .prepare .result) (m .prepare .ensures) (c .before .answer .given .0 .0) (c .before .answer .given .1)
 
 enum-told : tie.Need-enum-told
 enum-told c = search needs
@@ -47,7 +48,9 @@ returns-3 c =
     let m = t .before .before in
     let f = m .before in
     let a = f .before .before .before .before .before .args in
-    replace-old (now (a .bitboards)) (now (a .board)) (a .state) (a .half) (a .number) (now (a .run)) (now (a .summary)) (f .if1 .left) (m .prepare .result) (m .prepare .ensures) (t .enum-told .given .1) (p .read-at .result) (p .read-at .ensures) (c .before .old .given .0 .0) (c .before .old .given .1)
+    replace-old (now (a .bitboards)) (now (a .board)) (a .state) (a .half) (a .number) (now (a .run)) (now (a .summary)) (f .if1 .left)
+    (m .prepare .result) (m .prepare .ensures) (t .enum-told .given .1) (p .read-at .result) (p .read-at .ensures) (c .before .old .given .0 .0)
+    (c .before .old .given .1)
 
 enum-told-2 : tie.Need-enum-told-2
 enum-told-2 c = search needs
@@ -66,7 +69,9 @@ returns-4 c =
     let m = t .before .before in
     let f = m .before in
     let a = f .before .before .before .before .before .args in
-    replace-absent (now (a .bitboards)) (now (a .board)) (a .state) (a .half) (a .number) (now (a .run)) (now (a .summary)) (f .if1 .left) (m .prepare .result) (m .prepare .ensures) (t .enum-told .given .1) (p .read-at .result) (p .read-at .ensures) _ _ (o .enum-told2 .given .1) (c .if2 .taken)
+    replace-absent (now (a .bitboards)) (now (a .board)) (a .state) (a .half) (a .number) (now (a .run)) (now (a .summary)) (f .if1 .left)
+    (m .prepare .result) (m .prepare .ensures) (t .enum-told .given .1) (p .read-at .result) (p .read-at .ensures) _ _ (o .enum-told2 .given .1)
+    (c .if2 .taken)
 
 take-off-requires : tie.Need-take-off-requires
 take-off-requires c κs =
@@ -77,7 +82,12 @@ take-off-requires c κs =
     let m = t .before .before in
     let f = m .before in
     let a = f .before .before .before .before .before .args in
-    record { size = f .if1 .left; there = there (now (a .bitboards)) (now (a .board)) (a .state) (a .half) (a .number) (now (a .run)) (now (a .summary)) (f .if1 .left) (m .prepare .result) (m .prepare .ensures) (t .enum-told .given .1) (p .read-at .result) (p .read-at .ensures) _ _ (o .enum-told2 .given .1) }
+    record {
+      size = f .if1 .left;
+      there = there (now (a .bitboards)) (now (a .board)) (a .state) (a .half) (a .number) (now (a .run))
+          (now (a .summary)) (f .if1 .left) (m .prepare .result) (m .prepare .ensures) (t .enum-told .given .1) (p .read-at .result) (p .read-at .ensures)
+          _ _ (o .enum-told2 .given .1);
+    }
 
 keep-requires : tie.Need-keep-requires
 keep-requires c κs =
@@ -89,7 +99,13 @@ keep-requires c κs =
     let m = t .before .before in
     let f = m .before in
     let a = f .before .before .before .before .before .args in
-    record { size = ap length (u .take-off .ensures) ∙ moved-770 (now (a .summary)) (wrapsOff 1) (wrapsOff (halfIn (recordAt (now (a .run)) (a .number)))) (recordAt (now (a .run)) (a .number)); there = there (now (a .bitboards)) (now (a .board)) (a .state) (a .half) (a .number) (now (a .run)) (now (a .summary)) (f .if1 .left) (m .prepare .result) (m .prepare .ensures) (t .enum-told .given .1) (p .read-at .result) (p .read-at .ensures) _ _ (o .enum-told2 .given .1) }
+    record {
+      size = ap length (u .take-off .ensures) ∙ moved-770 (now (a .summary)) (wrapsOff 1)
+          (wrapsOff (halfIn (recordAt (now (a .run)) (a .number)))) (recordAt (now (a .run)) (a .number));
+      there =
+          there (now (a .bitboards)) (now (a .board)) (a .state) (a .half) (a .number) (now (a .run)) (now (a .summary)) (f .if1 .left)
+          (m .prepare .result) (m .prepare .ensures) (t .enum-told .given .1) (p .read-at .result) (p .read-at .ensures) _ _ (o .enum-told2 .given .1);
+    }
 
 same-length-3 : tie.Need-same-length-3
 same-length-3 c = search needs
@@ -108,7 +124,9 @@ returns-5 c =
     let m = t .before .before in
     let f = m .before in
     let a = f .before .before .before .before .before .args in
-    replace-done (now (a .bitboards)) (now (a .board)) (a .state) (a .half) (a .number) (now (a .run)) (now (a .summary)) (f .if1 .left) (m .prepare .result) (m .prepare .ensures) (t .enum-told .given .1) (p .read-at .result) (p .read-at .ensures) _ _ (o .enum-told2 .given .1) (g .if2 .left) (u .take-off .last .1 .0) (k .keep .last .0) (k .keep .last .1 .0) (u .take-off .ensures) (k .keep .ensures)
+    replace-done (now (a .bitboards)) (now (a .board)) (a .state) (a .half) (a .number) (now (a .run)) (now (a .summary)) (f .if1 .left)
+    (m .prepare .result) (m .prepare .ensures) (t .enum-told .given .1) (p .read-at .result) (p .read-at .ensures) _ _ (o .enum-told2 .given .1)
+    (g .if2 .left) (u .take-off .last .1 .0) (k .keep .last .0) (k .keep .last .1 .0) (u .take-off .ensures) (k .keep .ensures)
 
 pub replace-record-spec : {M : Type 1} → statement M
 replace-record-spec =

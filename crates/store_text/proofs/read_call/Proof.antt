@@ -18,14 +18,16 @@ named-store-requires c κs = search needs
 
 returns : tie.Need-returns
 returns c =
-    let a = (c .before .before .before .before .before .args) in (c .named-store) .ensures ∙ asks (now (a .first)) (a .count) true (sym ((c .before .before .is) .ensures) ∙ (c .before .if1) .taken)
+    let a = (c .before .before .before .before .before .args) in (c .named-store) .ensures
+    ∙ asks (now (a .first)) (a .count) true (sym ((c .before .before .is) .ensures) ∙ (c .before .if1) .taken)
 
 named-store-requires-2 : tie.Need-named-store-requires-2
 named-store-requires-2 c κs = search needs
 
 returns-2 : tie.Need-returns-2
 returns-2 c =
-    let a = (c .before .before .before .before .before .args) in (c .named-store2) .ensures ∙ asks (now (a .first)) (a .count) false (sym ((c .before .before .is) .ensures) ∙ (c .before .if1) .left)
+    let a = (c .before .before .before .before .before .args) in (c .named-store2) .ensures
+    ∙ asks (now (a .first)) (a .count) false (sym ((c .before .before .is) .ensures) ∙ (c .before .if1) .left)
 
 pub read-call-spec : {M : Type 1} → statement M
 read-call-spec =

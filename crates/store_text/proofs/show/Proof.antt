@@ -12,7 +12,8 @@ returns c =
 
 returns-2 : tie.Need-returns-2
 returns-2 c =
-    let a = (c .before .before .before .before .args) in no-room (a .form) (a .first) (now (a .summary)) (now (a .out)) ((c .before .if1) .left) ((c .if2) .taken)
+    let a = (c .before .before .before .before .args) in no-room (a .form) (a .first) (now (a .summary)) (now (a .out)) ((c .before .if1) .left)
+    ((c .if2) .taken)
 
 write-row-requires : tie.Need-write-row-requires
 write-row-requires c κs =
@@ -23,7 +24,10 @@ same-length c = search needs
 
 returns-3 : tie.Need-returns-3
 returns-3 c =
-    let a = (c .before .before .before .before .before .before .before .before .before .before .args) in row-shown (a .form) (a .first) (now (a .summary)) (now (a .out)) ((c .before .before .before .before .before .before .before .if1) .left) ((c .before .before .before .before .before .before .if2) .left) ((c .before .before .before .before .if3) .taken) ((c .before .before .write-row) .result) ((c .before .before .write-row) .last .1 .0) ((c .before .before .write-row) .ensures)
+    let a = (c .before .before .before .before .before .before .before .before .before .before .args) in
+    row-shown (a .form) (a .first) (now (a .summary)) (now (a .out)) ((c .before .before .before .before .before .before .before .if1) .left)
+    ((c .before .before .before .before .before .before .if2) .left) ((c .before .before .before .before .if3) .taken)
+    ((c .before .before .write-row) .result) ((c .before .before .write-row) .last .1 .0) ((c .before .before .write-row) .ensures)
 
 page-requires : tie.Need-page-requires
 page-requires c κs =
@@ -34,7 +38,10 @@ same-length-2 c = search needs
 
 returns-4 : tie.Need-returns-4
 returns-4 c =
-    let a = (c .before .before .before .before .before .before .before .before .before .before .args) in page-shown (a .form) (a .first) (now (a .summary)) (now (a .out)) ((c .before .before .before .before .before .before .before .if1) .left) ((c .before .before .before .before .before .before .if2) .left) ((c .before .before .before .before .if3) .left) ((c .before .before .page) .result) ((c .before .before .page) .last .1 .1 .0) ((c .before .before .page) .ensures)
+    let a = (c .before .before .before .before .before .before .before .before .before .before .args) in
+    page-shown (a .form) (a .first) (now (a .summary)) (now (a .out)) ((c .before .before .before .before .before .before .before .if1) .left)
+    ((c .before .before .before .before .before .before .if2) .left) ((c .before .before .before .before .if3) .left)
+    ((c .before .before .page) .result) ((c .before .before .page) .last .1 .1 .0) ((c .before .before .page) .ensures)
 
 pub show-spec : {M : Type 1} → statement M
 show-spec =

@@ -37,9 +37,19 @@ same-length c = search needs
 returns : tie.Need-returns
 unfolding refusedRow
 returns c =
-    let a = (c .before .before .before .before .before .before .before .before .before .before .before .before .before .before .before .before .before .before .before .before .args) in
-    adds-4 ((c .before .before .before .before .before .before .before .before .before .before .before .before .before .before .before .before .before .spaced) .ensures) ((c .before .before .before .before .before .before .before .before .before .before .before .before .put) .ensures) (by-text (ap decimalOf ((c .before .before .before .before .before .before .before .before .wide) .ensures)) ((c .before .before .before .before .before .before .before .number) .ensures)) ((c .before .before .put2) .ensures)
-    (omega (arith, length-spaced (a .first .number), length-20 (a .first .refusal), (c .before .before .before .before .before .before .before .before .before .before .before .before .before .before .before .before .before .before .before .before .pre)))
+    let a = (c .before .before .before .before .before .before .before .before .before .before .before .before .before .before .before .before .before
+    .before .before .before .args) in
+    adds-4 ((c .before .before .before .before .before .before .before .before .before .before .before .before .before .before .before .before .before
+    .spaced) .ensures) ((c .before .before .before .before .before .before .before .before .before .before .before .before .put) .ensures)
+    (by-text (ap decimalOf ((c .before .before .before .before .before .before .before .before .wide) .ensures))
+    ((c .before .before .before .before .before .before .before .number) .ensures)) ((c .before .before .put2) .ensures)
+    (omega (
+      arith,
+      length-spaced (a .first .number),
+      length-20 (a .first .refusal),
+      (c .before .before .before .before .before .before .before .before .before .before .before .before .before .before .before .before .before
+          .before .before .before .pre),
+    ))
 
 pub write-row-spec : {M : Type 1} → statement M
 write-row-spec =

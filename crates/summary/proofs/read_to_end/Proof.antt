@@ -9,7 +9,8 @@ use Rattle.summary.proofs.read_to_end.Statement.{statement}
 use Rattle.summary.proofs.read_to_end.Tie as tie
 
 abbrev Inv-loop : tie.InvT-loop
-Inv-loop fd what piece₀ chunk₀ summary₀ state₀ turns₀ t9 piece chunk summary state turns = (turns ≤ 2 ^ 62) × (length chunk ≡ length chunk₀) × (length summary ≡ length summary₀) × (length piece ≡ length piece₀)
+Inv-loop fd what piece₀ chunk₀ summary₀ state₀ turns₀ t9 piece chunk summary state turns = (turns ≤ 2 ^ 62) × (length chunk ≡ length chunk₀)
+    × (length summary ≡ length summary₀) × (length piece ≡ length piece₀)
 
 abbrev μ-loop : tie.MeasureT-loop
 μ-loop fd what piece₀ chunk₀ summary₀ state₀ turns₀ t9 piece chunk summary state turns = 2 ^ 62 - turns
@@ -33,10 +34,24 @@ enum-known-next : tie.Need-enum-known-next Inv-loop μ-loop
 enum-known-next c = search needs
 
 loop-less : tie.Need-loop-less Inv-loop μ-loop
-loop-less c = omega (arith, may-count (c .before .before .before .before .before .before .before .before .before .before .before .before .before .before .may-go-on .ensures) (c .before .before .before .before .before .before .before .before .before .before .before .before .before .if1 .taken))
+loop-less c = omega (
+  arith,
+  may-count
+      (c .before .before .before .before .before .before .before .before .before .before .before .before .before .before .may-go-on .ensures)
+      (c .before .before .before .before .before .before .before .before .before .before .before .before .before .if1 .taken),
+)
 
 loop-again : tie.Need-loop-again Inv-loop μ-loop
-loop-again c = (omega (arith, may-count (c .before .before .before .before .before .before .before .before .before .before .before .before .before .before .may-go-on .ensures) (c .before .before .before .before .before .before .before .before .before .before .before .before .before .if1 .taken)), search needs, search needs, search needs)
+loop-again c = (
+  omega (
+    arith,
+    may-count (c .before .before .before .before .before .before .before .before .before .before .before .before .before .before .may-go-on .ensures)
+        (c .before .before .before .before .before .before .before .before .before .before .before .before .before .if1 .taken),
+  ),
+  search needs,
+  search needs,
+  search needs,
+)
 
 enum-told : tie.Need-enum-told Inv-loop μ-loop
 enum-told c = search needs

@@ -53,7 +53,8 @@ returns c =
     let a = c .before .before .before .before .before .before .before .before .before .before .before .before .args in
     subst (λ (t : List ℕ). Puts (now (a .out)) (p .last .0) (a .at) t (p .result))
     (k .ensures .front
-    ∙ ap (λ (l : List ℕ). 45 ∷ l) (d .ensures .1 .1 ∙ decimal-is 20 (d .result) (a .n + 1) (d .ensures .1 .0) (fewest-20 (a .n + 1) (d .result) (omega arith) (d .ensures .1 .0))))
+    ∙ ap (λ (l : List ℕ). 45 ∷ l) (d .ensures .1 .1 ∙ decimal-is 20 (d .result) (a .n + 1) (d .ensures .1 .0)
+    (fewest-20 (a .n + 1) (d .result) (omega arith) (d .ensures .1 .0))))
     (p .ensures)
 
 pub below-zero-spec : {M : Type 1} → statement M

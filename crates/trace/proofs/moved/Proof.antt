@@ -36,7 +36,8 @@ returns c =
     let s = o .before in
     let a = s .before .before .args in
     held-number (c .whole .result) (t .attacked .result) (attacked (a .bitboards .now) (a .kind) (a .color)) (c .whole .ensures) (small t)
-    (moved-is (a .bitboards .now) (a .kind) (a .color) (s .standing .result) (o .occupied .result) (t .attacked .result) (s .standing .ensures) (o .occupied .ensures) (t .attacked .ensures))
+    (moved-is (a .bitboards .now) (a .kind) (a .color) (s .standing .result) (o .occupied .result) (t .attacked .result) (s .standing .ensures)
+    (o .occupied .ensures) (t .attacked .ensures))
 
 pub moved-spec : {M : Type 1} → statement M
 moved-spec = tie.close (tie.spec standing-requires occupied-requires attacked-requires whole-requires returns)

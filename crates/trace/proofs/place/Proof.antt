@@ -23,7 +23,8 @@ returns : tie.Need-returns
 returns c =
     let s = c .before .before .before in
     let a = s .args in
-    let e : c .entry .result ≡ codePlace (a .code) (a .square) = c .entry .ensures ∙ ap₂ (λ (k t : ℕ). entryPlace k t (a .code % 2)) (c .before .before .kind .ensures) (c .before .flip .ensures) in
+    let e : c .entry .result ≡ codePlace (a .code) (a .square) = c .entry .ensures
+    ∙ ap₂ (λ (k t : ℕ). entryPlace k t (a .code % 2)) (c .before .before .kind .ensures) (c .before .flip .ensures) in
     (e, place-lt (kindOf (a .code)) (a .code % 2) (a .square) (c .entry .result) (kind-lt (a .code / 2)) (omega arith) (s .pre) e)
 
 pub place-spec : {M : Type 1} → statement M

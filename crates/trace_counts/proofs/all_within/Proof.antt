@@ -32,7 +32,8 @@ unfolding allBelow
 more most zs i good passed e h p = rw (add-one, p, e, read (getD zs i (pos 0)) h)
 
 -- at the end it is all of them, and the bound is what the machine reads back from its bits
-whole : (most : ℤ) (zs : List ℤ) (i : ℕ) (good : Bool) → SFits w32 most → i ≡ length zs → good ≡ allBelow i (λ k. within (held w32 most) (getD zs k (pos 0))) → good ≡ allWithin most zs
+whole : (most : ℤ) (zs : List ℤ) (i : ℕ) (good : Bool) → SFits w32 most → i ≡ length zs
+    → good ≡ allBelow i (λ k. within (held w32 most) (getD zs k (pos 0))) → good ≡ allWithin most zs
 whole most zs i good f e p = p ∙ rw (toZ-ofZ w32 most f, e)
 
 loop-holds : tie.Need-loop-holds Inv-loop μ-loop
@@ -57,8 +58,11 @@ loop-less c = search needs
 loop-again : tie.Need-loop-again Inv-loop μ-loop
 loop-again c =
     let l = c .before .before .before in
-    let s = l .before .args in
-    (omega arith, more (held w32 (s .most)) (s .numbers .now) (l .loop .i) (l .loop .good) (c .is-within .result) (l .loop .inv .1) (c .before .is-within-arg .given) (c .is-within .ensures))
+    let s = l .before .args in (
+      omega arith,
+      more (held w32 (s .most)) (s .numbers .now) (l .loop .i) (l .loop .good) (c .is-within .result) (l .loop .inv .1)
+          (c .before .is-within-arg .given) (c .is-within .ensures),
+    )
 
 returns : tie.Need-returns Inv-loop μ-loop
 returns c =

@@ -38,10 +38,12 @@ loop-holds c =
     let p = c .before .pre in
     let w = a .squares .now in
     let e = a .entries .now in
-    walk.begun (after w (a .x) e (a .start)) 48 (a .start) (λ g. markOf (groupOf e g)) (a .groups) (p .3) (folds.none-yet (entryStep w (a .x) e) (a .start) 0) (omega arith)
+    walk.begun (after w (a .x) e (a .start)) 48 (a .start) (λ g. markOf (groupOf e g)) (a .groups) (p .3)
+    (folds.none-yet (entryStep w (a .x) e) (a .start) 0) (omega arith)
     (λ g h. mark-small (groupOf e g))
     (λ g h z.
-    folds.all-still (entryStep w (a .x) e) (after w (a .x) e (a .start) g) (16 * g) 16 (λ j i. nothing w (a .x) e (16 * g + j) (group-none e (p .1) (p .2) g j h i (mark-none (groupOf e g) z)))
+    folds.all-still (entryStep w (a .x) e) (after w (a .x) e (a .start) g) (16 * g) 16
+    (λ j i. nothing w (a .x) e (16 * g + j) (group-none e (p .1) (p .2) g j h i (mark-none (groupOf e g) z)))
     ∙ folds.group-more (entryStep w (a .x) e) (a .start) g)
 
 next-requires : tie.Need-next-requires Inv-loop μ-loop
@@ -64,16 +66,19 @@ returns c =
 
 -- the group that came, and those that are left
 came : (c : tie.After-known-told Inv-loop μ-loop)
-    → (squares (c .before .before .before .before .loop .rest) ≡ c .before .n .given .0 .0 ∷ squares (c .before .n .given .0 .1 .0)) × (c .before .n .given .0 .0 < 64)
+    → (squares (c .before .before .before .before .loop .rest) ≡ c .before .n .given .0 .0 ∷ squares (c .before .n .given .0 .1 .0))
+    × (c .before .n .given .0 .0 < 64)
 came c =
     let k = c .before .before .before in
-    next-at (k .before .loop .rest) (c .before .n .given .0 .0) (c .before .n .given .0 .1 .0) (k .before .loop .inv .fits) (sym (ap lowest (c .before .n .given .1)) ∙ k .next .ensures)
+    next-at (k .before .loop .rest) (c .before .n .given .0 .0) (c .before .n .given .0 .1 .0) (k .before .loop .inv .fits)
+    (sym (ap lowest (c .before .n .given .1)) ∙ k .next .ensures)
 
 below : (c : tie.After-known-told Inv-loop μ-loop) → c .before .n .given .0 .0 < 48
 below c =
     let l = c .before .before .before .before .loop in
     let a = c .before .before .before .before .before .before .args in
-    walk.walk-below (after (a .squares .now) (a .x) (a .entries .now) (a .start)) 48 (l .score) (l .rest) (c .before .n .given .0 .0) (c .before .n .given .0 .1 .0) (l .inv) (came c .0)
+    walk.walk-below (after (a .squares .now) (a .x) (a .entries .now) (a .start)) 48 (l .score) (l .rest) (c .before .n .given .0 .0)
+    (c .before .n .given .0 .1 .0) (l .inv) (came c .0)
 
 cast-group-added : tie.Need-cast-group-added Inv-loop μ-loop
 cast-group-added c = search needs

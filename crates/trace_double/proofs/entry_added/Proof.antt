@@ -47,7 +47,8 @@ interpolated-requires : tie.Need-interpolated-requires
 interpolated-requires c κs = search needs
 
 -- the two weights stand where 01 says
-places : (squares : List Float) (x r : Float) (k : ℕ) → r ≡ between (getD squares (k / 128 * 128 + k % 128 / 2) nan) (getD squares (k / 128 * 128 + k % 128 / 2 + 64) nan) x
+places : (squares : List Float) (x r : Float) (k : ℕ) → r ≡ between (getD squares (k / 128 * 128 + k % 128 / 2) nan)
+    (getD squares (k / 128 * 128 + k % 128 / 2 + 64) nan) x
     → r ≡ between (weightAt squares 0 k) (weightAt squares 1 k) x
 places squares x r k e =
     let opening : k / 128 * 128 + k % 128 / 2 ≡ weightPlace (kindAt k) 0 (squareAt k) = omega arith in

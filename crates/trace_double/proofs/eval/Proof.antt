@@ -61,7 +61,8 @@ entries-added-requires c κs =
     let v = w .before .seen in
     let es = two .before .before .before .args .entries .now in
     let l = two .before .if1 .left in
-    let all = sym (seen-entries es l (v .ensures)) ∙ T-true (v .result .entries) (and-r (w .in-ranges .result) (v .result .entries) (true-T (then .if3 .taken))) in
+    let all = sym (seen-entries es l (v .ensures)) ∙ T-true (v .result .entries)
+    (and-r (w .in-ranges .result) (v .result .entries) (true-T (then .if3 .taken))) in
     (two .if2 .left, l, all, seen-groups es l (v .ensures))
 
 returns-3 : tie.Need-returns-3
@@ -75,7 +76,8 @@ returns-3 c =
     let t = s .args .trace in
     let x = read (t .«piece_count») (told .struct-told .given .1 .1 .1 .1 .1 .1 .1 .1 .0 .1) in
     passed t (s .args .entries .now) (s .args .weights) (s .args .squares .now) (two .before .if1 .left) (two .if2 .left)
-    (tested-both t (s .args .entries .now) (w .in-ranges .ensures) (seen-entries (s .args .entries .now) (two .before .if1 .left) (w .before .seen .ensures)) (then .if3 .taken))
+    (tested-both t (s .args .entries .now) (w .in-ranges .ensures) (seen-entries (s .args .entries .now) (two .before .if1 .left)
+    (w .before .seen .ensures)) (then .if3 .taken))
     (worked t (s .args .entries .now) (s .args .weights) (s .args .squares .now) x (n .sum .ensures) (c .entries-added .ensures))
 
 returns-4 : tie.Need-returns-4
@@ -85,7 +87,8 @@ returns-4 c =
     let s = two .before .before .before in
     let t = s .args .trace in
     failed t (s .args .entries .now) (s .args .weights) (s .args .squares .now) (two .before .if1 .left) (two .if2 .left)
-    (tested-both t (s .args .entries .now) (w .in-ranges .ensures) (seen-entries (s .args .entries .now) (two .before .if1 .left) (w .before .seen .ensures)) (c .if3 .left))
+    (tested-both t (s .args .entries .now) (w .in-ranges .ensures) (seen-entries (s .args .entries .now) (two .before .if1 .left)
+    (w .before .seen .ensures)) (c .if3 .left))
 
 pub eval-spec : {M : Type 1} → statement M
 eval-spec =

@@ -31,10 +31,12 @@ loop-holds c =
     let a = c .before .before .args in
     let p = c .before .before .pre in
     let e = a .entries .now in
-    walk.begun (entriesFrom (a .squares .now) (a .x) e (a .start) (16 * a .group)) 16 (a .start) (oddAt e (a .group)) (c .ones .result) (c .ones .ensures ∙ ones-of e (p .1) (a .group) (p .2))
+    walk.begun (entriesFrom (a .squares .now) (a .x) e (a .start) (16 * a .group)) 16 (a .start) (oddAt e (a .group)) (c .ones .result)
+    (c .ones .ensures ∙ ones-of e (p .1) (a .group) (p .2))
     (folds.none-yet (entryStep (a .squares .now) (a .x) e) (a .start) (16 * a .group)) (omega arith)
     (λ j h. odd-small e (a .group) j)
-    (λ j h z. folds.one-still (entryStep (a .squares .now) (a .x) e) (a .start) (16 * a .group) j (nothing (a .squares .now) (a .x) e (16 * a .group + j) (odd-none e (p .1) (p .3) (a .group) j (p .2) h z)))
+    (λ j h z. folds.one-still (entryStep (a .squares .now) (a .x) e) (a .start) (16 * a .group) j
+    (nothing (a .squares .now) (a .x) e (16 * a .group + j) (odd-none e (p .1) (p .3) (a .group) j (p .2) h z)))
 
 next-requires : tie.Need-next-requires Inv-loop μ-loop
 next-requires c κs = search needs
@@ -55,16 +57,19 @@ returns c =
 
 -- the 1 that came, and those that are left
 came : (c : tie.After-known-told Inv-loop μ-loop)
-    → (squares (c .before .before .before .before .loop .rest) ≡ c .before .n .given .0 .0 ∷ squares (c .before .n .given .0 .1 .0)) × (c .before .n .given .0 .0 < 64)
+    → (squares (c .before .before .before .before .loop .rest) ≡ c .before .n .given .0 .0 ∷ squares (c .before .n .given .0 .1 .0))
+    × (c .before .n .given .0 .0 < 64)
 came c =
     let k = c .before .before .before in
-    next-at (k .before .loop .rest) (c .before .n .given .0 .0) (c .before .n .given .0 .1 .0) (k .before .loop .inv .fits) (sym (ap lowest (c .before .n .given .1)) ∙ k .next .ensures)
+    next-at (k .before .loop .rest) (c .before .n .given .0 .0) (c .before .n .given .0 .1 .0) (k .before .loop .inv .fits)
+    (sym (ap lowest (c .before .n .given .1)) ∙ k .next .ensures)
 
 below : (c : tie.After-known-told Inv-loop μ-loop) → c .before .n .given .0 .0 < 16
 below c =
     let l = c .before .before .before .before .loop in
     let a = c .before .before .before .before .before .before .before .args in
-    walk.walk-below (entriesFrom (a .squares .now) (a .x) (a .entries .now) (a .start) (16 * a .group)) 16 (l .score) (l .rest) (c .before .n .given .0 .0) (c .before .n .given .0 .1 .0) (l .inv) (came c .0)
+    walk.walk-below (entriesFrom (a .squares .now) (a .x) (a .entries .now) (a .start) (16 * a .group)) 16 (l .score) (l .rest)
+    (c .before .n .given .0 .0) (c .before .n .given .0 .1 .0) (l .inv) (came c .0)
 
 mul-k : tie.Need-mul-k Inv-loop μ-loop
 mul-k c = search needs

@@ -24,7 +24,8 @@ returns c =
     let k = c .before .before .before .before in
     let a = k .before .before .before .args in
     refuses (a .bitboards .now) (a .board .now) (a .state) (a .bytes .now) (c .refused .result) (q .given .0 .0)
-    (pass-on (a .bitboards .now) (a .board .now) (a .state) (k .check .result) (k .check .ensures) (given (traceOf (a .bitboards .now) (a .state .side))) (q .given .0 .0) (q .given .1))
+    (pass-on (a .bitboards .now) (a .board .now) (a .state) (k .check .result) (k .check .ensures)
+    (given (traceOf (a .bitboards .now) (a .state .side))) (q .given .0 .0) (q .given .1))
     (c .refused .ensures)
 
 enum-told : tie.Need-enum-told
@@ -43,15 +44,20 @@ listed-requires : tie.Need-listed-requires
 listed-requires c κs =
     let e = c .before .before .before .before .before in
     let k = e .before .before in
-    let a = k .before .before .before .args in
-    (are-few (a .bitboards .now) (a .board .now) (fit-all (a .bitboards .now) (a .board .now) (a .state) (k .check .result) (k .check .ensures) (e .enum-told .given .1) .pieces), c .before .clear .ensures)
+    let a = k .before .before .before .args in (
+      are-few (a .bitboards .now) (a .board .now) (fit-all (a .bitboards .now) (a .board .now) (a .state) (k .check .result) (k .check .ensures)
+          (e .enum-told .given .1) .pieces),
+      c .before .clear .ensures,
+    )
 
 cast-used : tie.Need-cast-used
 cast-used c =
     let e = c .before .before .before .before .before .before in
     let k = e .before .before in
     let a = k .before .before .before .args in
-    let h = used-few (a .bitboards .now) (a .board .now) (c .listed .result) (fit-all (a .bitboards .now) (a .board .now) (a .state) (k .check .result) (k .check .ensures) (e .enum-told .given .1) .pieces) (c .listed .ensures .0) in
+    let h = used-few (a .bitboards .now) (a .board .now) (c .listed .result)
+    (fit-all (a .bitboards .now) (a .board .now) (a .state) (k .check .result) (k .check .ensures) (e .enum-told .given .1) .pieces)
+    (c .listed .ensures .0) in
     omega (arith, h)
 
 returns-2 : tie.Need-returns-2
@@ -63,7 +69,8 @@ returns-2 c =
     let a = k .before .before .before .args in
     computed (a .bitboards .now) (a .board .now) (a .state) (a .bytes .now) (g .gathered .result) (m .mobility .result) (c .listed .result) _
     (fit-all (a .bitboards .now) (a .board .now) (a .state) (k .check .result) (k .check .ensures) (e .enum-told .given .1) .pieces)
-    (fit-rest (a .bitboards .now) (a .board .now) (a .state) (k .check .result) (k .check .ensures) (given (traceOf (a .bitboards .now) (a .state .side))) (e .enum-told .given .1))
+    (fit-rest (a .bitboards .now) (a .board .now) (a .state) (k .check .result) (k .check .ensures)
+    (given (traceOf (a .bitboards .now) (a .state .side))) (e .enum-told .given .1))
     (m .mobility .ensures) (g .gathered .ensures) (c .listed .ensures .0) (c .listed .ensures .1)
 
 pub compute-list-spec : {M : Type 1} → statement M

@@ -34,7 +34,8 @@ loop-holds : tie.Need-loop-holds Inv-loop μ-loop
 loop-holds c =
     let s = c .before .before .before .before in
     let w = c .before .before .standing in
-    begun (s .args .bitboards .now) (s .args .kind) (w .result) (c .turned .result) (s .args .used) (s .args .bytes .now) (s .pre .0) (omega arith) (w .ensures) (omega arith)
+    begun (s .args .bitboards .now) (s .args .kind) (w .result) (c .turned .result) (s .args .used) (s .args .bytes .now) (s .pre .0) (omega arith)
+    (w .ensures) (omega arith)
     (c .turned .ensures ∙ ap turnedOver (c .before .standing2 .ensures)) (s .pre .2) (s .pre .3)
 
 next-requires : tie.Need-next-requires Inv-loop μ-loop
@@ -57,7 +58,8 @@ returns c =
 
 -- the square that came, and those that are left
 came : (c : tie.After-known-told Inv-loop μ-loop)
-    → (squares (c .before .before .before .before .loop .rest) ≡ c .before .next2 .given .0 .0 ∷ squares (c .before .next2 .given .0 .1 .0)) × (c .before .next2 .given .0 .0 < 64)
+    → (squares (c .before .before .before .before .loop .rest) ≡ c .before .next2 .given .0 .0 ∷ squares (c .before .next2 .given .0 .1 .0))
+    × (c .before .next2 .given .0 .0 < 64)
 came c =
     let k = c .before .before .before in
     next-at (k .before .loop .rest) (c .before .next2 .given .0 .0) (c .before .next2 .given .0 .1 .0) (k .before .loop .inv .fits)
@@ -66,11 +68,13 @@ came c =
 -- so many entries have been made before it
 made : (c : tie.After-known-told Inv-loop μ-loop)
     → (c .before .before .before .before .loop .n, c .before .before .before .before .loop .bytes)
-    ≡ madeTo (c .before .before .before .before .before .before .before .before .before .args .bitboards .now) (c .before .before .before .before .before .before .before .before .before .args .kind) (c .before .next2 .given .0 .0)
+    ≡ madeTo (c .before .before .before .before .before .before .before .before .before .args .bitboards .now)
+    (c .before .before .before .before .before .before .before .before .before .args .kind) (c .before .next2 .given .0 .0)
 made c =
     let l = c .before .before .before .before .loop in
     let a = c .before .before .before .before .before .before .before .before .before .args in
-    walk.walk-at (madeTo (a .bitboards .now) (a .kind)) 64 (l .n, l .bytes) (l .rest) (c .before .next2 .given .0 .0) (c .before .next2 .given .0 .1 .0) (l .inv) (came c .0)
+    walk.walk-at (madeTo (a .bitboards .now) (a .kind)) 64 (l .n, l .bytes) (l .rest) (c .before .next2 .given .0 .0)
+    (c .before .next2 .given .0 .1 .0) (l .inv) (came c .0)
 
 stands-requires : tie.Need-stands-requires Inv-loop μ-loop
 stands-requires c κs = came c .1
@@ -90,9 +94,12 @@ put-both-requires c κs =
     let q = k .before .next2 .given .0 .0 in
     let w = t .before .before .standing in
     let v = t .turned .ensures ∙ ap turnedOver (t .before .standing2 .ensures) in (
-      white-room b (s .args .kind) q (w .result) (t .turned .result) (s .pre .0) (came k .1) (w .ensures) v (s .pre .1) (l .loop .n) (l .loop .bytes) (made k) (d .stands .result) (d .stands .ensures),
-      black-room b (s .args .kind) q (w .result) (t .turned .result) (s .pre .0) (came k .1) (w .ensures) v (s .pre .1) (l .loop .n) (l .loop .bytes) (made k) (d .stands .result) (d .stands .ensures) _ _ refl refl (e .stands2 .result) (e .stands2 .ensures),
-      padded-list (l .loop .n) (l .loop .bytes) (onesBefore b (128 * (s .args .kind) + 2 * q)) (ap (λ (x : Made). x .0) (made k)) (ap (λ (x : Made). x .1) (made k)),
+      white-room b (s .args .kind) q (w .result) (t .turned .result) (s .pre .0) (came k .1) (w .ensures) v (s .pre .1) (l .loop .n) (l .loop .bytes)
+          (made k) (d .stands .result) (d .stands .ensures),
+      black-room b (s .args .kind) q (w .result) (t .turned .result) (s .pre .0) (came k .1) (w .ensures) v (s .pre .1) (l .loop .n) (l .loop .bytes)
+          (made k) (d .stands .result) (d .stands .ensures) _ _ refl refl (e .stands2 .result) (e .stands2 .ensures),
+      padded-list (l .loop .n) (l .loop .bytes) (onesBefore b (128 * (s .args .kind) + 2 * q)) (ap (λ (x : Made). x .0) (made k))
+          (ap (λ (x : Made). x .1) (made k)),
     )
 
 loop-less : tie.Need-loop-less Inv-loop μ-loop
@@ -110,8 +117,10 @@ loop-again c =
     let q = k .before .next2 .given .0 .0 in
     let w = t .before .before .standing in
     let v = t .turned .ensures ∙ ap turnedOver (t .before .standing2 .ensures) in
-    walk.walk-on (madeTo b (s .args .kind)) 64 (l .loop .n, l .loop .bytes) (l .loop .rest) q (k .before .next2 .given .0 .1 .0) (l .loop .inv) (came k .0) _ (omega arith)
-    (square-on b (s .args .kind) q (w .result) (t .turned .result) (s .pre .0) (came k .1) (w .ensures) v (s .pre .1) (l .loop .n) (l .loop .bytes) (made k) (d .stands .result) (d .stands .ensures)
+    walk.walk-on (madeTo b (s .args .kind)) 64 (l .loop .n, l .loop .bytes) (l .loop .rest) q (k .before .next2 .given .0 .1 .0) (l .loop .inv)
+    (came k .0) _ (omega arith)
+    (square-on b (s .args .kind) q (w .result) (t .turned .result) (s .pre .0) (came k .1) (w .ensures) v (s .pre .1) (l .loop .n) (l .loop .bytes)
+    (made k) (d .stands .result) (d .stands .ensures)
     _ _ refl refl (e .stands2 .result) (e .stands2 .ensures) (c .put-both .result) _ (c .put-both .ensures .0) (c .put-both .ensures .1))
 
 pub kind-listed-spec : {M : Type 1} → statement M

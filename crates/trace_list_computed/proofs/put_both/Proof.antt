@@ -38,7 +38,8 @@ returns c =
     let p = c .before .before in
     let t = p .before .before .before in
     let a = t .before .args in
-    both-put (a .kind) (a .square) (a .n) (a .bytes .now) (a .white) (a .black) (p .before .first .result) (c .put-second .result) _ _ (t .if1 .taken) (p .before .first .ensures) (p .put .ensures)
+    both-put (a .kind) (a .square) (a .n) (a .bytes .now) (a .white) (a .black) (p .before .first .result) (c .put-second .result) _ _ (t .if1 .taken)
+    (p .before .first .ensures) (p .put .ensures)
     (c .put-second .ensures .0) (c .put-second .ensures .1)
 
 returns-2 : tie.Need-returns-2

@@ -43,7 +43,8 @@ returns-2 c =
     let s = k .before .before .before in
     let a = s .args in (
       ap (λ (d : ℕ). a .n + d) (c .one-if .ensures),
-      second-put (a .n) (a .bytes .now) (s .pre .2) (a .there) (a .kind) (a .square) (k .chosen .result) (q .chosen2 .result) (b .chosen3 .result) _ (k .chosen .ensures) (q .chosen2 .ensures)
+      second-put (a .n) (a .bytes .now) (s .pre .2) (a .there) (a .kind) (a .square) (k .chosen .result) (q .chosen2 .result) (b .chosen3 .result) _
+          (k .chosen .ensures) (q .chosen2 .ensures)
           (b .chosen3 .ensures) (p .put .ensures),
     )
 

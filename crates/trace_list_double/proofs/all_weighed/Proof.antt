@@ -77,8 +77,11 @@ loop-again c =
     let n = c .before .before .before .before in
     let l = n .before .loop in
     let s = n .before .before .before .args in
-    let f = weighed (s .squares .now) (s .x) in
-    (omega arith, fold-more (s .bytes .now) f (s .start) (l .i) (l .inv .1) (c .weighed .ensures ∙ ap (f (l .score)) (place-is (s .bytes .now) (l .i) (3 * l .i) refl refl)))
+    let f = weighed (s .squares .now) (s .x) in (
+      omega arith,
+      fold-more (s .bytes .now) f (s .start) (l .i) (l .inv .1)
+          (c .weighed .ensures ∙ ap (f (l .score)) (place-is (s .bytes .now) (l .i) (3 * l .i) refl refl)),
+    )
 
 returns : tie.Need-returns Inv-loop μ-loop
 returns c =

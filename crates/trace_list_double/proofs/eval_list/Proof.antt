@@ -34,8 +34,11 @@ all-weighed-requires : tie.Need-all-weighed-requires
 all-weighed-requires c κs =
     let l = c .before .before .before .before .before in
     let k = l .before .before .before in
-    let s = k .before .before in
-    (k .if1 .left, subst (λ (n : ℕ). T (isList n (s .args .bytes .now))) (sym (c .index .ensures)) (true-T (sym (l .is-list .ensures) ∙ c .before .before .before .before .if3 .taken)))
+    let s = k .before .before in (
+      k .if1 .left,
+      subst (λ (n : ℕ). T (isList n (s .args .bytes .now))) (sym (c .index .ensures))
+          (true-T (sym (l .is-list .ensures) ∙ c .before .before .before .before .if3 .taken)),
+    )
 
 returns-2 : tie.Need-returns-2
 returns-2 c =
@@ -49,7 +52,8 @@ returns-2 c =
     let k = r .before in
     let s = k .before .before in
     let t = s .args .trace in
-    worked (s .args .trace) (s .args .used) (s .args .bytes .now) (s .args .weights) (s .args .squares .now) (k .if1 .left) (r .in-ranges .ensures) (g .if2 .taken) (l .is-list .ensures) (y .if3 .taken) (i .index .ensures)
+    worked (s .args .trace) (s .args .used) (s .args .bytes .now) (s .args .weights) (s .args .squares .now) (k .if1 .left) (r .in-ranges .ensures)
+    (g .if2 .taken) (l .is-list .ensures) (y .if3 .taken) (i .index .ensures)
     (read (t .«piece_count») (told .struct-told .given .1 .1 .1 .1 .1 .1 .1 .1 .0 .1)) (m .sum .ensures) (c .all-weighed .ensures)
 
 returns-3 : tie.Need-returns-3
@@ -59,14 +63,16 @@ returns-3 c =
     let r = g .before in
     let k = r .before in
     let s = k .before .before in
-    no-list (s .args .trace) (s .args .used) (s .args .bytes .now) (s .args .weights) (s .args .squares .now) (k .if1 .left) (r .in-ranges .ensures) (g .if2 .taken) (l .is-list .ensures) (c .if3 .left)
+    no-list (s .args .trace) (s .args .used) (s .args .bytes .now) (s .args .weights) (s .args .squares .now) (k .if1 .left) (r .in-ranges .ensures)
+    (g .if2 .taken) (l .is-list .ensures) (c .if3 .left)
 
 returns-4 : tie.Need-returns-4
 returns-4 c =
     let r = c .before in
     let k = r .before in
     let s = k .before .before in
-    no-trace (s .args .trace) (s .args .used) (s .args .bytes .now) (s .args .weights) (s .args .squares .now) (k .if1 .left) (r .in-ranges .ensures) (c .if2 .left)
+    no-trace (s .args .trace) (s .args .used) (s .args .bytes .now) (s .args .weights) (s .args .squares .now) (k .if1 .left) (r .in-ranges .ensures)
+    (c .if2 .left)
 
 pub eval-list-spec : {M : Type 1} → statement M
 eval-list-spec =

@@ -42,7 +42,8 @@ returns c =
     let s = i .before .before .before in
     let a = s .args in
     let at = 128 * i .before .index .result + i .index2 .result in
-    by-sign (a .squares .now) (a .x) (a .score) (a .kind) (a .square) (a .color) at (at + 64) (s .pre .2) (s .pre .3) (omega (arith, i .before .index .ensures, i .index2 .ensures)) (omega arith)
+    by-sign (a .squares .now) (a .x) (a .score) (a .kind) (a .square) (a .color) at (at + 64) (s .pre .2) (s .pre .3)
+    (omega (arith, i .before .index .ensures, i .index2 .ensures)) (omega arith)
     (c .sign .result) (c .sign .ensures)
 
 pub weighed-spec : {M : Type 1} → statement M

@@ -30,8 +30,10 @@ mark-requires c κs =
     let e = i .before .before in
     let y = e .before .before in
     let l = y .before in
-    let s = l .before .before .before .before in
-    (subst (λ (n : ℕ). T (isList n (s .args .bytes .now))) (sym (i .index .ensures)) (true-T (sym (l .is-list .ensures) ∙ y .if3 .taken)), e .clear-entries .ensures)
+    let s = l .before .before .before .before in (
+      subst (λ (n : ℕ). T (isList n (s .args .bytes .now))) (sym (i .index .ensures)) (true-T (sym (l .is-list .ensures) ∙ y .if3 .taken)),
+      e .clear-entries .ensures,
+    )
 
 same-length : tie.Need-same-length
 same-length c = search needs
@@ -46,7 +48,8 @@ returns-2 c =
     let r = g .before in
     let k = r .before in
     let s = k .before in
-    flattened (s .args .trace) (s .args .used) (s .args .bytes .now) (s .args .entries .now) (k .if1 .left) (r .in-ranges .ensures) (g .if2 .taken) (l .is-list .ensures) (y .if3 .taken) (i .index .ensures) (m .mark .ensures)
+    flattened (s .args .trace) (s .args .used) (s .args .bytes .now) (s .args .entries .now) (k .if1 .left) (r .in-ranges .ensures) (g .if2 .taken)
+    (l .is-list .ensures) (y .if3 .taken) (i .index .ensures) (m .mark .ensures)
 
 returns-3 : tie.Need-returns-3
 returns-3 c =
@@ -55,7 +58,8 @@ returns-3 c =
     let r = g .before in
     let k = r .before in
     let s = k .before in
-    flat-no-list (s .args .trace) (s .args .used) (s .args .bytes .now) (s .args .entries .now) (k .if1 .left) (r .in-ranges .ensures) (g .if2 .taken) (l .is-list .ensures) (c .if3 .left)
+    flat-no-list (s .args .trace) (s .args .used) (s .args .bytes .now) (s .args .entries .now) (k .if1 .left) (r .in-ranges .ensures) (g .if2 .taken)
+    (l .is-list .ensures) (c .if3 .left)
 
 returns-4 : tie.Need-returns-4
 returns-4 c =

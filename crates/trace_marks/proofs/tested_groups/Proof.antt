@@ -15,7 +15,8 @@ use Rattle.trace_marks.proofs.tested_groups.Statement.{statement}
 use Rattle.trace_marks.proofs.tested_groups.Tie as tie
 
 abbrev Inv-loop : tie.InvT-loop
-Inv-loop entries union₀ groups₀ g₀ union groups g = (g ≤ 48) × (union ≡ together (groupOf entries) g) × (groups ≡ groupsOf entries g) × Held entries 0 (16 * g) × (union < 2 ^ 32)
+Inv-loop entries union₀ groups₀ g₀ union groups g = (g ≤ 48) × (union ≡ together (groupOf entries) g) × (groups ≡ groupsOf entries g)
+    × Held entries 0 (16 * g) × (union < 2 ^ 32)
 
 abbrev μ-loop : tie.MeasureT-loop
 μ-loop entries union₀ groups₀ g₀ union groups g = 48 - g
@@ -47,7 +48,8 @@ loop-again c =
     let lt : ofZ w32 (u .result) < 2 ^ 32 = subst (λ (n : ℕ). n < 2 ^ 32) (sym (u .ensures .0)) (group-lt e (l .g) h) in (
       omega arith,
       together-next (groupOf e) (l .g) (l .inv .1) (u .ensures .0),
-      row-next (λ g. markOf (groupOf e g)) (l .g) (l .inv .2) (c .mark .ensures ∙ ap markOf (ofZ-toZ w32 (ofZ w32 (u .result)) (record { fits = lt }) ∙ u .ensures .0)),
+      row-next (λ g. markOf (groupOf e g)) (l .g) (l .inv .2) (c .mark .ensures
+          ∙ ap markOf (ofZ-toZ w32 (ofZ w32 (u .result)) (record { fits = lt }) ∙ u .ensures .0)),
       held-more e (l .g) (l .inv .3) h,
       or-lt 32 (l .union) (ofZ w32 (u .result)) (l .inv .4) lt,
     )
@@ -62,7 +64,8 @@ returns c =
     let e = a .args .entries .now in
     let ended : l .g ≡ 48 = omega arith in
     let all : l .union ≡ together (groupOf e) 48 = l .inv .1 ∙ ap (together (groupOf e)) ended in (
-      c .is-entry .ensures ∙ ap (λ (n : ℕ). ltb n 2) (ofZ-toZ w32 (l .union) (record { fits = l .inv .4 }) ∙ all) ∙ tested e (a .pre) (subst (λ (g : ℕ). Held e 0 (16 * g)) ended (l .inv .3)),
+      c .is-entry .ensures ∙ ap (λ (n : ℕ). ltb n 2) (ofZ-toZ w32 (l .union) (record { fits = l .inv .4 }) ∙ all)
+          ∙ tested e (a .pre) (subst (λ (g : ℕ). Held e 0 (16 * g)) ended (l .inv .3)),
       l .inv .2 ∙ ap (groupsOf e) ended,
     )
 

@@ -28,7 +28,14 @@ returns c =
     let b = r .before in
     let n = b .before in
     let p = n .before in
-    simp (c .count-added6 .ensures, q .count-added5 .ensures, r .count-added4 .ensures, b .count-added3 .ensures, n .count-added2 .ensures, p .count-added .ensures)
+    simp (
+      c .count-added6 .ensures,
+      q .count-added5 .ensures,
+      r .count-added4 .ensures,
+      b .count-added3 .ensures,
+      n .count-added2 .ensures,
+      p .count-added .ensures,
+    )
 
 pub material-spec : {M : Type 1} → statement M
 material-spec =

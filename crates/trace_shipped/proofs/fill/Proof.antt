@@ -41,7 +41,8 @@ loop-again c =
     let l = c .before .before .loop in (
       omega arith,
       length-set (l .squares) (l .place) (c .square-weight .result) ∙ l .inv .1,
-      set-more nan (λ j. dbl (squareWeight j)) (l .squares) (l .place) (c .square-weight .result) (omega (arith, l .inv .1)) (c .square-weight .ensures) (l .inv .2),
+      set-more nan (λ j. dbl (squareWeight j)) (l .squares) (l .place) (c .square-weight .result) (omega (arith, l .inv .1))
+          (c .square-weight .ensures) (l .inv .2),
     )
 
 same-length : tie.Need-same-length Inv-loop μ-loop

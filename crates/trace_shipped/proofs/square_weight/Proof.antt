@@ -28,7 +28,8 @@ returns : tie.Need-returns
 returns c =
     let s = c .before .before .before in
     ap (ofInt binary64)
-    (weighs (s .args .pst .now) (s .args .place) (c .before .before .white .result) (c .before .weight .result) (s .pre .1) (s .pre .0) (c .before .before .white .ensures) (c .before .weight .ensures))
+    (weighs (s .args .pst .now) (s .args .place) (c .before .before .white .result) (c .before .weight .result) (s .pre .1) (s .pre .0)
+    (c .before .before .white .ensures) (c .before .weight .ensures))
 
 pub square-weight-spec : {M : Type 1} → statement M
 square-weight-spec =

@@ -15,7 +15,8 @@ returns : tie.Need-returns
 returns c =
     let a = c .before .before .args in
     let n : ℕ = a .state .refused in
-    sym (ap (λ (t : Bool). eqb (n + cond t 1 0) 0 || a .allowed) (lt-ltb 0 (a .state .held) (c .if1 .taken)) ∙ ap (λ (t : Bool). t || a .allowed) (ne-eqb (n + 1) 0 (λ e. omega arith)))
+    sym (ap (λ (t : Bool). eqb (n + cond t 1 0) 0 || a .allowed) (lt-ltb 0 (a .state .held) (c .if1 .taken))
+    ∙ ap (λ (t : Bool). t || a .allowed) (ne-eqb (n + 1) 0 (λ e. omega arith)))
 
 settled-requires : tie.Need-settled-requires
 settled-requires c κs = search needs
@@ -25,7 +26,8 @@ returns-2 c =
     let a = c .before .before .before .args in
     let n : ℕ = a .state .refused in
     c .settled .ensures
-    ∙ sym (ap (λ (t : Bool). outputStands (n + cond t 1 0) (a .allowed)) (le-ltb 0 (a .state .held) (c .before .if1 .left)) ∙ ap (λ (k : ℕ). outputStands k (a .allowed)) (add-zero n))
+    ∙ sym (ap (λ (t : Bool). outputStands (n + cond t 1 0) (a .allowed)) (le-ltb 0 (a .state .held) (c .before .if1 .left))
+    ∙ ap (λ (k : ℕ). outputStands k (a .allowed)) (add-zero n))
 
 pub settled-spec : {M : Type 1} → statement M
 settled-spec = tie.close (tie.spec returns settled-requires returns-2)

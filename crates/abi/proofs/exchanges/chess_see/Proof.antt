@@ -37,7 +37,8 @@ returns c =
     let a = n .before .before .before .args in
     let g = c .before .before .named .given in
     door-passed
-    (not-named (a .mode) (n .mode-of .result) (n .mode-of .ensures) (λ mode. seeOf mode (a .order .now) (a .bitboards .now) (a .board .now) (stateTaken (a .state)) (a .from) (a .to)) (g .0 .0) (g .1))
+    (not-named (a .mode) (n .mode-of .result) (n .mode-of .ensures) (λ mode. seeOf mode (a .order .now) (a .bitboards .now) (a .board .now)
+    (stateTaken (a .state)) (a .from) (a .to)) (g .0 .0) (g .1))
     (c .refused .ensures) refl
 
 returns-2 : tie.Need-returns-2
@@ -47,7 +48,8 @@ returns-2 c =
     let a = n .before .before .before .args in
     let g = d .named2 .given in
     same-door
-    (in-mode (a .mode) (n .mode-of .result) (n .mode-of .ensures) (λ mode. seeOf mode (a .order .now) (a .bitboards .now) (a .board .now) (stateTaken (a .state)) (a .from) (a .to)) (g .0 .0) (g .1))
+    (in-mode (a .mode) (n .mode-of .result) (n .mode-of .ensures) (λ mode. seeOf mode (a .order .now) (a .bitboards .now) (a .board .now)
+    (stateTaken (a .state)) (a .from) (a .to)) (g .0 .0) (g .1))
     (c .see .ensures)
 
 pub chess-see-spec : {M : Type 1} → statement M

@@ -31,7 +31,8 @@ returns c =
 returns-2 : tie.Need-returns-2
 returns-2 c =
     let k = c .before .before .before in
-    rw (← (k .before .taken .ensures)) (door-passed (met exchanged (k .see .ensures) (c .before .answer2 .given .1)) refl (toZ-ofZ {w = w16} (sfits-of (c .known-told2 .given .0 .1))))
+    rw (← (k .before .taken .ensures)) (door-passed (met exchanged (k .see .ensures) (c .before .answer2 .given .1)) refl
+    (toZ-ofZ {w = w16} (sfits-of (c .known-told2 .given .0 .1))))
 
 pub see-spec : {M : Type 1} → statement M
 see-spec =

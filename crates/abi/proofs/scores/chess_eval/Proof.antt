@@ -55,7 +55,8 @@ returns-4 c =
 returns-5 : tie.Need-returns-5
 returns-5 c =
     let k = c .before .before .before in
-    rw (← (k .before .taken .ensures)) (doors-passed (met scored (k .eval .ensures) (c .before .answer2 .given .1)) refl refl (toZ-ofZ {w = w16} (sfits-of (c .known-told2 .given .0 .1))))
+    rw (← (k .before .taken .ensures)) (doors-passed (met scored (k .eval .ensures) (c .before .answer2 .given .1)) refl refl
+    (toZ-ofZ {w = w16} (sfits-of (c .known-told2 .given .0 .1))))
 
 pub chess-eval-spec : {M : Type 1} → statement M
 chess-eval-spec =

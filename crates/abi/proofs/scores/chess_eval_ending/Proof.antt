@@ -42,22 +42,26 @@ returns c =
 returns-2 : tie.Need-returns-2
 returns-2 c =
     let a = c .before .before .before in
-    rw (← (a .before .before .before .taken .ensures)) (door-passed (met ending (a .before .before .eval-ending .ensures) (a .answer2 .given .1 ∙ ap E.Is (c .enum-told .given .1))) refl refl)
+    rw (← (a .before .before .before .taken .ensures)) (door-passed (met ending (a .before .before .eval-ending .ensures)
+    (a .answer2 .given .1 ∙ ap E.Is (c .enum-told .given .1))) refl refl)
 
 returns-3 : tie.Need-returns-3
 returns-3 c =
     let a = c .before .before .before in
-    rw (← (a .before .before .before .taken .ensures)) (door-passed (met ending (a .before .before .eval-ending .ensures) (a .answer2 .given .1 ∙ ap E.Is (c .enum-told2 .given .1))) refl refl)
+    rw (← (a .before .before .before .taken .ensures)) (door-passed (met ending (a .before .before .eval-ending .ensures)
+    (a .answer2 .given .1 ∙ ap E.Is (c .enum-told2 .given .1))) refl refl)
 
 returns-4 : tie.Need-returns-4
 returns-4 c =
     let a = c .before .before .before in
-    rw (← (a .before .before .before .taken .ensures)) (door-passed (met ending (a .before .before .eval-ending .ensures) (a .answer2 .given .1 ∙ ap E.Is (c .enum-told3 .given .1))) refl refl)
+    rw (← (a .before .before .before .taken .ensures)) (door-passed (met ending (a .before .before .eval-ending .ensures)
+    (a .answer2 .given .1 ∙ ap E.Is (c .enum-told3 .given .1))) refl refl)
 
 returns-5 : tie.Need-returns-5
 returns-5 c =
     let a = c .before .before .before in
-    rw (← (a .before .before .before .taken .ensures)) (door-passed (met ending (a .before .before .eval-ending .ensures) (a .answer2 .given .1 ∙ ap E.Is (c .enum-told4 .given .1))) refl refl)
+    rw (← (a .before .before .before .taken .ensures)) (door-passed (met ending (a .before .before .eval-ending .ensures)
+    (a .answer2 .given .1 ∙ ap E.Is (c .enum-told4 .given .1))) refl refl)
 
 pub chess-eval-ending-spec : {M : Type 1} → statement M
 chess-eval-ending-spec =

@@ -26,12 +26,14 @@ enum-known-answer-2 c = search needs
 returns : tie.Need-returns
 returns c =
     let k = c .before .before .before .before in
-    rw (← (k .before .taken .ensures)) (door-passed (met materialPaper (k .eval-material .ensures) (c .before .before .answer .given .1)) (c .refused .ensures) refl)
+    rw (← (k .before .taken .ensures)) (door-passed (met materialPaper (k .eval-material .ensures) (c .before .before .answer .given .1))
+    (c .refused .ensures) refl)
 
 returns-2 : tie.Need-returns-2
 returns-2 c =
     let k = c .before .before .before in
-    rw (← (k .before .taken .ensures)) (door-passed (met materialPaper (k .eval-material .ensures) (c .before .answer2 .given .1)) refl (toZ-ofZ {w = w16} (sfits-of (c .known-told2 .given .0 .1))))
+    rw (← (k .before .taken .ensures)) (door-passed (met materialPaper (k .eval-material .ensures) (c .before .answer2 .given .1)) refl
+    (toZ-ofZ {w = w16} (sfits-of (c .known-told2 .given .0 .1))))
 
 pub chess-eval-material-spec : {M : Type 1} → statement M
 chess-eval-material-spec =

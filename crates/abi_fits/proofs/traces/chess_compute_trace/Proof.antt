@@ -30,7 +30,8 @@ returns c =
     let r = k .compute-trace .result in
     let s = k .before .before .before .before .before in
     traced (now (s .args .bitboards)) (now (s .args .board)) (s .args .state) (k .before .before .taken .ensures)
-    (sym (ap (λ (x : Checked). paperOf x (r .trace)) (c .before .before .checked .given .1)) ∙ k .compute-trace .ensures .0) (c .refused .ensures) refl refl refl refl
+    (sym (ap (λ (x : Checked). paperOf x (r .trace)) (c .before .before .checked .given .1)) ∙ k .compute-trace .ensures .0) (c .refused .ensures) refl
+    refl refl refl
     (k .compute-trace .ensures .2)
 
 enum-told : tie.Need-enum-told

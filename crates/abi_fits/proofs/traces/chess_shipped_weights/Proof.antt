@@ -41,7 +41,8 @@ returns-2 : tie.Need-returns-2
 returns-2 c =
     let t = c .before .before in
     let k = t .before .before .before .before in
-    ships (met written (k .square-weights .ensures .0) (t .enum-told .given .1)) refl (c .named-of .ensures ∙ ap namedOf (c .before .weights .ensures)) (k .square-weights .ensures .1)
+    ships (met written (k .square-weights .ensures .0) (t .enum-told .given .1)) refl (c .named-of .ensures ∙ ap namedOf (c .before .weights .ensures))
+    (k .square-weights .ensures .1)
 
 pub chess-shipped-weights-spec : {M : Type 1} → statement M
 chess-shipped-weights-spec =

@@ -23,12 +23,15 @@ lent e q t u w v p f g = p ∙ ap (λ (x : Trace). doubleOf x e w q) f ∙ ap (�
 
 handed : (k : tie.After-eval)
     → paper (k .eval .result)
-    ≡ doubleOf (traceOfNumbers (now (k .before .before .before .before .args .counts)) (now (k .before .before .before .before .args .mobility)) (k .before .before .before .before .args .sign) (k .before .before .before .before .args .pieces))
-    (now (k .before .before .before .before .args .entries)) (weightsOf (now (k .before .before .before .before .args .weights))) (now (k .before .before .before .before .args .squares))
+    ≡ doubleOf (traceOfNumbers (now (k .before .before .before .before .args .counts)) (now (k .before .before .before .before .args .mobility))
+    (k .before .before .before .before .args .sign) (k .before .before .before .before .args .pieces))
+    (now (k .before .before .before .before .args .entries)) (weightsOf (now (k .before .before .before .before .args .weights)))
+    (now (k .before .before .before .before .args .squares))
 handed k =
     let s = k .before .before .before .before in
     let a = s .args in
-    lent (now (a .entries)) (now (a .squares)) (k .before .before .trace-of .result) (traceOfNumbers (now (a .counts)) (now (a .mobility)) (a .sign) (a .pieces))
+    lent (now (a .entries)) (now (a .squares)) (k .before .before .trace-of .result)
+    (traceOfNumbers (now (a .counts)) (now (a .mobility)) (a .sign) (a .pieces))
     (k .before .weights-of .result) (weightsOf (now (a .weights))) (k .eval .ensures)
     (k .before .before .trace-of .ensures
     ∙ trace-same refl refl refl refl refl refl refl (toZ-ofZ w32 (a .sign) (s .fits .sign)) (toZ-ofZ w32 (a .pieces) (s .fits .pieces)))

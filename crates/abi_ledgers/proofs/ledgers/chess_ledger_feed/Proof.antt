@@ -40,7 +40,8 @@ returns : tie.Need-returns
 returns c =
     let k = c .before .before .before .before .before .before .before .before in
     let a = k .before .before .before .before .before .before .before .before .args in
-    fed-through (now (a .state)) (now (a .line)) (now (a .chunk)) (now (a .out)) (now (a .wrote)) (k .before .before .before .state-of .ensures) (k .feed .ensures) (c .before .before .fed .given .1)
+    fed-through (now (a .state)) (now (a .line)) (now (a .chunk)) (now (a .out)) (now (a .wrote)) (k .before .before .before .state-of .ensures)
+    (k .feed .ensures) (c .before .before .fed .given .1)
     refl (c .numbers-of .ensures) refl
 
 same-length-3 : tie.Need-same-length-3
@@ -53,7 +54,8 @@ returns-2 : tie.Need-returns-2
 returns-2 c =
     let k = c .before .before .before .before .before .before in
     let a = k .before .before .before .before .before .before .before .before .args in
-    fed-through (now (a .state)) (now (a .line)) (now (a .chunk)) (now (a .out)) (now (a .wrote)) (k .before .before .before .state-of .ensures) (k .feed .ensures) (c .enum-told .given .1)
+    fed-through (now (a .state)) (now (a .line)) (now (a .chunk)) (now (a .out)) (now (a .wrote)) (k .before .before .before .state-of .ensures)
+    (k .feed .ensures) (c .enum-told .given .1)
     refl refl refl
 
 same-length-5 : tie.Need-same-length-5
@@ -66,7 +68,8 @@ returns-3 : tie.Need-returns-3
 returns-3 c =
     let k = c .before .before .before .before .before .before in
     let a = k .before .before .before .before .before .before .before .before .args in
-    fed-through (now (a .state)) (now (a .line)) (now (a .chunk)) (now (a .out)) (now (a .wrote)) (k .before .before .before .state-of .ensures) (k .feed .ensures) (c .enum-told2 .given .1)
+    fed-through (now (a .state)) (now (a .line)) (now (a .chunk)) (now (a .out)) (now (a .wrote)) (k .before .before .before .state-of .ensures)
+    (k .feed .ensures) (c .enum-told2 .given .1)
     refl refl refl
 
 same-length-7 : tie.Need-same-length-7
@@ -79,7 +82,8 @@ returns-4 : tie.Need-returns-4
 returns-4 c =
     let k = c .before .before .before .before .before .before .before .before in
     let a = k .before .before .before .before .before .before .before .before .args in
-    fed-through (now (a .state)) (now (a .line)) (now (a .chunk)) (now (a .out)) (now (a .wrote)) (k .before .before .before .state-of .ensures) (k .feed .ensures) (c .before .before .fed2 .given .1)
+    fed-through (now (a .state)) (now (a .line)) (now (a .chunk)) (now (a .out)) (now (a .wrote)) (k .before .before .before .state-of .ensures)
+    (k .feed .ensures) (c .before .before .fed2 .given .1)
     (c .refused .ensures) refl refl
 
 pub chess-ledger-feed-spec : {M : Type 1} → statement M

@@ -34,7 +34,8 @@ returns : tie.Need-returns
 returns c =
     let k = c .before .before .before .before .before in
     let a = k .before .before .before .before .before .args in
-    finished-through (now (a .state)) (now (a .line)) (now (a .out)) (now (a .wrote)) (k .before .before .state-of .ensures) (k .finish .ensures) (c .before .finished .given .1) refl refl
+    finished-through (now (a .state)) (now (a .line)) (now (a .out)) (now (a .wrote)) (k .before .before .state-of .ensures) (k .finish .ensures)
+    (c .before .finished .given .1) refl refl
 
 same-length-2 : tie.Need-same-length-2
 same-length-2 c = search needs
@@ -43,7 +44,8 @@ returns-2 : tie.Need-returns-2
 returns-2 c =
     let k = c .before .before .before .before in
     let a = k .before .before .before .before .before .args in
-    finished-through (now (a .state)) (now (a .line)) (now (a .out)) (now (a .wrote)) (k .before .before .state-of .ensures) (k .finish .ensures) (c .enum-told .given .1) refl refl
+    finished-through (now (a .state)) (now (a .line)) (now (a .out)) (now (a .wrote)) (k .before .before .state-of .ensures) (k .finish .ensures)
+    (c .enum-told .given .1) refl refl
 
 same-length-3 : tie.Need-same-length-3
 same-length-3 c = search needs
@@ -52,7 +54,8 @@ returns-3 : tie.Need-returns-3
 returns-3 c =
     let k = c .before .before .before .before in
     let a = k .before .before .before .before .before .args in
-    finished-through (now (a .state)) (now (a .line)) (now (a .out)) (now (a .wrote)) (k .before .before .state-of .ensures) (k .finish .ensures) (c .enum-told2 .given .1) refl refl
+    finished-through (now (a .state)) (now (a .line)) (now (a .out)) (now (a .wrote)) (k .before .before .state-of .ensures) (k .finish .ensures)
+    (c .enum-told2 .given .1) refl refl
 
 same-length-4 : tie.Need-same-length-4
 same-length-4 c = search needs
@@ -61,7 +64,8 @@ returns-4 : tie.Need-returns-4
 returns-4 c =
     let k = c .before .before .before .before .before .before in
     let a = k .before .before .before .before .before .args in
-    finished-through (now (a .state)) (now (a .line)) (now (a .out)) (now (a .wrote)) (k .before .before .state-of .ensures) (k .finish .ensures) (c .before .before .finished2 .given .1) (c .refused .ensures) refl
+    finished-through (now (a .state)) (now (a .line)) (now (a .out)) (now (a .wrote)) (k .before .before .state-of .ensures) (k .finish .ensures)
+    (c .before .before .finished2 .given .1) (c .refused .ensures) refl
 
 pub chess-ledger-finish-spec : {M : Type 1} → statement M
 chess-ledger-finish-spec =

@@ -39,7 +39,8 @@ returns-4 c =
     let m = c .before .before in
     let a = m .before .args in
     let r = m .match .rest in
-    other-kind (a .kind) (a .color) (a .square) (a .occupied) (c .reached .result) (c .before .row .result) (r .0 .0 .1) (r .0 .1) (r .1) (c .before .row .ensures) (c .reached .ensures)
+    other-kind (a .kind) (a .color) (a .square) (a .occupied) (c .reached .result) (c .before .row .result) (r .0 .0 .1) (r .0 .1) (r .1)
+    (c .before .row .ensures) (c .reached .ensures)
 
 pub attacks-from-spec : {M : Type 1} → statement M
 attacks-from-spec =

@@ -23,7 +23,8 @@ returns : tie.Need-returns
 returns c =
     let a = c .before .before .before .before .before .before .args in
     attacked (a .bitboards .now) (a .square) (a .color) _ _ _ _ _ (c .before .before .before .attacks-to .ok) (c .at .ok)
-    (c .before .before .before .before .occupied .ensures) (c .before .before .before .attacks-to .ensures) (c .before .before .other .ensures) (c .before .index .ensures) (c .at .ensures)
+    (c .before .before .before .before .occupied .ensures) (c .before .before .before .attacks-to .ensures) (c .before .before .other .ensures)
+    (c .before .index .ensures) (c .at .ensures)
 
 pub is-attacked-spec : {M : Type 1} → statement M
 is-attacked-spec =

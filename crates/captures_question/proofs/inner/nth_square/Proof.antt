@@ -21,7 +21,8 @@ square-requires : tie.Need-square-requires
 square-requires c κs = search needs
 
 returns-2 : tie.Need-returns-2
-returns-2 c = let a = c .before .before .before .before .before .args in four (now (a .s)) (a .at) (c .before .before .before .if1 .left) (c .square .result) (c .square .ensures)
+returns-2 c = let a = c .before .before .before .before .before .args in
+    four (now (a .s)) (a .at) (c .before .before .before .if1 .left) (c .square .result) (c .square .ensures)
 
 pub nth-square-spec : {M : Type 1} → statement M
 nth-square-spec =

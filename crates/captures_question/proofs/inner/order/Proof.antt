@@ -52,7 +52,8 @@ returns-2 c =
     let k2 = k3 .before .before in
     let k1 = k2 .before .before in
     let i = k1 .before .before in
-    six (now (i .before .before .args .s)) (i .if1 .left) (k1 .kind .result) (k2 .kind2 .result) (k3 .kind3 .result) (k4 .kind4 .result) (k5 .kind5 .result) (c .kind6 .result)
+    six (now (i .before .before .args .s)) (i .if1 .left) (k1 .kind .result) (k2 .kind2 .result) (k3 .kind3 .result) (k4 .kind4 .result)
+    (k5 .kind5 .result) (c .kind6 .result)
     (k1 .kind .ensures) (k2 .kind2 .ensures) (k3 .kind3 .ensures) (k4 .kind4 .ensures) (k5 .kind5 .ensures) (c .kind6 .ensures)
 
 pub order-spec : {M : Type 1} → statement M

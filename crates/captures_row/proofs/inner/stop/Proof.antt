@@ -48,7 +48,9 @@ returns c =
     let w = c .before .before .before .before .before .before .write-stop in
     let a = c .before .before .before .before .before .before .before .before .before .args in
     let h = fits-stop (a .line) (stopped (a .stop)) (held w32 (a .worth)) in
-    subst (λ (t : List ℕ). Puts (now (a .out)) (p .last .0) (a .at) t (p .result)) (adds-front (w .ensures) (omega arith) ∙ ap (stopRow (a .line) (stopped (a .stop))) (held-is {w = w32} (c .before .before .before .before .before .before .before .before .before .fits .worth) refl)) (p .ensures)
+    subst (λ (t : List ℕ). Puts (now (a .out)) (p .last .0) (a .at) t (p .result))
+    (adds-front (w .ensures) (omega arith) ∙ ap (stopRow (a .line) (stopped (a .stop)))
+    (held-is {w = w32} (c .before .before .before .before .before .before .before .before .before .fits .worth) refl)) (p .ensures)
 
 pub stop-spec : {M : Type 1} → statement M
 stop-spec =

@@ -29,7 +29,9 @@ followed-requires-2 c κs =
     let a = c .before .before .before .before .before .before .before .before .before .before .before .before .before .before .before .before .args in
     left (c .before .before .before .before .kind-word .ensures) 7 21 28 (length-kind (a .kind)) (omega arith)
     (left (c .before .before .before .before .before .before .before .before .square .ensures) 3 28 31 (omega arith) (omega arith)
-    (left (c .before .before .before .before .before .before .before .before .before .before .before .before .followed .ensures) 21 31 52 (length-spaced (a .line)) (omega arith) (omega (arith, c .before .before .before .before .before .before .before .before .before .before .before .before .before .before .before .before .pre))))
+    (left (c .before .before .before .before .before .before .before .before .before .before .before .before .followed .ensures) 21 31 52
+    (length-spaced (a .line)) (omega arith)
+    (omega (arith, c .before .before .before .before .before .before .before .before .before .before .before .before .before .before .before .before .pre))))
 
 same-length : tie.Need-same-length
 same-length c = search needs
@@ -37,9 +39,19 @@ same-length c = search needs
 returns : tie.Need-returns
 unfolding captureRow
 returns c =
-    let a = c .before .before .before .before .before .before .before .before .before .before .before .before .before .before .before .before .before .before .before .args in
-    adds-4 (c .before .before .before .before .before .before .before .before .before .before .before .before .before .before .before .followed .ensures) (c .before .before .before .before .before .before .before .before .before .before .before .square .ensures) (c .before .before .before .before .before .before .before .kind-word .ensures) (c .before .before .followed2 .ensures)
-    (omega (arith, length-spaced (a .line), length-kind (a .kind), length-after (a .taken) (text "\n"), c .before .before .before .before .before .before .before .before .before .before .before .before .before .before .before .before .before .before .before .pre))
+    let a = c .before .before .before .before .before .before .before .before .before .before .before .before .before .before .before .before .before
+    .before .before .args in
+    adds-4 (c .before .before .before .before .before .before .before .before .before .before .before .before .before .before .before .followed
+    .ensures) (c .before .before .before .before .before .before .before .before .before .before .before .square .ensures)
+    (c .before .before .before .before .before .before .before .kind-word .ensures) (c .before .before .followed2 .ensures)
+    (omega (
+      arith,
+      length-spaced (a .line),
+      length-kind (a .kind),
+      length-after (a .taken) (text "\n"),
+      c .before .before .before .before .before .before .before .before .before .before .before .before .before .before .before .before .before .before
+          .before .pre,
+    ))
 
 pub write-capture-spec : {M : Type 1} → statement M
 write-capture-spec =

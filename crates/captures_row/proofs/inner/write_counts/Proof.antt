@@ -21,7 +21,8 @@ slice-aggregate-named-2 c = search needs
 named-requires-2 : tie.Need-named-requires-2
 named-requires-2 c κs =
     let a = c .before .before .before .before .before .before .before .before .args in
-    left (c .before .before .before .before .named .ensures) 26 26 84 (length-named (text "lines ") (a .lines)) (omega arith) (omega (arith, c .before .before .before .before .before .before .before .before .pre))
+    left (c .before .before .before .before .named .ensures) 26 26 84 (length-named (text "lines ") (a .lines)) (omega arith)
+    (omega (arith, c .before .before .before .before .before .before .before .before .pre))
 
 slice-aggregate-named-3 : tie.Need-slice-aggregate-named-3
 slice-aggregate-named-3 c = search needs
@@ -30,7 +31,11 @@ named-requires-3 : tie.Need-named-requires-3
 named-requires-3 c κs =
     let a = c .before .before .before .before .before .before .before .before .before .before .before .before .before .args in
     left (c .before .before .before .before .named2 .ensures) 26 29 55 (length-named (text " told ") (a .told)) (omega arith)
-    (left (c .before .before .before .before .before .before .before .before .before .named .ensures) 26 55 84 (length-named (text "lines ") (a .lines)) (omega arith) (omega (arith, c .before .before .before .before .before .before .before .before .before .before .before .before .before .pre)))
+    (left (c .before .before .before .before .before .before .before .before .before .named .ensures) 26 55 84
+    (length-named (text "lines ") (a .lines)) (omega arith) (omega (
+      arith,
+      c .before .before .before .before .before .before .before .before .before .before .before .before .before .pre,
+    )))
 
 slice-aggregate-put : tie.Need-slice-aggregate-put
 slice-aggregate-put c = search needs
@@ -44,9 +49,19 @@ same-length c = search needs
 returns : tie.Need-returns
 unfolding countsRow
 returns c =
-    let a = c .before .before .before .before .before .before .before .before .before .before .before .before .before .before .before .before .before .before .before .before .before .args in
-    adds-4 (c .before .before .before .before .before .before .before .before .before .before .before .before .before .before .before .before .before .named .ensures) (c .before .before .before .before .before .before .before .before .before .before .before .before .named2 .ensures) (c .before .before .before .before .before .before .before .named3 .ensures) (c .before .before .put .ensures)
-    (omega (arith, length-named (text "lines ") (a .lines), length-named (text " told ") (a .told), length-named (text " refused ") (a .refused), c .before .before .before .before .before .before .before .before .before .before .before .before .before .before .before .before .before .before .before .before .before .pre))
+    let a = c .before .before .before .before .before .before .before .before .before .before .before .before .before .before .before .before .before
+    .before .before .before .before .args in
+    adds-4 (c .before .before .before .before .before .before .before .before .before .before .before .before .before .before .before .before .before
+    .named .ensures) (c .before .before .before .before .before .before .before .before .before .before .before .before .named2 .ensures)
+    (c .before .before .before .before .before .before .before .named3 .ensures) (c .before .before .put .ensures)
+    (omega (
+      arith,
+      length-named (text "lines ") (a .lines),
+      length-named (text " told ") (a .told),
+      length-named (text " refused ") (a .refused),
+      c .before .before .before .before .before .before .before .before .before .before .before .before .before .before .before .before .before .before
+          .before .before .before .pre,
+    ))
 
 pub write-counts-spec : {M : Type 1} → statement M
 write-counts-spec =

@@ -23,13 +23,15 @@ followed-requires c κs = search needs
 stop-word-requires : tie.Need-stop-word-requires
 stop-word-requires c κs =
     let a = c .before .before .before .before .before .before .before .args in
-    left (c .before .before .before .followed .ensures) 21 25 46 (length-spaced (a .line)) (omega arith) (omega (arith, c .before .before .before .before .before .before .before .pre))
+    left (c .before .before .before .followed .ensures) 21 25 46 (length-spaced (a .line)) (omega arith)
+    (omega (arith, c .before .before .before .before .before .before .before .pre))
 
 worth-word-requires : tie.Need-worth-word-requires
 worth-word-requires c κs =
     let a = c .before .before .before .before .before .before .before .before .before .before .before .args in
     left (c .before .before .before .stop-word .ensures) 25 28 53 (length-stop (stopped (a .stop))) (omega arith)
-    (left (c .before .before .before .before .before .before .before .followed .ensures) 21 53 74 (length-spaced (a .line)) (omega arith) (omega (arith, c .before .before .before .before .before .before .before .before .before .before .before .pre)))
+    (left (c .before .before .before .before .before .before .before .followed .ensures) 21 53 74 (length-spaced (a .line)) (omega arith)
+    (omega (arith, c .before .before .before .before .before .before .before .before .before .before .before .pre)))
 
 slice-aggregate-put : tie.Need-slice-aggregate-put
 slice-aggregate-put c = search needs
@@ -43,13 +45,23 @@ same-length c = search needs
 returns : tie.Need-returns
 unfolding stopRow
 returns c =
-    let a = c .before .before .before .before .before .before .before .before .before .before .before .before .before .before .before .before .before .before .before .args in
-    let n = c .before .before .before .before .before .before .before .before .before .before .before .before .before .before .before .before .before .before .before .fits .worth in
+    let a = c .before .before .before .before .before .before .before .before .before .before .before .before .before .before .before .before .before
+    .before .before .args in
+    let n = c .before .before .before .before .before .before .before .before .before .before .before .before .before .before .before .before .before
+    .before .before .fits .worth in
     let k = c .before .before .before .before .before .before .before .worth-word in
     let s = c .before .before .before .before .before .before .before .before .before .before .before .stop-word in
     let worth = subst (λ (z : ℤ). Adds (s .last .0) (s .result) (worthField z) (k .last .0) (k .result)) (held-is {w = w32} n refl) (k .ensures) in
-    adds-4 (c .before .before .before .before .before .before .before .before .before .before .before .before .before .before .before .followed .ensures) (s .ensures) worth (c .before .before .put .ensures)
-    (omega (arith, length-spaced (a .line), length-stop (stopped (a .stop)), length-worth (a .worth), c .before .before .before .before .before .before .before .before .before .before .before .before .before .before .before .before .before .before .before .pre))
+    adds-4 (c .before .before .before .before .before .before .before .before .before .before .before .before .before .before .before .followed
+    .ensures) (s .ensures) worth (c .before .before .put .ensures)
+    (omega (
+      arith,
+      length-spaced (a .line),
+      length-stop (stopped (a .stop)),
+      length-worth (a .worth),
+      c .before .before .before .before .before .before .before .before .before .before .before .before .before .before .before .before .before .before
+          .before .pre,
+    ))
 
 pub write-stop-spec : {M : Type 1} → statement M
 write-stop-spec =

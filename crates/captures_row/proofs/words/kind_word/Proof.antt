@@ -53,7 +53,8 @@ returns : tie.Need-returns
 returns c =
     let a = c .before .before .before .before .before .before .before .args in
     let p = c .before .before .put in
-    subst (λ (k : ℕ). Adds (now (a .out)) (a .at) (kindField k) (p .last .0) (p .result)) (sym (c .before .before .before .before .before .match .keys1)) (p .ensures)
+    subst (λ (k : ℕ). Adds (now (a .out)) (a .at) (kindField k) (p .last .0) (p .result))
+    (sym (c .before .before .before .before .before .match .keys1)) (p .ensures)
 
 same-length-2 : tie.Need-same-length-2
 same-length-2 c = search needs
@@ -62,7 +63,8 @@ returns-2 : tie.Need-returns-2
 returns-2 c =
     let a = c .before .before .before .before .before .before .before .args in
     let p = c .before .before .put2 in
-    subst (λ (k : ℕ). Adds (now (a .out)) (a .at) (kindField k) (p .last .0) (p .result)) (sym (c .before .before .before .before .before .match .keys2)) (p .ensures)
+    subst (λ (k : ℕ). Adds (now (a .out)) (a .at) (kindField k) (p .last .0) (p .result))
+    (sym (c .before .before .before .before .before .match .keys2)) (p .ensures)
 
 same-length-3 : tie.Need-same-length-3
 same-length-3 c = search needs
@@ -71,7 +73,8 @@ returns-3 : tie.Need-returns-3
 returns-3 c =
     let a = c .before .before .before .before .before .before .before .args in
     let p = c .before .before .put3 in
-    subst (λ (k : ℕ). Adds (now (a .out)) (a .at) (kindField k) (p .last .0) (p .result)) (sym (c .before .before .before .before .before .match .keys3)) (p .ensures)
+    subst (λ (k : ℕ). Adds (now (a .out)) (a .at) (kindField k) (p .last .0) (p .result))
+    (sym (c .before .before .before .before .before .match .keys3)) (p .ensures)
 
 same-length-4 : tie.Need-same-length-4
 same-length-4 c = search needs
@@ -80,7 +83,8 @@ returns-4 : tie.Need-returns-4
 returns-4 c =
     let a = c .before .before .before .before .before .before .before .args in
     let p = c .before .before .put4 in
-    subst (λ (k : ℕ). Adds (now (a .out)) (a .at) (kindField k) (p .last .0) (p .result)) (sym (c .before .before .before .before .before .match .keys4)) (p .ensures)
+    subst (λ (k : ℕ). Adds (now (a .out)) (a .at) (kindField k) (p .last .0) (p .result))
+    (sym (c .before .before .before .before .before .match .keys4)) (p .ensures)
 
 same-length-5 : tie.Need-same-length-5
 same-length-5 c = search needs
@@ -89,7 +93,8 @@ returns-5 : tie.Need-returns-5
 returns-5 c =
     let a = c .before .before .before .before .before .before .before .args in
     let p = c .before .before .put5 in
-    subst (λ (k : ℕ). Adds (now (a .out)) (a .at) (kindField k) (p .last .0) (p .result)) (sym (c .before .before .before .before .before .match .keys5)) (p .ensures)
+    subst (λ (k : ℕ). Adds (now (a .out)) (a .at) (kindField k) (p .last .0) (p .result))
+    (sym (c .before .before .before .before .before .match .keys5)) (p .ensures)
 
 same-length-6 : tie.Need-same-length-6
 same-length-6 c = search needs
@@ -99,7 +104,8 @@ returns-6 c =
     let a = c .before .before .before .before .before .before .before .args in
     let p = c .before .before .put6 in
     let r = c .before .before .before .before .before .match .rest in
-    subst (λ (t : List ℕ). Adds (now (a .out)) (a .at) t (p .last .0) (p .result)) (king (a .kind) (r .0 .0 .0 .0 .1) (r .0 .0 .0 .1) (r .0 .0 .1) (r .0 .1) (r .1)) (p .ensures)
+    subst (λ (t : List ℕ). Adds (now (a .out)) (a .at) t (p .last .0) (p .result))
+    (king (a .kind) (r .0 .0 .0 .0 .1) (r .0 .0 .0 .1) (r .0 .0 .1) (r .0 .1) (r .1)) (p .ensures)
 
 pub kind-word-spec : {M : Type 1} → statement M
 kind-word-spec =

@@ -40,7 +40,8 @@ returns : tie.Need-returns
 returns c =
     let a = c .before .before .before .before .before .before .before .before .args in
     let p = c .before .before .put in
-    subst (λ (s : Stopped). Adds (now (a .out)) (a .at) (stopField (stopped s)) (p .last .0) (p .result)) (sym (c .before .before .before .before .before .enum-told .given .1)) (p .ensures)
+    subst (λ (s : Stopped). Adds (now (a .out)) (a .at) (stopField (stopped s)) (p .last .0) (p .result))
+    (sym (c .before .before .before .before .before .enum-told .given .1)) (p .ensures)
 
 same-length-2 : tie.Need-same-length-2
 same-length-2 c = search needs
@@ -51,7 +52,8 @@ returns-2 c =
     let p = c .before .before .named in
     let g = c .before .before .before .before .before .before .before .stop .given in
     subst (λ (t : List ℕ). Adds (now (a .out)) (a .at) t (p .last .0) (p .result))
-    (ap (λ (n : ℕ). text "stop " ++ decimalOf n) (c .before .before .before .count .ensures) ∙ sym (ap (λ (s : Stopped). stopField (stopped s)) (g .1))) (p .ensures)
+    (ap (λ (n : ℕ). text "stop " ++ decimalOf n) (c .before .before .before .count .ensures)
+    ∙ sym (ap (λ (s : Stopped). stopField (stopped s)) (g .1))) (p .ensures)
 
 pub stop-word-spec : {M : Type 1} → statement M
 stop-word-spec =

@@ -1,4 +1,5 @@
--- `exchange::inner::follow` meets its contract. The loop's invariant: the first n captures stand in the arrays, zeros after them, and those to come are the ones
+-- `exchange::inner::follow` meets its contract. The loop's invariant: the first n captures stand in the arrays, zeros after them, and those to come
+-- are the ones
 -- that the definition has from here on. The measure is the room that is left. Assumes nothing.
 use mathlib.Core.Path.{_≡_, refl, sym, ap, subst, _∙_}
 use mathlib.Core.Bool.{Bool}
@@ -40,11 +41,13 @@ all mode bbs kinds from to kind value there colour last =
 -- none is left: all of them are listed
 whole : (mode : Mode) (kinds bbs : List ℕ) (side from to : ℕ) (b : Begun) (who : ℕ) → who ≡ other side
     → (cs : List Capture) → all mode bbs kinds from to (b .kind) (b .taken) (b .there) who (b .last) ≡ cs
-    → (squares by taken : List ℕ) (n : ℕ) → n ≤ length cs → squares ≡ column 32 From (take n cs) → by ≡ column 32 Kind (take n cs) → taken ≡ column 32 Taken (take n cs) → drop n cs ≡ []
+    → (squares by taken : List ℕ) (n : ℕ) → n ≤ length cs → squares ≡ column 32 From (take n cs) → by ≡ column 32 Kind (take n cs)
+    → taken ≡ column 32 Taken (take n cs) → drop n cs ≡ []
     → HoldsCaptures (followed mode kinds bbs side from to b) (record { from = squares; kind = by; taken = taken; count = n })
 whole mode kinds bbs side from to b who ew cs ec squares by taken n h es eb et e =
     let t = all-taken cs n e in
-    let f : followed mode kinds bbs side from to b ≡ cs = ap (λ (w : ℕ). all mode bbs kinds from to (b .kind) (b .taken) (b .there) w (b .last)) (sym ew) ∙ ec in
+    let f : followed mode kinds bbs side from to b ≡ cs = ap (λ (w : ℕ). all mode bbs kinds from to (b .kind) (b .taken) (b .there) w (b .last))
+    (sym ew) ∙ ec in
     subst (λ (l : List Capture). HoldsCaptures l (record { from = squares; kind = by; taken = taken; count = n })) (sym f)
     (all-counted cs n h e, es ∙ ap (column 32 From) t, eb ∙ ap (column 32 Kind) t, et ∙ ap (column 32 Taken) t)
 
@@ -95,12 +98,15 @@ returns c =
     let l = h .loop in
     let a = h .before .before .before .before .args in
     let b = a .begun in
-    let cs : List Capture = all (a .mode) (a .bitboards .now) (a .kinds .now) (a .from) (a .to) (b .kind) (b .taken) (b .there) (h .before .other .result) (b .last) in
+    let cs : List Capture = all (a .mode) (a .bitboards .now) (a .kinds .now) (a .from) (a .to) (b .kind) (b .taken) (b .there)
+    (h .before .other .result) (b .last) in
     let e =
     l .inv .5
-    ∙ stops (a .kinds .now) (a .bitboards .now) (attackers (a .bitboards .now) (a .to)) (promotes (a .mode) (a .to)) (32 - l .n) (l .there) (l .color) (valueOf (l .last))
+    ∙ stops (a .kinds .now) (a .bitboards .now) (attackers (a .bitboards .now) (a .to)) (promotes (a .mode) (a .to)) (32 - l .n) (l .there) (l .color)
+    (valueOf (l .last))
     (sym (p .capturer .ensures) ∙ ap paperAttacker (c .enum-told .given .1)) in
-    whole (a .mode) (a .kinds .now) (a .bitboards .now) (a .side) (a .from) (a .to) b (h .before .other .result) (h .before .other .ensures) cs refl (l .squares) (l .by) (l .taken) (l .n) (l .inv .1) (l .inv .2) (l .inv .3) (l .inv .4) e
+    whole (a .mode) (a .kinds .now) (a .bitboards .now) (a .side) (a .from) (a .to) b (h .before .other .result) (h .before .other .ensures) cs refl
+    (l .squares) (l .by) (l .taken) (l .n) (l .inv .1) (l .inv .2) (l .inv .3) (l .inv .4) e
 
 promotes-requires : tie.Need-promotes-requires Inv-loop μ-loop
 promotes-requires c κs = search needs
@@ -147,7 +153,8 @@ loop-again c =
     let h = i .before in
     let l = h .loop in
     let a = h .before .before .before .before .args in
-    let cs : List Capture = all (a .mode) (a .bitboards .now) (a .kinds .now) (a .from) (a .to) (a .begun .kind) (a .begun .taken) (a .begun .there) (h .before .other .result) (a .begun .last) in
+    let cs : List Capture = all (a .mode) (a .bitboards .now) (a .kinds .now) (a .from) (a .to) (a .begun .kind) (a .begun .taken) (a .begun .there)
+    (h .before .other .result) (a .begun .last) in
     let who : ℕ = g .0 .1 .0 in
     let does = promotes (a .mode) (a .to) (l .color) who in
     let this : Capture = record { from = g .0 .0; kind = who; taken = takenBy does (valueOf (l .last)) } in
@@ -155,7 +162,8 @@ loop-again c =
     let value = v .worth .ensures ∙ ap (λ (t : Bool). takenBy t (valueOf (l .last))) (q .promotes .ensures) in
     let stands = b .becomes .ensures ∙ ap (λ (t : Bool). becomes t who) (q .promotes .ensures) in
     let e =
-    turn (a .kinds .now) (a .bitboards .now) (attackers (a .bitboards .now) (a .to)) (promotes (a .mode) (a .to)) (drop (l .n) cs) (l .n) (l .there) (l .color) (valueOf (l .last)) (g .0 .0) who
+    turn (a .kinds .now) (a .bitboards .now) (attackers (a .bitboards .now) (a .to)) (promotes (a .mode) (a .to)) (drop (l .n) cs) (l .n) (l .there)
+    (l .color) (valueOf (l .last)) (g .0 .0) who
     lt (l .inv .5) (sym (p .capturer .ensures) ∙ ap paperAttacker (g .1)) in (
       omega arith,
       rw add-one (one-more cs (l .n) this _ e),
@@ -171,11 +179,14 @@ returns-2 c =
     let l = h .loop in
     let a = h .before .before .before .before .args in
     let b = a .begun in
-    let cs : List Capture = all (a .mode) (a .bitboards .now) (a .kinds .now) (a .from) (a .to) (b .kind) (b .taken) (b .there) (h .before .other .result) (b .last) in
+    let cs : List Capture = all (a .mode) (a .bitboards .now) (a .kinds .now) (a .from) (a .to) (b .kind) (b .taken) (b .there)
+    (h .before .other .result) (b .last) in
     let e =
     l .inv .5
-    ∙ spent (a .kinds .now) (a .bitboards .now) (attackers (a .bitboards .now) (a .to)) (promotes (a .mode) (a .to)) (32 - l .n) (l .there) (l .color) (valueOf (l .last)) (omega arith) in
-    whole (a .mode) (a .kinds .now) (a .bitboards .now) (a .side) (a .from) (a .to) b (h .before .other .result) (h .before .other .ensures) cs refl (l .squares) (l .by) (l .taken) (l .n) (l .inv .1) (l .inv .2) (l .inv .3) (l .inv .4) e
+    ∙ spent (a .kinds .now) (a .bitboards .now) (attackers (a .bitboards .now) (a .to)) (promotes (a .mode) (a .to)) (32 - l .n) (l .there) (l .color)
+    (valueOf (l .last)) (omega arith) in
+    whole (a .mode) (a .kinds .now) (a .bitboards .now) (a .side) (a .from) (a .to) b (h .before .other .result) (h .before .other .ensures) cs refl
+    (l .squares) (l .by) (l .taken) (l .n) (l .inv .1) (l .inv .2) (l .inv .3) (l .inv .4) e
 
 pub follow-spec : {M : Type 1} → statement M
 follow-spec =

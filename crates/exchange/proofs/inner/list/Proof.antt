@@ -19,7 +19,8 @@ returns c =
     let b = c .before in
     let a = b .before .before .before .before .args in
     subst (λ (cs : List Capture). HoldsCaptures cs (c .follow .result))
-    (all-followed (a .mode) (a .kinds .now) (a .bitboards .now) (a .board .now) (a .state) (a .from) (a .to) (b .begin .result) (b .begin .ensures)) (c .follow .ensures)
+    (all-followed (a .mode) (a .kinds .now) (a .bitboards .now) (a .board .now) (a .state) (a .from) (a .to) (b .begin .result) (b .begin .ensures))
+    (c .follow .ensures)
 
 pub list-spec : {M : Type 1} → statement M
 list-spec = tie.close (tie.spec begin-requires follow-requires returns)

@@ -38,7 +38,8 @@ returns c =
     let l = c .before .before .before .before .before .loop in
     let e = c .before .before .still-there .ensures in
     ap (λ (x : ℕ). attacker x (getD (a .kinds .now) (l .i) 0)) (c .scan .ensures ∙ ap lowestOf e)
-    ∙ sym (found (a .kinds .now) (a .bitboards .now) (a .color) (a .attacks) (a .occupied) (l .i) (c .before .before .before .before .loop-test .taken) (λ z. c .before .if1 .taken (e ∙ z)))
+    ∙ sym (found (a .kinds .now) (a .bitboards .now) (a .color) (a .attacks) (a .occupied) (l .i) (c .before .before .before .before .loop-test .taken)
+    (λ z. c .before .if1 .taken (e ∙ z)))
     ∙ sym (l .inv)
 
 add-i : tie.Need-add-i Inv-loop μ-loop
@@ -51,13 +52,15 @@ loop-again : tie.Need-loop-again Inv-loop μ-loop
 loop-again c =
     let a = c .before .before .before .before .before .before .before .args in
     let l = c .before .before .before .before .loop in
-    l .inv ∙ passed (a .kinds .now) (a .bitboards .now) (a .color) (a .attacks) (a .occupied) (l .i) (c .before .before .before .loop-test .taken) (sym (c .before .still-there .ensures) ∙ c .if1 .left)
+    l .inv ∙ passed (a .kinds .now) (a .bitboards .now) (a .color) (a .attacks) (a .occupied) (l .i) (c .before .before .before .loop-test .taken)
+    (sym (c .before .still-there .ensures) ∙ c .if1 .left)
 
 returns-2 : tie.Need-returns-2 Inv-loop μ-loop
 returns-2 c =
     let a = c .before .before .before .before .args in
     let l = c .before .loop in
-    sym (l .inv ∙ none-left (a .kinds .now) (a .bitboards .now) (a .color) (a .attacks) (a .occupied) (l .i) (drop-of-length-le (a .kinds .now) {i = l .i} (c .loop-test .left)))
+    sym (l .inv ∙ none-left (a .kinds .now) (a .bitboards .now) (a .color) (a .attacks) (a .occupied) (l .i)
+    (drop-of-length-le (a .kinds .now) {i = l .i} (c .loop-test .left)))
 
 pub pick-spec : {M : Type 1} → statement M
 pick-spec =

@@ -10,7 +10,8 @@ standing-requires c κs = search needs
 returns : tie.Need-returns
 returns c =
     let b = c .before .before in
-    three (b .args .bitboards .now) (b .args .kind) (b .args .color) (b .args .attacks) (b .args .occupied) (c .standing .result) (b .fits .attacks .fits) (b .fits .occupied .fits) (c .standing .ensures)
+    three (b .args .bitboards .now) (b .args .kind) (b .args .color) (b .args .attacks) (b .args .occupied) (c .standing .result)
+    (b .fits .attacks .fits) (b .fits .occupied .fits) (c .standing .ensures)
 
 pub still-there-spec : {M : Type 1} → statement M
 still-there-spec = tie.close (tie.spec standing-requires returns)

@@ -19,7 +19,8 @@ returns c =
     let k = c .before .before .before in
     let a = k .before .before .before .args in
     pass-on (a .bitboards .now) (a .board .now) (a .state) (k .check .result) (k .check .ensures)
-    (begun-or (a .mode) (a .order .now) (a .bitboards .now) (a .board .now) (a .state) (a .from) (a .to)) (c .before .refusal .given .0 .0) (c .before .refusal .given .1)
+    (begun-or (a .mode) (a .order .now) (a .bitboards .now) (a .board .now) (a .state) (a .from) (a .to)) (c .before .refusal .given .0 .0)
+    (c .before .refusal .given .1)
 
 enum-told : tie.Need-enum-told
 enum-told c = search needs

@@ -20,14 +20,16 @@ returns c =
 may-take-requires : tie.Need-may-take-requires
 may-take-requires c κs = search needs
 
-own : (c : tie.Else1) → on (c .before .before .before .before .args .bitboards .now) (c .before .before .before .before .args .state .side) (c .before .before .before .before .args .from) ≡ true
+own : (c : tie.Else1) → on (c .before .before .before .before .args .bitboards .now) (c .before .before .before .before .args .state .side)
+    (c .before .before .before .before .args .from) ≡ true
 own c = sym (c .before .stands .ensures) ∙ not-false (c .before .stands .result) (c .if1 .left)
 
 returns-2 : tie.Need-returns-2
 returns-2 c =
     let t = c .before in
     let a = t .before .before .before .before .before .args in
-    none-to-take (a .mode) (a .bitboards .now) (a .board .now) (a .state) (a .from) (a .to) (own (t .before)) (sym (t .may-take .ensures) ∙ not-true (t .may-take .result) (c .if2 .taken))
+    none-to-take (a .mode) (a .bitboards .now) (a .board .now) (a .state) (a .from) (a .to) (own (t .before))
+    (sym (t .may-take .ensures) ∙ not-true (t .may-take .result) (c .if2 .taken))
 
 kind-on-requires : tie.Need-kind-on-requires
 kind-on-requires c κs = search needs

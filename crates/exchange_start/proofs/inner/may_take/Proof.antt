@@ -15,7 +15,8 @@ other-requires c κs = search needs
 stands-requires : tie.Need-stands-requires
 stands-requires c κs = search needs
 
-their : (c : tie.After-stands) → c .stands .result ≡ on (c .before .before .before .before .args .bitboards .now) (other (c .before .before .before .before .args .state .side)) (c .before .before .before .before .args .to)
+their : (c : tie.After-stands) → c .stands .result ≡ on (c .before .before .before .before .args .bitboards .now)
+    (other (c .before .before .before .before .args .state .side)) (c .before .before .before .before .args .to)
 their c =
     let a = c .before .before .before .before .args in
     c .stands .ensures ∙ ap (λ (x : ℕ). on (a .bitboards .now) x (a .to)) (c .before .other .ensures)

@@ -19,7 +19,8 @@ holds-requires c κs = search needs
 returns : tie.Need-returns
 returns c =
     let a = c .before .before .before .before .args in
-    c .holds .ensures ∙ ap (λ (b : ℕ). has b (a .square)) (c .before .at .ensures ∙ ap (λ (i : ℕ). getD (a .bitboards .now) i 0) (c .before .before .index .ensures))
+    c .holds .ensures ∙ ap (λ (b : ℕ). has b (a .square)) (c .before .at .ensures
+    ∙ ap (λ (i : ℕ). getD (a .bitboards .now) i 0) (c .before .before .index .ensures))
 
 pub stands-spec : {M : Type 1} → statement M
 stands-spec = tie.close (tie.spec index-requires at-requires holds-requires returns)

@@ -63,7 +63,8 @@ cast-result-2 c = search needs
 sub-result : tie.Need-sub-result Inv-loop μ-loop
 sub-result c =
     let f = c .shared-slice-known3 .given 0 in
-    in-32 (getD (c .before .before .before .before .before .args .values .now) 0 0) (c .before .before .loop .next) (omega (arith, f)) (c .before .before .loop .inv .3)
+    in-32 (getD (c .before .before .before .before .before .args .values .now) 0 0) (c .before .before .loop .next) (omega (arith, f))
+    (c .before .before .loop .inv .3)
 
 returns-2 : tie.Need-returns-2 Inv-loop μ-loop
 returns-2 c =

@@ -1,4 +1,5 @@
--- `exchange_value::inner::stop` meets its contract. The loop's invariant: `pays` is what the captures from k on are worth, and `found` the earliest of them that does not pay, 0 for none.
+-- `exchange_value::inner::stop` meets its contract. The loop's invariant: `pays` is what the captures from k on are worth, and `found` the earliest
+-- of them that does not pay, 0 for none.
 -- Assumes nothing.
 use mathlib.Core.Path.{_≡_, refl, ap, _∙_}
 use Prim.Native.Nat.{_-_, _≤_}

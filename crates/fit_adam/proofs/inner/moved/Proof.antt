@@ -21,13 +21,15 @@ same-length-3 : tie.Need-same-length-3
 same-length-3 c = search needs
 
 -- past the test all four are 779 long
-shaped : (c : tie.Else1) → let s = c .before .before .before .before .before .before .before .before .before .args in isShaped (s .gradient .now) (fitFrom (s .m .now) (s .v .now) (s .weights .now)) ≡ true
+shaped : (c : tie.Else1) → let s = c .before .before .before .before .before .before .before .before .before .args in
+    isShaped (s .gradient .now) (fitFrom (s .m .now) (s .v .now) (s .weights .now)) ≡ true
 shaped c = sym (c .before .is-shaped .ensures) ∙ not-false _ (c .if1 .left)
 
 returns : tie.Need-returns
 returns c =
     let s = c .before .before .before .before .before .before .before .before .before .args in
-    unshaped (s .gradient .now) (fitFrom (s .m .now) (s .v .now) (s .weights .now)) (s .rate) (s .powers) (sym (c .before .is-shaped .ensures) ∙ not-true _ (c .if1 .taken))
+    unshaped (s .gradient .now) (fitFrom (s .m .now) (s .v .now) (s .weights .now)) (s .rate) (s .powers)
+    (sym (c .before .is-shaped .ensures) ∙ not-true _ (c .if1 .taken))
 
 walk-requires : tie.Need-walk-requires
 walk-requires c κs =

@@ -36,7 +36,9 @@ returns c =
     let l = c .before .before .before .before .before .before .before .compute-list in
     let p = c .before .before .put in
     let told = c .before .before .before .before .before .enum-told .given in
-    subst (λ (t : List ℕ). Puts (now (a .out)) (p .last .0) (a .at) t (p .result)) (sample-none (now (a .bitboards)) (now (a .board)) (a .state) (a .half) _ (l .result) (l .last .1 .1 .1 .0) (l .ensures) (told .0 .0) (told .1)) (p .ensures)
+    subst (λ (t : List ℕ). Puts (now (a .out)) (p .last .0) (a .at) t (p .result))
+    (sample-none (now (a .bitboards)) (now (a .board)) (a .state) (a .half) _ (l .result) (l .last .1 .1 .1 .0) (l .ensures) (told .0 .0) (told .1))
+    (p .ensures)
 
 enum-told-2 : tie.Need-enum-told-2
 enum-told-2 c = search needs
@@ -79,7 +81,12 @@ slice-aggregate-put-2 c =
     let n = list-long (now (a .bitboards)) (now (a .board)) (a .state) (a .half) _ (l .result) (l .last .1 .1 .1 .0) (l .ensures) refl in
     let w = c .before .before .before .write in
     let s = sample-300 (l .result .trace) (l .result .used) (a .half) (l .last .1 .1 .1 .0) m (n) in
-    sym (length-take-le (w .result) (w .last .1 .1 .1 .1 .0) (omega (arith, s, adds-to (w .ensures) (omega (arith, s)), adds-length (w .ensures) (omega (arith, s)))))
+    sym (length-take-le (w .result) (w .last .1 .1 .1 .1 .0) (omega (
+      arith,
+      s,
+      adds-to (w .ensures) (omega (arith, s)),
+      adds-length (w .ensures) (omega (arith, s)),
+    )))
 
 put-requires-2 : tie.Need-put-requires-2
 put-requires-2 c κs = search needs
@@ -98,7 +105,8 @@ returns-2 c =
     let s = sample-300 (l .result .trace) (l .result .used) (a .half) (l .last .1 .1 .1 .0) m (n) in
     let p = c .before .before .put2 in
     subst (λ (t : List ℕ). Puts (now (a .out)) (p .last .0) (a .at) t (p .result))
-    (adds-front (w .ensures) (omega (arith, s)) ∙ sample-some (now (a .bitboards)) (now (a .board)) (a .state) (a .half) _ (l .result) (l .last .1 .1 .1 .0) (l .ensures) fit) (p .ensures)
+    (adds-front (w .ensures) (omega (arith, s)) ∙ sample-some (now (a .bitboards)) (now (a .board)) (a .state) (a .half) _ (l .result)
+    (l .last .1 .1 .1 .0) (l .ensures) fit) (p .ensures)
 
 pub put-spec : {M : Type 1} → statement M
 put-spec =

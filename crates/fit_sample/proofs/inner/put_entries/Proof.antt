@@ -37,7 +37,8 @@ same-length c = search needs
 
 returns : tie.Need-returns
 returns c =
-    let a = c .before .before .before .before .before .before .before .before .before .before .before .before .before .before .before .before .before .before .before .args in
+    let a = c .before .before .before .before .before .before .before .before .before .before .before .before .before .before .before .before .before
+    .before .before .args in
     let p = c .before .before .before .before .before .before .before .before .before .before .before .before .before .before .put in
     let q = c .before .before .before .before .before .before .before .before .before .put2 in
     let r = c .before .before .before .put3 in
@@ -47,7 +48,11 @@ returns c =
     (adds-or _ _ _ _ (p .result) (i .result) (p .ensures) (i .ensures))
     (adds-or _ _ _ _ (q .result) (j .result) (q .ensures) (j .ensures))
     (adds-or _ _ _ _ (r .result) (c .or3 .result) (r .ensures) (c .or3 .ensures))
-    (omega (arith, c .before .before .before .before .before .before .before .before .before .before .before .before .before .before .before .before .before .before .before .pre))
+    (omega (
+      arith,
+      c .before .before .before .before .before .before .before .before .before .before .before .before .before .before .before .before
+          .before .before .before .pre,
+    ))
 
 pub put-entries-spec : {M : Type 1} → statement M
 put-entries-spec =

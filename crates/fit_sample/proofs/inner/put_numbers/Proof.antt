@@ -45,14 +45,21 @@ same-length c = search needs
 
 returns : tie.Need-returns
 returns c =
-    let a = c .before .before .before .before .before .before .before .before .before .before .before .before .before .before .before .before .before .before .before .args in
-    let q = c .before .before .before .before .before .before .before .before .before .before .before .before .before .before .before .before .before .before .before .pre in
-    let n = c .before .before .before .before .before .before .before .before .before .before .before .before .before .before .before .before .before .counts-of in
+    let a = c .before .before .before .before .before .before .before .before .before .before .before .before .before .before .before .before .before
+    .before .before .args in
+    let q = c .before .before .before .before .before .before .before .before .before .before .before .before .before .before .before .before .before
+    .before .before .pre in
+    let n = c .before .before .before .before .before .before .before .before .before .before .before .before .before .before .before .before .before
+    .counts-of in
     let p = c .before .before .before .before .before .before .before .before .before .before .before .before .put-words in
     let r = c .before .before .before .before .before .before .before .put-words2 in
     let l = c .before .before .put-words3 in
-    numbers-all (a .trace) (now (a .out)) (p .last .0) (r .last .0) (l .last .0) (p .result) (r .result) (l .result) (n .result) (q .0) (q .1) (n .ensures) (p .ensures) (r .ensures)
-    _ (then (c .before .before .before .before .before .before .before .before .before .before .before .before .before .before .before .struct-told .given .1 .1 .1 .1 .1 .1 .1 .0 .1) (then (c .before .before .before .before .before .before .before .before .before .before .before .before .before .before .before .struct-told .given .1 .1 .1 .1 .1 .1 .1 .1 .0 .1) refl)) (l .ensures)
+    numbers-all (a .trace) (now (a .out)) (p .last .0) (r .last .0) (l .last .0) (p .result) (r .result) (l .result) (n .result) (q .0) (q .1)
+    (n .ensures) (p .ensures) (r .ensures)
+    _ (then (c .before .before .before .before .before .before .before .before .before .before .before .before .before .before .before .struct-told
+    .given .1 .1 .1 .1 .1 .1 .1 .0 .1)
+    (then (c .before .before .before .before .before .before .before .before .before .before .before .before .before .before .before .struct-told
+    .given .1 .1 .1 .1 .1 .1 .1 .1 .0 .1) refl)) (l .ensures)
 
 pub put-numbers-spec : {M : Type 1} → statement M
 put-numbers-spec =

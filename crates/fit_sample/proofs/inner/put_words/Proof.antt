@@ -51,9 +51,13 @@ loop-again c =
     let a = c .before .before .before .before .before .before .before .before .before .before .before .before .args in
     let l = c .before .before .before .before .before .before .before .before .before .before .loop in
     let p = c .before .before .before .put in
-    words-more (now (a .out)) (l .out) (p .last .0) (a .at) (l .end) (c .or .result) (l .i) (now (a .numbers)) (c .before .before .before .before .before .before .bytes-of .result) (p .result)
-    (c .before .before .before .before .before .before .before .before .before .before .before .before .pre) (c .before .before .before .before .before .before .before .before .before .loop-test .taken) (l .inv) (c .before .before .before .before .before .before .before .before .bits-arg .given)
-    (c .before .before .before .before .before .before .bytes-of .ensures ∙ ap lowestFirst (c .before .before .before .before .before .before .before .bits .ensures)) (p .ensures) (c .or .ensures)
+    words-more (now (a .out)) (l .out) (p .last .0) (a .at) (l .end) (c .or .result) (l .i) (now (a .numbers))
+    (c .before .before .before .before .before .before .bytes-of .result) (p .result)
+    (c .before .before .before .before .before .before .before .before .before .before .before .before .pre)
+    (c .before .before .before .before .before .before .before .before .before .loop-test .taken) (l .inv)
+    (c .before .before .before .before .before .before .before .before .bits-arg .given)
+    (c .before .before .before .before .before .before .bytes-of .ensures
+    ∙ ap lowestFirst (c .before .before .before .before .before .before .before .bits .ensures)) (p .ensures) (c .or .ensures)
 
 same-length : tie.Need-same-length Inv-loop μ-loop
 same-length c =

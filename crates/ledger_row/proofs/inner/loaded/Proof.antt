@@ -44,7 +44,8 @@ returns c =
     let p = c .before .before .put in
     let w = c .before .before .before .before .before .before .write-loaded in
     let a = c .before .before .before .before .before .before .before .before .before .args in
-    subst (λ (t : List ℕ). Puts (now (a .out)) (p .last .0) (a .at) t (p .result)) (adds-front (w .ensures) (fits-loaded (a .line) (a .half) (scored (a .scored)))) (p .ensures)
+    subst (λ (t : List ℕ). Puts (now (a .out)) (p .last .0) (a .at) t (p .result))
+    (adds-front (w .ensures) (fits-loaded (a .line) (a .half) (scored (a .scored)))) (p .ensures)
 
 pub loaded-spec : {M : Type 1} → statement M
 loaded-spec =

@@ -19,7 +19,12 @@ spaced-requires-2 c κs =
     let a = c .before .before .before .before .before .before .before .args in
     let p = c .before .before .before .before .spaced in
     let h = length-spaced (a .line) in
-    omega (arith, adds-to (p .ensures) (omega (arith, c .before .before .before .before .before .before .before .pre)), p .kept .0, c .before .before .before .before .before .before .before .pre)
+    omega (
+      arith,
+      adds-to (p .ensures) (omega (arith, c .before .before .before .before .before .before .before .pre)),
+      p .kept .0,
+      c .before .before .before .before .before .before .before .pre,
+    )
 
 shown-requires : tie.Need-shown-requires
 shown-requires c κs = c .before .before .before .before .before .before .before .before .before .before .before .pre .1
@@ -36,11 +41,20 @@ same-length c = search needs
 returns : tie.Need-returns
 unfolding loadedRow
 returns c =
-    let a = c .before .before .before .before .before .before .before .before .before .before .before .before .before .before .before .before .before .before .before .args in
+    let a = c .before .before .before .before .before .before .before .before .before .before .before .before .before .before .before .before .before
+    .before .before .args in
     let w = c .before .before .before .before .before .before .before .before .before .before .before .before .wide in
     let p = rw (w .ensures) at (c .before .before .before .before .before .before .before .before .before .before .before .spaced2 .ensures) in
-    adds-4 (c .before .before .before .before .before .before .before .before .before .before .before .before .before .before .before .before .spaced .ensures) p (c .before .before .before .before .before .before .before .shown .ensures) (c .before .before .put .ensures)
-    (omega (arith, length-spaced (a .line), length-spaced (a .half), length-shown (scored (a .scored)), c .before .before .before .before .before .before .before .before .before .before .before .before .before .before .before .before .before .before .before .pre))
+    adds-4 (c .before .before .before .before .before .before .before .before .before .before .before .before .before .before .before .before .spaced
+    .ensures) p (c .before .before .before .before .before .before .before .shown .ensures) (c .before .before .put .ensures)
+    (omega (
+      arith,
+      length-spaced (a .line),
+      length-spaced (a .half),
+      length-shown (scored (a .scored)),
+      c .before .before .before .before .before .before .before .before .before .before .before .before .before .before .before .before .before .before
+          .before .pre,
+    ))
 
 pub write-loaded-spec : {M : Type 1} → statement M
 write-loaded-spec =

@@ -34,11 +34,20 @@ same-length c = search needs
 returns : tie.Need-returns
 unfolding refusedRow
 returns c =
-    let a = c .before .before .before .before .before .before .before .before .before .before .before .before .before .before .before .before .before .before .before .before .args in
+    let a = c .before .before .before .before .before .before .before .before .before .before .before .before .before .before .before .before .before
+    .before .before .before .args in
     let w = c .before .before .before .before .before .before .before .before .wide in
     let p = rw (w .ensures) at (c .before .before .before .before .before .before .before .number .ensures) in
-    adds-4 (c .before .before .before .before .before .before .before .before .before .before .before .before .before .before .before .before .before .spaced .ensures) (c .before .before .before .before .before .before .before .before .before .before .before .before .put .ensures) p (c .before .before .put2 .ensures)
-    (omega (arith, length-spaced (a .line), length-20 (a .refusal), c .before .before .before .before .before .before .before .before .before .before .before .before .before .before .before .before .before .before .before .before .pre))
+    adds-4 (c .before .before .before .before .before .before .before .before .before .before .before .before .before .before .before .before .before
+    .spaced .ensures) (c .before .before .before .before .before .before .before .before .before .before .before .before .put .ensures) p
+    (c .before .before .put2 .ensures)
+    (omega (
+      arith,
+      length-spaced (a .line),
+      length-20 (a .refusal),
+      c .before .before .before .before .before .before .before .before .before .before .before .before .before .before .before .before .before .before
+          .before .before .pre,
+    ))
 
 pub write-refused-spec : {M : Type 1} → statement M
 write-refused-spec =

@@ -62,7 +62,8 @@ returns : tie.Need-returns
 returns c =
     let a = c .before .before .before .before .before .before .before .before .args in
     let p = c .before .before .put in
-    subst (λ (s : Scored). Adds (now (a .out)) (a .at) (shownOf (scored s)) (p .last .0) (p .result)) (sym (c .before .before .before .before .before .enum-told .given .1)) (p .ensures)
+    subst (λ (s : Scored). Adds (now (a .out)) (a .at) (shownOf (scored s)) (p .last .0) (p .result))
+    (sym (c .before .before .before .before .before .enum-told .given .1)) (p .ensures)
 
 same-length-2 : tie.Need-same-length-2
 same-length-2 c = search needs
@@ -71,7 +72,8 @@ returns-2 : tie.Need-returns-2
 returns-2 c =
     let a = c .before .before .before .before .before .before .before .before .args in
     let p = c .before .before .put2 in
-    subst (λ (s : Scored). Adds (now (a .out)) (a .at) (shownOf (scored s)) (p .last .0) (p .result)) (sym (c .before .before .before .before .before .enum-told2 .given .1)) (p .ensures)
+    subst (λ (s : Scored). Adds (now (a .out)) (a .at) (shownOf (scored s)) (p .last .0) (p .result))
+    (sym (c .before .before .before .before .before .enum-told2 .given .1)) (p .ensures)
 
 same-length-3 : tie.Need-same-length-3
 same-length-3 c = search needs
@@ -80,7 +82,8 @@ returns-3 : tie.Need-returns-3
 returns-3 c =
     let a = c .before .before .before .before .before .before .before .before .args in
     let p = c .before .before .put3 in
-    subst (λ (s : Scored). Adds (now (a .out)) (a .at) (shownOf (scored s)) (p .last .0) (p .result)) (sym (c .before .before .before .before .before .enum-told3 .given .1)) (p .ensures)
+    subst (λ (s : Scored). Adds (now (a .out)) (a .at) (shownOf (scored s)) (p .last .0) (p .result))
+    (sym (c .before .before .before .before .before .enum-told3 .given .1)) (p .ensures)
 
 same-length-4 : tie.Need-same-length-4
 same-length-4 c = search needs
@@ -92,7 +95,8 @@ returns-4 c =
     let e = c .before .before .before .before .before .scored .given .1 in
     let z : ℤ = c .before .before .before .before .before .scored .given .0 .0 in
     subst (λ (s : Scored). Adds (now (a .out)) (a .at) (shownOf (scored s)) (p .last .0) (p .result)) (sym e)
-    (subst (λ (y : ℤ). Adds (now (a .out)) (a .at) (signedOf y) (p .last .0) (p .result)) (held-is {w = w16} (short-fits z (c .before .before .before .before .before .before .before .before .pre z e)) refl) (p .ensures))
+    (subst (λ (y : ℤ). Adds (now (a .out)) (a .at) (signedOf y) (p .last .0) (p .result))
+    (held-is {w = w16} (short-fits z (c .before .before .before .before .before .before .before .before .pre z e)) refl) (p .ensures))
 
 same-length-5 : tie.Need-same-length-5
 same-length-5 c = search needs
@@ -101,7 +105,8 @@ returns-5 : tie.Need-returns-5
 returns-5 c =
     let a = c .before .before .before .before .before .before .before .before .args in
     let p = c .before .before .put4 in
-    subst (λ (s : Scored). Adds (now (a .out)) (a .at) (shownOf (scored s)) (p .last .0) (p .result)) (sym (c .before .before .before .before .before .enum-told4 .given .1)) (p .ensures)
+    subst (λ (s : Scored). Adds (now (a .out)) (a .at) (shownOf (scored s)) (p .last .0) (p .result))
+    (sym (c .before .before .before .before .before .enum-told4 .given .1)) (p .ensures)
 
 pub shown-spec : {M : Type 1} → statement M
 shown-spec =

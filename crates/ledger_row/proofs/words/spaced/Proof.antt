@@ -20,7 +20,8 @@ same-length c = search needs
 returns : tie.Need-returns
 returns c =
     let a = c .before .before .before .before .before .before .before .before .before .before .args in
-    adds-then (c .before .before .before .before .before .before .before .number .ensures) (c .before .before .put .ensures) (omega (arith, length-20 (a .n), c .before .before .before .before .before .before .before .before .before .before .pre))
+    adds-then (c .before .before .before .before .before .before .before .number .ensures) (c .before .before .put .ensures)
+    (omega (arith, length-20 (a .n), c .before .before .before .before .before .before .before .before .before .before .pre))
 
 pub spaced-spec : {M : Type 1} → statement M
 spaced-spec =

@@ -57,7 +57,8 @@ array-write-board : tie.Need-array-write-board Inv-loop μ-loop
 array-write-board c =
     let s = now (c .before .before .before .before .before .before .before .before .args .s) in
     let l = c .before .before .before .before .before .before .loop in
-    let t = turn s (l .board) (l .i) (omega arith) (l .rank) (l .file) (l .digit) (l .inv) (c .before .before .before .step .ensures) (c .before .code .given .1) in
+    let t = turn s (l .board) (l .i) (omega arith) (l .rank) (l .file) (l .digit) (l .inv) (c .before .before .before .step .ensures)
+    (c .before .code .given .1) in
     omega arith
 
 add-file : tie.Need-add-file Inv-loop μ-loop
@@ -79,7 +80,8 @@ add-file-2 : tie.Need-add-file-2 Inv-loop μ-loop
 add-file-2 c =
     let s = now (c .before .before .before .before .before .before .before .before .args .s) in
     let l = c .before .before .before .before .before .before .loop in
-    let t = turn s (l .board) (l .i) (omega arith) (l .rank) (l .file) (l .digit) (l .inv) (c .before .before .before .step .ensures) (c .before .empty .given .1) in
+    let t = turn s (l .board) (l .i) (omega arith) (l .rank) (l .file) (l .digit) (l .inv) (c .before .before .before .step .ensures)
+    (c .before .empty .given .1) in
     record { fits = omega arith }
 
 loop-less-3 : tie.Need-loop-less-3 Inv-loop μ-loop
@@ -102,7 +104,8 @@ returns c =
     let s = now (c .before .before .before .before .before .before .before .before .args .s) in
     let l = c .before .before .before .before .before .before .loop in
     refused s (c .nothing .result) (c .nothing .ensures)
-    (turn s (l .board) (l .i) (omega arith) (l .rank) (l .file) (l .digit) (l .inv) (c .before .before .before .step .ensures) (c .before .enum-told2 .given .1))
+    (turn s (l .board) (l .i) (omega arith) (l .rank) (l .file) (l .digit) (l .inv) (c .before .before .before .step .ensures)
+    (c .before .enum-told2 .given .1))
 
 nothing-requires-2 : tie.Need-nothing-requires-2 Inv-loop μ-loop
 nothing-requires-2 c κs = tt
@@ -111,7 +114,8 @@ returns-2 : tie.Need-returns-2 Inv-loop μ-loop
 returns-2 c =
     let s = now (c .before .before .before .before .before .args .s) in
     let l = c .before .before .before .loop in
-    refused s (c .nothing2 .result) (c .nothing2 .ensures) (too-few s (l .board) (l .file) (l .digit) (l .i) (omega arith) (l .rank) (l .inv) (c .before .if1 .taken))
+    refused s (c .nothing2 .result) (c .nothing2 .ensures) (too-few s (l .board) (l .file) (l .digit) (l .i) (omega arith) (l .rank) (l .inv)
+    (c .before .if1 .taken))
 
 nothing-requires-3 : tie.Need-nothing-requires-3 Inv-loop μ-loop
 nothing-requires-3 c κs = tt
@@ -120,7 +124,8 @@ returns-3 : tie.Need-returns-3 Inv-loop μ-loop
 returns-3 c =
     let s = now (c .before .before .before .before .before .before .args .s) in
     let l = c .before .before .before .before .loop in
-    refused s (c .nothing3 .result) (c .nothing3 .ensures) (too-short s (l .board) (l .file) (l .digit) (l .i) (omega arith) (l .rank) (l .inv) (c .before .before .if1 .left) (c .before .if2 .taken))
+    refused s (c .nothing3 .result) (c .nothing3 .ensures) (too-short s (l .board) (l .file) (l .digit) (l .i) (omega arith) (l .rank) (l .inv)
+    (c .before .before .if1 .left) (c .before .if2 .taken))
 
 returns-4 : tie.Need-returns-4 Inv-loop μ-loop
 returns-4 c =
@@ -132,6 +137,7 @@ pub place-spec : {M : Type 1} → statement M
 place-spec =
     tie.close
     (tie.spec
-    Inv-loop μ-loop loop-holds shared-slice-read-b add-i step-requires enum-told sub-rank loop-less loop-again enum-known-code mul-board add-board array-write-board
+    Inv-loop μ-loop loop-holds shared-slice-read-b add-i step-requires enum-told sub-rank loop-less loop-again enum-known-code mul-board add-board
+    array-write-board
     add-file loop-less-2 loop-again-2 enum-known-empty add-file-2 loop-less-3 loop-again-3 enum-told-2 nothing-requires returns nothing-requires-2 returns-2
     nothing-requires-3 returns-3 returns-4)

@@ -38,13 +38,15 @@ returns-5 : tie.Need-returns-5
 returns-5 c =
     let a = c .before .before .before .before .before .args in
     let r = c .before .before .before .run in
-    too-many (a .rank) (a .file) (a .digit) (a .b) (c .before .before .before .before .if1 .left) (r .result) (r .ensures) (c .before .before .if4 .taken) (c .before .if5 .left) (c .if6 .taken)
+    too-many (a .rank) (a .file) (a .digit) (a .b) (c .before .before .before .before .if1 .left) (r .result) (r .ensures)
+    (c .before .before .if4 .taken) (c .before .if5 .left) (c .if6 .taken)
 
 returns-6 : tie.Need-returns-6
 returns-6 c =
     let a = c .before .before .before .before .before .args in
     let r = c .before .before .before .run in
-    empties (a .rank) (a .file) (a .digit) (a .b) (c .before .before .before .before .if1 .left) (r .result) (r .ensures) (c .before .before .if4 .taken) (c .before .if5 .left) (c .if6 .left)
+    empties (a .rank) (a .file) (a .digit) (a .b) (c .before .before .before .before .if1 .left) (r .result) (r .ensures)
+    (c .before .before .if4 .taken) (c .before .if5 .left) (c .if6 .left)
 
 piece-requires : tie.Need-piece-requires
 piece-requires c κs = search needs
@@ -54,21 +56,24 @@ returns-7 c =
     let a = c .before .before .before .before .before .args in
     let r = c .before .before .before .run in
     let p = c .before .piece in
-    no-mark (a .rank) (a .file) (a .digit) (a .b) (c .before .before .before .before .if1 .left) (r .result) (r .ensures) (c .before .before .if4 .left) (p .result) (p .ensures) (c .if7 .taken)
+    no-mark (a .rank) (a .file) (a .digit) (a .b) (c .before .before .before .before .if1 .left) (r .result) (r .ensures)
+    (c .before .before .if4 .left) (p .result) (p .ensures) (c .if7 .taken)
 
 returns-8 : tie.Need-returns-8
 returns-8 c =
     let a = c .before .before .before .before .before .before .args in
     let r = c .before .before .before .before .run in
     let p = c .before .before .piece in
-    full (a .rank) (a .file) (a .digit) (a .b) (c .before .before .before .before .before .if1 .left) (r .result) (r .ensures) (c .before .before .before .if4 .left) (p .result) (p .ensures) (c .before .if7 .left) (c .if8 .taken)
+    full (a .rank) (a .file) (a .digit) (a .b) (c .before .before .before .before .before .if1 .left) (r .result) (r .ensures)
+    (c .before .before .before .if4 .left) (p .result) (p .ensures) (c .before .if7 .left) (c .if8 .taken)
 
 returns-9 : tie.Need-returns-9
 returns-9 c =
     let a = c .before .before .before .before .before .before .args in
     let r = c .before .before .before .before .run in
     let p = c .before .before .piece in
-    piece (a .rank) (a .file) (a .digit) (a .b) (c .before .before .before .before .before .if1 .left) (r .result) (r .ensures) (c .before .before .before .if4 .left) (p .result) (p .ensures) (c .before .if7 .left) (c .if8 .left)
+    piece (a .rank) (a .file) (a .digit) (a .b) (c .before .before .before .before .before .if1 .left) (r .result) (r .ensures)
+    (c .before .before .before .if4 .left) (p .result) (p .ensures) (c .before .if7 .left) (c .if8 .left)
 
 pub step-spec : {M : Type 1} → statement M
 step-spec =

@@ -30,12 +30,14 @@ put-requires c κs = search needs
 array-share-prefix-text : tie.Need-array-share-prefix-text
 array-share-prefix-text c =
     let a = c .before .before .before .before .before .before .before .before .before .before .args in
-    made-within (adds-then (c .before .before .before .before .before .before .line .ensures) (c .before .before .put .ensures) (omega (arith, line-text-length (now (a .board)) (a .state) (a .half)))) (ended-length (now (a .board)) (a .state) (a .half))
+    made-within (adds-then (c .before .before .before .before .before .before .line .ensures) (c .before .before .put .ensures)
+    (omega (arith, line-text-length (now (a .board)) (a .state) (a .half)))) (ended-length (now (a .board)) (a .state) (a .half))
 
 slice-aggregate-put-3 : tie.Need-slice-aggregate-put-3
 slice-aggregate-put-3 c =
     let a = c .before .before .before .before .before .before .before .before .before .before .before .args in
-    made-long (adds-then (c .before .before .before .before .before .before .before .line .ensures) (c .before .before .before .put .ensures) (omega (arith, line-text-length (now (a .board)) (a .state) (a .half)))) (ended-length (now (a .board)) (a .state) (a .half))
+    made-long (adds-then (c .before .before .before .before .before .before .before .line .ensures) (c .before .before .before .put .ensures)
+    (omega (arith, line-text-length (now (a .board)) (a .state) (a .half)))) (ended-length (now (a .board)) (a .state) (a .half))
 
 put-requires-2 : tie.Need-put-requires-2
 put-requires-2 c κs = search needs
@@ -47,7 +49,10 @@ returns : tie.Need-returns
 returns c =
     let a = c .before .before .before .before .before .before .before .before .before .before .before .before .before .before .args in
     let p = c .before .before .put2 in
-    subst (λ (t : List ℕ). Puts (now (a .out)) (p .last .0) (a .at) t (p .result)) (made-text (adds-then (c .before .before .before .before .before .before .before .before .before .before .line .ensures) (c .before .before .before .before .before .before .put .ensures) (omega (arith, line-text-length (now (a .board)) (a .state) (a .half)))) (ended-length (now (a .board)) (a .state) (a .half))) (p .ensures)
+    subst (λ (t : List ℕ). Puts (now (a .out)) (p .last .0) (a .at) t (p .result))
+    (made-text (adds-then (c .before .before .before .before .before .before .before .before .before .before .line .ensures)
+    (c .before .before .before .before .before .before .put .ensures) (omega (arith, line-text-length (now (a .board)) (a .state) (a .half))))
+    (ended-length (now (a .board)) (a .state) (a .half))) (p .ensures)
 
 pub ended-spec : {M : Type 1} → statement M
 ended-spec =

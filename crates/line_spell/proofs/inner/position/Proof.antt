@@ -36,7 +36,8 @@ returns : tie.Need-returns
 returns c =
     let a = c .before .before .before .before .before .before .before .before .before .before .args in
     let p = c .before .before .put in
-    subst (λ (t : List ℕ). Puts (now (a .out)) (p .last .0) (a .at) t (p .result)) (made-text (c .before .before .before .before .before .before .position .ensures) (position-length (now (a .board)) (a .state))) (p .ensures)
+    subst (λ (t : List ℕ). Puts (now (a .out)) (p .last .0) (a .at) t (p .result))
+    (made-text (c .before .before .before .before .before .before .position .ensures) (position-length (now (a .board)) (a .state))) (p .ensures)
 
 pub position-spec : {M : Type 1} → statement M
 position-spec =

@@ -25,7 +25,14 @@ same-length c = search needs
 returns : tie.Need-returns
 returns c =
     let a = c .before .before .before .before .before .before .before .before .before .before .before .before .before .before .before .args in
-    adds-3 (c .before .before .before .before .before .before .before .before .before .before .before .position .ensures) (c .before .before .before .before .before .before .put .ensures) (c .before .before .put-result .ensures) (omega (arith, c .before .before .before .before .before .before .before .before .before .before .before .before .before .before .before .pre, position-length (now (a .board)) (a .state), result-length (a .half)))
+    adds-3 (c .before .before .before .before .before .before .before .before .before .before .before .position .ensures)
+    (c .before .before .before .before .before .before .put .ensures) (c .before .before .put-result .ensures)
+    (omega (
+      arith,
+      c .before .before .before .before .before .before .before .before .before .before .before .before .before .before .before .pre,
+      position-length (now (a .board)) (a .state),
+      result-length (a .half),
+    ))
 
 pub line-spec : {M : Type 1} → statement M
 line-spec =

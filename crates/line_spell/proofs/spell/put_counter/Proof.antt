@@ -33,7 +33,8 @@ returns-2 c =
     let a = c .before .before .before .before .before .before .before .before .before .before .before .before .args in
     let p = c .before .before .before .before .before .before .before .before .put in
     let d = c .before .before .before .decimal in
-    counter-put (a .n) (p .ensures) (c .before .before .before .before .before .if1 .left) (c .before .before .before .before .before .before .before .before .before .before .before .before .pre)
+    counter-put (a .n) (p .ensures) (c .before .before .before .before .before .if1 .left)
+    (c .before .before .before .before .before .before .before .before .before .before .before .before .pre)
     (adds-or (p .last .0) (p .result) (decimalOf (a .n)) (d .last .0) (d .result) (c .or .result) (d .ensures) (c .or .ensures))
 
 pub put-counter-spec : {M : Type 1} → statement M

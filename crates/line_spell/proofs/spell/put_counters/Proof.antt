@@ -13,7 +13,8 @@ put-counter-requires c κs = search needs
 put-counter-requires-2 : tie.Need-put-counter-requires-2
 put-counter-requires-2 c κs =
     let a = c .before .before .before .before .before .before .args in
-    room-behind (c .before .before .before .put-counter .ensures) 5 (omega (arith, c .before .before .before .before .before .before .pre, counter-length (a .halfmoves), counter-length (a .moves)))
+    room-behind (c .before .before .before .put-counter .ensures) 5 (omega
+    (arith, c .before .before .before .before .before .before .pre, counter-length (a .halfmoves), counter-length (a .moves)))
 
 same-length : tie.Need-same-length
 same-length c = search needs

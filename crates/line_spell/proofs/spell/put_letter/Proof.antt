@@ -22,7 +22,8 @@ returns : tie.Need-returns
 returns c =
     let a = c .before .before .before .before .before .before .before .args in
     let k = c .before .before .put in
-    subst (λ (t : Bool). Adds (now (a .out)) (a .at) (letterFor t (a .letter)) (k .last .0) (k .result)) (sym (not-true (a .right) (c .before .before .before .before .before .if1 .taken))) (k .ensures)
+    subst (λ (t : Bool). Adds (now (a .out)) (a .at) (letterFor t (a .letter)) (k .last .0) (k .result))
+    (sym (not-true (a .right) (c .before .before .before .before .before .if1 .taken))) (k .ensures)
 
 slice-aggregate-put-2 : tie.Need-slice-aggregate-put-2
 slice-aggregate-put-2 c = search needs
@@ -37,7 +38,8 @@ returns-2 : tie.Need-returns-2
 returns-2 c =
     let a = c .before .before .before .before .before .before .before .args in
     let k = c .before .before .put2 in
-    subst (λ (t : Bool). Adds (now (a .out)) (a .at) (letterFor t (a .letter)) (k .last .0) (k .result)) (sym (not-false (a .right) (c .before .before .before .before .before .if1 .left))) (k .ensures)
+    subst (λ (t : Bool). Adds (now (a .out)) (a .at) (letterFor t (a .letter)) (k .last .0) (k .result))
+    (sym (not-false (a .right) (c .before .before .before .before .before .if1 .left))) (k .ensures)
 
 pub put-letter-spec : {M : Type 1} → statement M
 put-letter-spec =

@@ -23,9 +23,20 @@ same-length c = search needs
 
 returns : tie.Need-returns
 returns c =
-    let r = c .before .before .before .before .before .before .before .before .before .before .before .before .before .before .before .before .before .args .rights in
-    adds-4 (c .before .before .before .before .before .before .before .before .before .before .before .before .before .before .put-letter .ensures) (c .before .before .before .before .before .before .before .before .before .before .put-letter2 .ensures) (c .before .before .before .before .before .before .put-letter3 .ensures) (c .before .before .put-letter4 .ensures)
-    (omega (arith, c .before .before .before .before .before .before .before .before .before .before .before .before .before .before .before .before .before .pre, letter-length (r .«white_short») 75, letter-length (r .«white_long») 81, letter-length (r .«black_short») 107, letter-length (r .«black_long») 113))
+    let r = c .before .before .before .before .before .before .before .before .before .before .before .before .before .before .before .before .before
+    .args .rights in
+    adds-4 (c .before .before .before .before .before .before .before .before .before .before .before .before .before .before .put-letter .ensures)
+    (c .before .before .before .before .before .before .before .before .before .before .put-letter2 .ensures)
+    (c .before .before .before .before .before .before .put-letter3 .ensures) (c .before .before .put-letter4 .ensures)
+    (omega (
+      arith,
+      c .before .before .before .before .before .before .before .before .before .before .before .before .before .before .before .before
+          .before .pre,
+      letter-length (r .«white_short») 75,
+      letter-length (r .«white_long») 81,
+      letter-length (r .«black_short») 107,
+      letter-length (r .«black_long») 113,
+    ))
 
 pub put-letters-spec : {M : Type 1} → statement M
 put-letters-spec =

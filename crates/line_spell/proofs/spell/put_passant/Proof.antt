@@ -29,7 +29,8 @@ returns : tie.Need-returns
 returns c =
     let a = c .before .before .before .before .before .before .before .before .args in
     let k = c .before .before .put in
-    subst (λ (p : Passant). Adds (now (a .out)) (a .at) (space ∷ passantText p) (k .last .0) (k .result)) (sym (c .before .before .before .before .before .enum-told .given .1)) (k .ensures)
+    subst (λ (p : Passant). Adds (now (a .out)) (a .at) (space ∷ passantText p) (k .last .0) (k .result))
+    (sym (c .before .before .before .before .before .enum-told .given .1)) (k .ensures)
 
 add-t12 : tie.Need-add-t12
 add-t12 c = search needs
@@ -50,7 +51,8 @@ returns-2 : tie.Need-returns-2
 returns-2 c =
     let a = c .before .before .before .before .before .before .before .before .before .args in
     let k = c .before .before .put2 in
-    subst (λ (p : Passant). Adds (now (a .out)) (a .at) (space ∷ passantText p) (k .last .0) (k .result)) (sym (c .before .before .before .before .before .before .passant .given .1)) (k .ensures)
+    subst (λ (p : Passant). Adds (now (a .out)) (a .at) (space ∷ passantText p) (k .last .0) (k .result))
+    (sym (c .before .before .before .before .before .before .passant .given .1)) (k .ensures)
 
 pub put-passant-spec : {M : Type 1} → statement M
 put-passant-spec =

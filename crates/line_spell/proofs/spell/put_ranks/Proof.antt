@@ -31,7 +31,8 @@ slice-write-line c =
     let p = c .before .before .before .before .before .before .before .before .pre in
     let l = c .before .before .before .before .before .loop in
     let k = c .before .before .put-rank in
-    down-room (now (a .board)) (now (a .line)) (l .line) p (k .last .1 .1 .0) (l .end) (k .result) (c .before .line .given) (l .rank) (omega arith) (l .inv) (k .ensures)
+    down-room (now (a .board)) (now (a .line)) (l .line) p (k .last .1 .1 .0) (l .end) (k .result) (c .before .line .given) (l .rank) (omega arith)
+    (l .inv) (k .ensures)
 
 add-end : tie.Need-add-end Inv-loop μ-loop
 add-end c = search needs
@@ -48,7 +49,8 @@ loop-again c =
     let p = c .before .before .before .before .before .before .before .before .pre in
     let l = c .before .before .before .before .before .loop in
     let k = c .before .before .put-rank in
-    down-again (now (a .board)) (now (a .line)) (l .line) p (k .last .1 .1 .0) (l .end) (k .result) (c .before .line .given) (l .rank) (omega arith) (l .inv) (k .ensures)
+    down-again (now (a .board)) (now (a .line)) (l .line) p (k .last .1 .1 .0) (l .end) (k .result) (c .before .line .given) (l .rank) (omega arith)
+    (l .inv) (k .ensures)
 
 put-rank-requires-2 : tie.Need-put-rank-requires-2 Inv-loop μ-loop
 put-rank-requires-2 c κs =
@@ -68,7 +70,8 @@ returns c =
     let p = c .before .before .before .before .before .before .before .before .pre in
     let l = c .before .before .before .before .before .loop in
     let k = c .before .before .put-rank2 in
-    down-last (now (a .board)) (now (a .line)) (l .line) p (k .last .1 .1 .0) (l .end) (k .result) (c .before .line2 .given) (l .rank) (omega arith) (l .inv) (k .ensures)
+    down-last (now (a .board)) (now (a .line)) (l .line) p (k .last .1 .1 .0) (l .end) (k .result) (c .before .line2 .given) (l .rank) (omega arith)
+    (l .inv) (k .ensures)
 
 pub put-ranks-spec : {M : Type 1} → statement M
 put-ranks-spec =

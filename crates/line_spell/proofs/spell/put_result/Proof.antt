@@ -24,7 +24,8 @@ returns : tie.Need-returns
 returns c =
     let a = c .before .before .before .before .before .before .before .args in
     let k = c .before .before .put in
-    subst (λ (t : List ℕ). Adds (now (a .out)) (a .at) t (k .last .0) (k .result)) (sym (ap (textAt results) (c .before .before .before .before .before .if1 .taken))) (k .ensures)
+    subst (λ (t : List ℕ). Adds (now (a .out)) (a .at) t (k .last .0) (k .result))
+    (sym (ap (textAt results) (c .before .before .before .before .before .if1 .taken))) (k .ensures)
 
 slice-aggregate-put-2 : tie.Need-slice-aggregate-put-2
 slice-aggregate-put-2 c = search needs
@@ -39,7 +40,8 @@ returns-2 : tie.Need-returns-2
 returns-2 c =
     let a = c .before .before .before .before .before .before .before .before .args in
     let k = c .before .before .put2 in
-    subst (λ (t : List ℕ). Adds (now (a .out)) (a .at) t (k .last .0) (k .result)) (sym (ap (textAt results) (c .before .before .before .before .before .if2 .taken))) (k .ensures)
+    subst (λ (t : List ℕ). Adds (now (a .out)) (a .at) t (k .last .0) (k .result))
+    (sym (ap (textAt results) (c .before .before .before .before .before .if2 .taken))) (k .ensures)
 
 slice-aggregate-put-3 : tie.Need-slice-aggregate-put-3
 slice-aggregate-put-3 c = search needs
@@ -54,7 +56,8 @@ returns-3 : tie.Need-returns-3
 returns-3 c =
     let a = c .before .before .before .before .before .before .before .before .before .args in
     let k = c .before .before .put3 in
-    subst (λ (t : List ℕ). Adds (now (a .out)) (a .at) t (k .last .0) (k .result)) (sym (ap (textAt results) (c .before .before .before .before .before .if3 .taken))) (k .ensures)
+    subst (λ (t : List ℕ). Adds (now (a .out)) (a .at) t (k .last .0) (k .result))
+    (sym (ap (textAt results) (c .before .before .before .before .before .if3 .taken))) (k .ensures)
 
 slice-aggregate-put-4 : tie.Need-slice-aggregate-put-4
 slice-aggregate-put-4 c = search needs
@@ -69,7 +72,9 @@ returns-4 : tie.Need-returns-4
 returns-4 c =
     let a = c .before .before .before .before .before .before .before .before .before .args in
     let k = c .before .before .put4 in
-    subst (λ (t : List ℕ). Adds (now (a .out)) (a .at) t (k .last .0) (k .result)) (sym (no-result (a .half) (c .before .before .before .before .before .before .before .if1 .left) (c .before .before .before .before .before .before .if2 .left) (c .before .before .before .before .before .if3 .left))) (k .ensures)
+    subst (λ (t : List ℕ). Adds (now (a .out)) (a .at) t (k .last .0) (k .result))
+    (sym (no-result (a .half) (c .before .before .before .before .before .before .before .if1 .left)
+    (c .before .before .before .before .before .before .if2 .left) (c .before .before .before .before .before .if3 .left))) (k .ensures)
 
 pub put-result-spec : {M : Type 1} → statement M
 put-result-spec =

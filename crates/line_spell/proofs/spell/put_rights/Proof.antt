@@ -21,7 +21,9 @@ same-length c = search needs
 
 returns : tie.Need-returns
 returns c =
-    letters-put (c .before .before .before .before .before .before .before .put .ensures) (c .before .before .before .put-letters .ensures) (letters-length (c .before .before .before .before .before .before .before .before .before .before .before .args .rights)) (c .before .before .before .before .before .before .before .before .before .before .before .pre) (c .if1 .taken)
+    letters-put (c .before .before .before .before .before .before .before .put .ensures) (c .before .before .before .put-letters .ensures)
+    (letters-length (c .before .before .before .before .before .before .before .before .before .before .before .args .rights))
+    (c .before .before .before .before .before .before .before .before .before .before .before .pre) (c .if1 .taken)
 
 slice-aggregate-put-2 : tie.Need-slice-aggregate-put-2
 slice-aggregate-put-2 c = search needs
@@ -34,7 +36,11 @@ same-length-2 c = search needs
 
 returns-2 : tie.Need-returns-2
 returns-2 c =
-    dash-put (c .before .before .before .before .before .before .before .before .before .before .before .before .put .ensures) (c .before .before .before .before .before .before .before .before .put-letters .ensures) (letters-length (c .before .before .before .before .before .before .before .before .before .before .before .before .before .before .before .before .args .rights)) (c .before .before .before .before .before .before .before .before .before .before .before .before .before .before .before .before .pre) (c .before .before .before .before .before .if1 .left) (c .before .before .put2 .ensures)
+    dash-put (c .before .before .before .before .before .before .before .before .before .before .before .before .put .ensures)
+    (c .before .before .before .before .before .before .before .before .put-letters .ensures)
+    (letters-length (c .before .before .before .before .before .before .before .before .before .before .before .before .before .before .before
+    .before .args .rights)) (c .before .before .before .before .before .before .before .before .before .before .before .before .before .before
+    .before .before .pre) (c .before .before .before .before .before .if1 .left) (c .before .before .put2 .ensures)
 
 pub put-rights-spec : {M : Type 1} → statement M
 put-rights-spec =

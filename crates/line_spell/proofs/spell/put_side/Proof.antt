@@ -25,7 +25,8 @@ returns : tie.Need-returns
 returns c =
     let a = c .before .before .before .before .before .before .before .args in
     let k = c .before .before .put in
-    subst (λ (t : List ℕ). Adds (now (a .out)) (a .at) (space ∷ t) (k .last .0) (k .result)) (sym (ap (textAt sides) (c .before .before .before .before .before .if1 .taken))) (k .ensures)
+    subst (λ (t : List ℕ). Adds (now (a .out)) (a .at) (space ∷ t) (k .last .0) (k .result))
+    (sym (ap (textAt sides) (c .before .before .before .before .before .if1 .taken))) (k .ensures)
 
 slice-aggregate-put-2 : tie.Need-slice-aggregate-put-2
 slice-aggregate-put-2 c = search needs
@@ -40,7 +41,8 @@ returns-2 : tie.Need-returns-2
 returns-2 c =
     let a = c .before .before .before .before .before .before .before .before .args in
     let k = c .before .before .put2 in
-    subst (λ (t : List ℕ). Adds (now (a .out)) (a .at) (space ∷ t) (k .last .0) (k .result)) (sym (ap (textAt sides) (c .before .before .before .before .before .if2 .taken))) (k .ensures)
+    subst (λ (t : List ℕ). Adds (now (a .out)) (a .at) (space ∷ t) (k .last .0) (k .result))
+    (sym (ap (textAt sides) (c .before .before .before .before .before .if2 .taken))) (k .ensures)
 
 slice-aggregate-put-3 : tie.Need-slice-aggregate-put-3
 slice-aggregate-put-3 c = search needs
@@ -55,7 +57,9 @@ returns-3 : tie.Need-returns-3
 returns-3 c =
     let a = c .before .before .before .before .before .before .before .before .args in
     let k = c .before .before .put3 in
-    subst (λ (t : List ℕ). Adds (now (a .out)) (a .at) (space ∷ t) (k .last .0) (k .result)) (sym (no-side (a .side) (c .before .before .before .before .before .before .if1 .left) (c .before .before .before .before .before .if2 .left))) (k .ensures)
+    subst (λ (t : List ℕ). Adds (now (a .out)) (a .at) (space ∷ t) (k .last .0) (k .result))
+    (sym (no-side (a .side) (c .before .before .before .before .before .before .if1 .left) (c .before .before .before .before .before .if2 .left)))
+    (k .ensures)
 
 pub put-side-spec : {M : Type 1} → statement M
 put-side-spec =

@@ -37,7 +37,8 @@ loop-again c =
     let a = c .before .before .before .before .before .before .args in
     let p = c .before .before .before .before .before .before .pre in
     let l = c .before .before .before .loop in
-    turn-empty (now (a .squares)) (p .few) (now (a .line)) (l .line) (a .at) (l .end) (l .run) (l .file) (p .rest) (l .inv) (omega arith) (getD (now (a .squares)) (l .file) 0) refl (c .if1 .taken)
+    turn-empty (now (a .squares)) (p .few) (now (a .line)) (l .line) (a .at) (l .end) (l .run) (l .file) (p .rest) (l .inv) (omega arith)
+    (getD (now (a .squares)) (l .file) 0) refl (c .if1 .taken)
 
 letter-requires : tie.Need-letter-requires Inv-loop μ-loop
 letter-requires c κs = search needs
@@ -47,7 +48,8 @@ slice-write-line c =
     let a = c .before .before .before .before .before .before .before .before .args in
     let p = c .before .before .before .before .before .before .before .before .pre in
     let l = c .before .before .before .before .before .loop in
-    letter-room (now (a .squares)) (p .few) (now (a .line)) (l .line) (a .at) (l .end) (l .run) (l .file) (p .rest) (l .inv) (omega arith) (getD (now (a .squares)) (l .file) 0) refl (c .before .before .if1 .left)
+    letter-room (now (a .squares)) (p .few) (now (a .line)) (l .line) (a .at) (l .end) (l .run) (l .file) (p .rest) (l .inv) (omega arith)
+    (getD (now (a .squares)) (l .file) 0) refl (c .before .before .if1 .left)
 
 add-end : tie.Need-add-end Inv-loop μ-loop
 add-end c = search needs
@@ -60,7 +62,8 @@ loop-again-2 c =
     let a = c .before .before .before .before .before .before .before .before .args in
     let p = c .before .before .before .before .before .before .before .before .pre in
     let l = c .before .before .before .before .before .loop in
-    turn-letter (now (a .squares)) (p .few) (now (a .line)) (l .line) (a .at) (l .end) (l .run) (l .file) (p .rest) (l .inv) (omega arith) (getD (now (a .squares)) (l .file) 0) refl (c .before .before .if1 .left) (c .before .if2 .taken) (c .letter .result) (c .letter .ensures)
+    turn-letter (now (a .squares)) (p .few) (now (a .line)) (l .line) (a .at) (l .end) (l .run) (l .file) (p .rest) (l .inv) (omega arith)
+    (getD (now (a .squares)) (l .file) 0) refl (c .before .before .if1 .left) (c .before .if2 .taken) (c .letter .result) (c .letter .ensures)
 
 add-line : tie.Need-add-line Inv-loop μ-loop
 add-line c = search needs
@@ -70,7 +73,8 @@ slice-write-line-2 c =
     let a = c .before .before .before .before .before .before .before .args in
     let p = c .before .before .before .before .before .before .before .pre in
     let l = c .before .before .before .before .loop in
-    letter-room (now (a .squares)) (p .few) (now (a .line)) (l .line) (a .at) (l .end) (l .run) (l .file) (p .rest) (l .inv) (omega arith) (getD (now (a .squares)) (l .file) 0) refl (c .before .if1 .left)
+    letter-room (now (a .squares)) (p .few) (now (a .line)) (l .line) (a .at) (l .end) (l .run) (l .file) (p .rest) (l .inv) (omega arith)
+    (getD (now (a .squares)) (l .file) 0) refl (c .before .if1 .left)
 
 letter-requires-2 : tie.Need-letter-requires-2 Inv-loop μ-loop
 letter-requires-2 c κs = search needs
@@ -83,7 +87,8 @@ slice-write-line-3 c =
     let a = c .before .before .before .before .before .before .before .before .args in
     let p = c .before .before .before .before .before .before .before .before .pre in
     let l = c .before .before .before .before .before .loop in
-    both-room′ (now (a .squares)) (p .few) (now (a .line)) (l .line) (a .at) (l .end) (l .run) (l .file) (p .rest) (l .inv) (omega arith) (getD (now (a .squares)) (l .file) 0) refl (c .before .before .if1 .left) (c .before .if2 .left)
+    both-room′ (now (a .squares)) (p .few) (now (a .line)) (l .line) (a .at) (l .end) (l .run) (l .file) (p .rest) (l .inv) (omega arith)
+    (getD (now (a .squares)) (l .file) 0) refl (c .before .before .if1 .left) (c .before .if2 .left)
 
 add-end-2 : tie.Need-add-end-2 Inv-loop μ-loop
 add-end-2 c = search needs
@@ -96,7 +101,8 @@ loop-again-3 c =
     let a = c .before .before .before .before .before .before .before .before .args in
     let p = c .before .before .before .before .before .before .before .before .pre in
     let l = c .before .before .before .before .before .loop in
-    turn-both (now (a .squares)) (p .few) (now (a .line)) (l .line) (a .at) (l .end) (l .run) (l .file) (p .rest) (l .inv) (omega arith) (getD (now (a .squares)) (l .file) 0) refl (c .before .before .if1 .left) (c .before .if2 .left) (c .letter2 .result) (c .letter2 .ensures)
+    turn-both (now (a .squares)) (p .few) (now (a .line)) (l .line) (a .at) (l .end) (l .run) (l .file) (p .rest) (l .inv) (omega arith)
+    (getD (now (a .squares)) (l .file) 0) refl (c .before .before .if1 .left) (c .before .if2 .left) (c .letter2 .result) (c .letter2 .ensures)
 
 same-length : tie.Need-same-length Inv-loop μ-loop
 same-length c = c .before .before .loop .inv .size

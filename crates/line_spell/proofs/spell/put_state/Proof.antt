@@ -12,7 +12,8 @@ put-side-requires c κs = search needs
 
 put-rights-requires : tie.Need-put-rights-requires
 put-rights-requires c κs =
-    room-behind (c .before .before .before .put-side .ensures) 5 (omega (arith, c .before .before .before .before .before .before .pre, side-length (c .before .before .before .before .before .before .args .state .side)))
+    room-behind (c .before .before .before .put-side .ensures) 5 (omega
+    (arith, c .before .before .before .before .before .before .pre, side-length (c .before .before .before .before .before .before .args .state .side)))
 
 put-passant-requires : tie.Need-put-passant-requires
 put-passant-requires c κs = search needs
@@ -20,7 +21,12 @@ put-passant-requires c κs = search needs
 put-counters-requires : tie.Need-put-counters-requires
 put-counters-requires c κs =
     let s = c .before .before .before .before .before .before .before .before .before .before .before .before .before .before .args .state in
-    let one = room-behind (c .before .before .before .before .before .before .before .before .before .before .before .put-side .ensures) 18 (omega (arith, c .before .before .before .before .before .before .before .before .before .before .before .before .before .before .pre, side-length (s .side))) in
+    let one = room-behind (c .before .before .before .before .before .before .before .before .before .before .before .put-side .ensures) 18
+    (omega (
+      arith,
+      c .before .before .before .before .before .before .before .before .before .before .before .before .before .before .pre,
+      side-length (s .side),
+    )) in
     let two = room-behind (c .before .before .before .before .before .before .before .put-rights .ensures) 13 (omega (arith, one, rights-length (s .rights))) in
     room-behind (c .before .before .before .put-passant .ensures) 10 (omega (arith, two, passant-length (s .passant)))
 
@@ -29,9 +35,20 @@ same-length c = search needs
 
 returns : tie.Need-returns
 returns c =
-    let s = c .before .before .before .before .before .before .before .before .before .before .before .before .before .before .before .before .before .args .state in
-    adds-4 (c .before .before .before .before .before .before .before .before .before .before .before .before .before .before .put-side .ensures) (c .before .before .before .before .before .before .before .before .before .before .put-rights .ensures) (c .before .before .before .before .before .before .put-passant .ensures) (c .before .before .put-counters .ensures)
-    (omega (arith, c .before .before .before .before .before .before .before .before .before .before .before .before .before .before .before .before .before .pre, side-length (s .side), rights-length (s .rights), passant-length (s .passant), counters-length (s .halfmoves) (s .moves)))
+    let s = c .before .before .before .before .before .before .before .before .before .before .before .before .before .before .before .before .before
+    .args .state in
+    adds-4 (c .before .before .before .before .before .before .before .before .before .before .before .before .before .before .put-side .ensures)
+    (c .before .before .before .before .before .before .before .before .before .before .put-rights .ensures)
+    (c .before .before .before .before .before .before .put-passant .ensures) (c .before .before .put-counters .ensures)
+    (omega (
+      arith,
+      c .before .before .before .before .before .before .before .before .before .before .before .before .before .before .before .before
+          .before .pre,
+      side-length (s .side),
+      rights-length (s .rights),
+      passant-length (s .passant),
+      counters-length (s .halfmoves) (s .moves),
+    ))
 
 pub put-state-spec : {M : Type 1} → statement M
 put-state-spec =

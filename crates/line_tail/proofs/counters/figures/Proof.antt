@@ -28,7 +28,8 @@ returns c =
 returns-2 : tie.Need-returns-2 Inv-loop μ-loop
 returns-2 c =
     let l = c .before .before .before .before .loop in
-    read-stop (c .before .before .before .before .before .before .args .s .now) (l .n) (l .i) (l .inv) (search needs) (high-figure _ (c .before .if1 .left) (c .if2 .taken))
+    read-stop (c .before .before .before .before .before .before .args .s .now) (l .n) (l .i) (l .inv) (search needs)
+    (high-figure _ (c .before .if1 .left) (c .if2 .taken))
 
 mul-n : tie.Need-mul-n Inv-loop μ-loop
 mul-n c =
@@ -52,7 +53,8 @@ loop-less c = omega arith
 loop-again : tie.Need-loop-again Inv-loop μ-loop
 loop-again c =
     let l = c .before .before .before .before .before .loop in
-    read-more (c .before .before .before .before .before .before .before .args .s .now) (l .n) (l .i) (l .inv) (search needs) (c .before .before .if1 .left) (c .before .if2 .left) _ (ap (λ (d : ℕ). 10 * l .n + d) (c .wide .ensures))
+    read-more (c .before .before .before .before .before .before .before .args .s .now) (l .n) (l .i) (l .inv) (search needs)
+    (c .before .before .if1 .left) (c .before .if2 .left) _ (ap (λ (d : ℕ). 10 * l .n + d) (c .wide .ensures))
 
 returns-3 : tie.Need-returns-3 Inv-loop μ-loop
 returns-3 c =

@@ -38,7 +38,8 @@ returns-3 c =
     let e = h .before in
     let t = e .before .before in
     let a = t .before .before .before .before .args in
-    six-fields (now (a .halfmoves)) (now (a .moves)) (now (a .more)) (t .both-given .result) (t .both-given .ensures) (not-false _ (e .before .if1 .left)) (e .if2 .left)
+    six-fields (now (a .halfmoves)) (now (a .moves)) (now (a .more)) (t .both-given .result) (t .both-given .ensures)
+    (not-false _ (e .before .if1 .left)) (e .if2 .left)
     (h .counter-or .result) (m .counter-or2 .result) (h .counter-or .ensures) (m .counter-or2 .ensures) (c .counters-fit .result) (c .counters-fit .ensures)
 
 pub fields-fit-spec : {M : Type 1} → statement M

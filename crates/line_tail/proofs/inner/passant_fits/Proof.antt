@@ -26,7 +26,8 @@ returns-2 c =
     let p = c .before in
     let t = p .before .before in
     let a = t .before .before .before .before .args in
-    four-fields (now (a .board)) (a .side) (now (a .rights)) (now (a .word)) (t .both-given .result) (t .both-given .ensures) (not-false _ (p .before .if1 .left))
+    four-fields (now (a .board)) (a .side) (now (a .rights)) (now (a .word)) (t .both-given .result) (t .both-given .ensures)
+    (not-false _ (p .before .if1 .left))
     (p .passant .result) (p .passant .ensures) (c .just-passed .result) (c .just-passed .ensures)
 
 pub passant-fits-spec : {M : Type 1} → statement M

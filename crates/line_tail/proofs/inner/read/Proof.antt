@@ -62,5 +62,6 @@ pub read-spec : {M : Type 1} → statement M
 read-spec =
     tie.close
     (tie.spec
-    rest-requires rest-requires-2 rest-requires-3 rest-requires-4 first-requires first-requires-2 first-requires-3 first-requires-4 rest-requires-5 first-requires-5
+    rest-requires rest-requires-2 rest-requires-3 rest-requires-4 first-requires first-requires-2 first-requires-3 first-requires-4 rest-requires-5
+    first-requires-5
     read-words-requires returns)

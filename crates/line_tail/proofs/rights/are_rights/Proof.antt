@@ -31,7 +31,8 @@ returns-2 c =
     let k = c .before in
     let w = k .before .before in
     let i = w .before .before in
-    letters-left (now (i .before .before .before .args .s)) (now (w .taken-off .result)) (now (k .before .taken-off2 .result)) (now (k .taken-off3 .result)) (w .taken-off .ensures) (k .before .taken-off2 .ensures) (k .taken-off3 .ensures)
+    letters-left (now (i .before .before .before .args .s)) (now (w .taken-off .result)) (now (k .before .taken-off2 .result))
+    (now (k .taken-off3 .result)) (w .taken-off .ensures) (k .before .taken-off2 .ensures) (k .taken-off3 .ensures)
     (i .is .result) (i .is .ensures) (w .before .if1 .left) (now (c .taken-off4 .result)) (c .taken-off4 .ensures)
 
 pub are-rights-spec : {M : Type 1} → statement M

@@ -30,11 +30,14 @@ returns : tie.Need-returns
 returns c =
     let k = c .before .before .before .before in
     let w = k .before .before in
-    rights-are (now (w .before .before .args .s)) (now (w .taken-off .result)) (now (k .before .taken-off2 .result)) (now (k .taken-off3 .result)) (w .taken-off .ensures) (k .before .taken-off2 .ensures) (k .taken-off3 .ensures)
-    _ _ _ _ (c .before .before .before .starts-with .ensures) (c .before .before .starts-with2 .ensures) (c .before .starts-with3 .ensures) (c .starts-with4 .ensures)
+    rights-are (now (w .before .before .args .s)) (now (w .taken-off .result)) (now (k .before .taken-off2 .result)) (now (k .taken-off3 .result))
+    (w .taken-off .ensures) (k .before .taken-off2 .ensures) (k .taken-off3 .ensures)
+    _ _ _ _ (c .before .before .before .starts-with .ensures) (c .before .before .starts-with2 .ensures) (c .before .starts-with3 .ensures)
+    (c .starts-with4 .ensures)
 
 pub rights-spec : {M : Type 1} → statement M
 rights-spec =
     tie.close
     (tie.spec
-    taken-off-requires taken-off-requires-2 taken-off-requires-3 starts-with-requires starts-with-requires-2 starts-with-requires-3 starts-with-requires-4 returns)
+    taken-off-requires taken-off-requires-2 taken-off-requires-3 starts-with-requires starts-with-requires-2 starts-with-requires-3
+    starts-with-requires-4 returns)

@@ -29,7 +29,8 @@ returns-3 c =
     let s = c .before .before in
     let a = s .before .before .before .args in
     c .stands2 .ensures
-    ∙ king-there (a .board .now) (a .right) (a .at) (a .king) (a .corner) (a .rook) (not-false _ (s .before .if1 .left)) (s .stands .result) (s .stands .ensures)
+    ∙ king-there (a .board .now) (a .right) (a .at) (a .king) (a .corner) (a .rook) (not-false _ (s .before .if1 .left)) (s .stands .result)
+    (s .stands .ensures)
     (not-false _ (c .before .if2 .left))
 
 pub home-spec : {M : Type 1} → statement M

@@ -82,4 +82,5 @@ pub just-passed-spec : {M : Type 1} → statement M
 just-passed-spec =
     tie.close
     (tie.spec
-    enum-known-passant enum-told returns stands-requires returns-2 returns-3 sub-stands stands-requires-2 returns-4 returns-5 add-stands stands-requires-3 returns-6)
+    enum-known-passant enum-told returns stands-requires returns-2 returns-3 sub-stands stands-requires-2 returns-4 returns-5 add-stands
+    stands-requires-3 returns-6)

@@ -13,7 +13,8 @@ standing-requires-2 c κs = search needs
 returns : tie.Need-returns
 returns c =
     let w = c .before in
-    strays (w .before .before .args .bitboards .now) (w .standing .result) (c .standing2 .result) (w .standing .ok) (c .standing2 .ok) (w .standing .ensures) (c .standing2 .ensures)
+    strays (w .before .before .args .bitboards .now) (w .standing .result) (c .standing2 .result) (w .standing .ok) (c .standing2 .ok)
+    (w .standing .ensures) (c .standing2 .ensures)
 
 pub at-ends-spec : {M : Type 1} → statement M
 at-ends-spec = tie.close (tie.spec standing-requires standing-requires-2 returns)

@@ -18,7 +18,8 @@ returns c =
     let n = c .before in
     let b = n .before in
     let bbs = b .before .before .args .bitboards .now in
-    not-white (fewPieces bbs) (sym (few-pieces bbs 0 (n .count .result) (b .at .result) (n .count .ensures) (b .at .ensures)) ∙ lt-leb (n .count .result) 16 (c .if1 .taken))
+    not-white (fewPieces bbs) (sym (few-pieces bbs 0 (n .count .result) (b .at .result) (n .count .ensures) (b .at .ensures))
+    ∙ lt-leb (n .count .result) 16 (c .if1 .taken))
 
 at-requires-2 : tie.Need-at-requires-2
 at-requires-2 c κs = search needs
@@ -33,7 +34,8 @@ returns-2 c =
     let n = e .before in
     let b = n .before in
     let bbs = b .before .before .args .bitboards .now in
-    then-black (fewPieces bbs) (sym (few-pieces bbs 0 (n .count .result) (b .at .result) (n .count .ensures) (b .at .ensures)) ∙ le-leb (n .count .result) 16 (e .if1 .left))
+    then-black (fewPieces bbs) (sym (few-pieces bbs 0 (n .count .result) (b .at .result) (n .count .ensures) (b .at .ensures))
+    ∙ le-leb (n .count .result) 16 (e .if1 .left))
     _ (few-pieces bbs 1 (c .count2 .result) (d .at2 .result) (c .count2 .ensures) (d .at2 .ensures))
 
 pub few-pieces-spec : {M : Type 1} → statement M

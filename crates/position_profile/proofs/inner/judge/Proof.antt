@@ -15,7 +15,8 @@ returns : tie.Need-returns
 returns c =
     let k1 = c .before in
     let a = k1 .before .before .args in
-    broken-kings (a .bitboards .now) (a .state) (given tt) (fails (k1 .one-king .result) (ofBoth (oneKing (a .bitboards .now))) (k1 .one-king .ensures) (c .if1 .taken))
+    broken-kings (a .bitboards .now) (a .state) (given tt) (fails (k1 .one-king .result) (ofBoth (oneKing (a .bitboards .now))) (k1 .one-king .ensures)
+    (c .if1 .taken))
 
 few-pawns-requires : tie.Need-few-pawns-requires
 few-pawns-requires c κs = search needs
@@ -26,7 +27,8 @@ returns-2 c =
     let e1 = k2 .before in
     let k1 = e1 .before in
     let a = k1 .before .before .args in
-    broken-pawns (a .bitboards .now) (a .state) (given tt) (holds (k1 .one-king .result) (ofBoth (oneKing (a .bitboards .now))) (k1 .one-king .ensures) (e1 .if1 .left)) (fails (k2 .few-pawns .result) (ofBoth (fewPawns (a .bitboards .now))) (k2 .few-pawns .ensures) (c .if2 .taken))
+    broken-pawns (a .bitboards .now) (a .state) (given tt) (holds (k1 .one-king .result) (ofBoth (oneKing (a .bitboards .now))) (k1 .one-king .ensures)
+    (e1 .if1 .left)) (fails (k2 .few-pawns .result) (ofBoth (fewPawns (a .bitboards .now))) (k2 .few-pawns .ensures) (c .if2 .taken))
 
 few-pieces-requires : tie.Need-few-pieces-requires
 few-pieces-requires c κs = search needs
@@ -39,7 +41,8 @@ returns-3 c =
     let e1 = k2 .before in
     let k1 = e1 .before in
     let a = k1 .before .before .args in
-    broken-pieces (a .bitboards .now) (a .state) (given tt) (holds (k1 .one-king .result) (ofBoth (oneKing (a .bitboards .now))) (k1 .one-king .ensures) (e1 .if1 .left)) (holds (k2 .few-pawns .result) (ofBoth (fewPawns (a .bitboards .now))) (k2 .few-pawns .ensures) (e2 .if2 .left))
+    broken-pieces (a .bitboards .now) (a .state) (given tt) (holds (k1 .one-king .result) (ofBoth (oneKing (a .bitboards .now)))
+    (k1 .one-king .ensures) (e1 .if1 .left)) (holds (k2 .few-pawns .result) (ofBoth (fewPawns (a .bitboards .now))) (k2 .few-pawns .ensures) (e2 .if2 .left))
     (fails (k3 .few-pieces .result) (ofBoth (fewPieces (a .bitboards .now))) (k3 .few-pieces .ensures) (c .if3 .taken))
 
 at-ends-requires : tie.Need-at-ends-requires
@@ -63,7 +66,9 @@ returns-4 c =
     let e1 = k2 .before in
     let k1 = e1 .before in
     let a = k1 .before .before .args in
-    broken-rank (a .bitboards .now) (a .state) (given tt) (holds (k1 .one-king .result) (ofBoth (oneKing (a .bitboards .now))) (k1 .one-king .ensures) (e1 .if1 .left)) (holds (k2 .few-pawns .result) (ofBoth (fewPawns (a .bitboards .now))) (k2 .few-pawns .ensures) (e2 .if2 .left)) (holds (k3 .few-pieces .result) (ofBoth (fewPieces (a .bitboards .now))) (k3 .few-pieces .ensures) (e3 .if3 .left))
+    broken-rank (a .bitboards .now) (a .state) (given tt) (holds (k1 .one-king .result) (ofBoth (oneKing (a .bitboards .now))) (k1 .one-king .ensures)
+    (e1 .if1 .left)) (holds (k2 .few-pawns .result) (ofBoth (fewPawns (a .bitboards .now))) (k2 .few-pawns .ensures) (e2 .if2 .left))
+    (holds (k3 .few-pieces .result) (ofBoth (fewPieces (a .bitboards .now))) (k3 .few-pieces .ensures) (e3 .if3 .left))
     (r .at-ends .result) (sc .scan .result) (r .at-ends .ensures) (t4 .if4 .taken) (sc .scan .ensures)
 
 other-requires : tie.Need-other-requires
@@ -97,7 +102,9 @@ returns-5 c =
     let e1 = k2 .before in
     let k1 = e1 .before in
     let a = k1 .before .before .args in
-    broken-check (a .bitboards .now) (a .state) (given tt) (holds (k1 .one-king .result) (ofBoth (oneKing (a .bitboards .now))) (k1 .one-king .ensures) (e1 .if1 .left)) (holds (k2 .few-pawns .result) (ofBoth (fewPawns (a .bitboards .now))) (k2 .few-pawns .ensures) (e2 .if2 .left)) (holds (k3 .few-pieces .result) (ofBoth (fewPieces (a .bitboards .now))) (k3 .few-pieces .ensures) (e3 .if3 .left))
+    broken-check (a .bitboards .now) (a .state) (given tt) (holds (k1 .one-king .result) (ofBoth (oneKing (a .bitboards .now))) (k1 .one-king .ensures)
+    (e1 .if1 .left)) (holds (k2 .few-pawns .result) (ofBoth (fewPawns (a .bitboards .now))) (k2 .few-pawns .ensures) (e2 .if2 .left))
+    (holds (k3 .few-pieces .result) (ofBoth (fewPieces (a .bitboards .now))) (k3 .few-pieces .ensures) (e3 .if3 .left))
     (r .at-ends .result) (r .at-ends .ensures) (e4 .if4 .left) (o .other .result) (o .other .ensures) (i .is-check .result) (i .is-check .ensures)
     (t5 .if5 .taken) (s .standing .result) (sc .scan2 .result) (s .standing .ensures) (sc .scan2 .ensures)
 
@@ -114,8 +121,11 @@ returns-6 c =
     let e1 = k2 .before in
     let k1 = e1 .before in
     let a = k1 .before .before .args in
-    none-broken (a .bitboards .now) (a .state) (given tt) (holds (k1 .one-king .result) (ofBoth (oneKing (a .bitboards .now))) (k1 .one-king .ensures) (e1 .if1 .left)) (holds (k2 .few-pawns .result) (ofBoth (fewPawns (a .bitboards .now))) (k2 .few-pawns .ensures) (e2 .if2 .left)) (holds (k3 .few-pieces .result) (ofBoth (fewPieces (a .bitboards .now))) (k3 .few-pieces .ensures) (e3 .if3 .left))
-    (r .at-ends .result) (r .at-ends .ensures) (e4 .if4 .left) (o .other .result) (o .other .ensures) (i .is-check .result) (i .is-check .ensures) (c .if5 .left)
+    none-broken (a .bitboards .now) (a .state) (given tt) (holds (k1 .one-king .result) (ofBoth (oneKing (a .bitboards .now))) (k1 .one-king .ensures)
+    (e1 .if1 .left)) (holds (k2 .few-pawns .result) (ofBoth (fewPawns (a .bitboards .now))) (k2 .few-pawns .ensures) (e2 .if2 .left))
+    (holds (k3 .few-pieces .result) (ofBoth (fewPieces (a .bitboards .now))) (k3 .few-pieces .ensures) (e3 .if3 .left))
+    (r .at-ends .result) (r .at-ends .ensures) (e4 .if4 .left) (o .other .result) (o .other .ensures) (i .is-check .result) (i .is-check .ensures)
+    (c .if5 .left)
 
 pub judge-spec : {M : Type 1} → statement M
 judge-spec =

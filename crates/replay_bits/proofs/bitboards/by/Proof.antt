@@ -27,7 +27,8 @@ cast-result-2 : tie.Need-cast-result-2
 cast-result-2 c = search needs
 
 less : (k : ℕ) → k ≤ 63 → SFits w8 (pos k -ℤ pos 64)
-less k h = fits-abs 64 tt (diff-abs (pos k -ℤ pos 64) (k + 0) (0 + 64) 64 (diff-minus (pos k) (pos 64) k 0 64 0 (diff-pos k) (diff-pos 64)) (omega arith) (omega arith))
+less k h = fits-abs 64 tt (diff-abs (pos k -ℤ pos 64) (k + 0) (0 + 64) 64 (diff-minus (pos k) (pos 64) k 0 64 0 (diff-pos k) (diff-pos 64))
+    (omega arith) (omega arith))
 
 sub-result-2 : tie.Need-sub-result-2
 sub-result-2 c =

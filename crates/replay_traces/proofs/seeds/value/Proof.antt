@@ -27,7 +27,8 @@ cast-result-2 : tie.Need-cast-result-2
 cast-result-2 c = search needs
 
 less : (k : ℕ) → k ≤ 1999 → SFits w32 (pos k -ℤ pos 2000)
-less k h = fits-abs 2000 tt (diff-abs (pos k -ℤ pos 2000) (k + 0) (0 + 2000) 2000 (diff-minus (pos k) (pos 2000) k 0 2000 0 (diff-pos k) (diff-pos 2000)) (omega arith) (omega arith))
+less k h = fits-abs 2000 tt (diff-abs (pos k -ℤ pos 2000) (k + 0) (0 + 2000) 2000
+    (diff-minus (pos k) (pos 2000) k 0 2000 0 (diff-pos k) (diff-pos 2000)) (omega arith) (omega arith))
 
 sub-result-2 : tie.Need-sub-result-2
 sub-result-2 c =

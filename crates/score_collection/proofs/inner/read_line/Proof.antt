@@ -37,7 +37,8 @@ returns c =
     let a = c .before .before .before .before .before .args in
     let r = c .before .before .before .read in
     c .refused .ensures
-    ∙ line-refused (now (a .expected)) (a .sum) (now (a .line)) (a .size) (r .result) (r .ensures) (c .before .enum-told .given .0 .0) (c .before .enum-told .given .1)
+    ∙ line-refused (now (a .expected)) (a .sum) (now (a .line)) (a .size) (r .result) (r .ensures) (c .before .enum-told .given .0 .0)
+    (c .before .enum-told .given .1)
 
 returns-2 : tie.Need-returns-2
 returns-2 c =

@@ -36,7 +36,8 @@ loop-less c =
     let a = c .before .before .before .before .before .before .before .before .before .before .before .before .before .args in
     let l = c .before .before .before .before .before .before .before .before .loop in
     let n = c .before .before .before .before .before .next in
-    let h = turn-less (closeWith (now (a .expected))) _ _ (now (a .chunk)) (l .line) (l .begun) (l .sum) (l .at) (l .inv) (omega arith) (n .result) (n .last .1 .0) (n .ensures) in
+    let h = turn-less (closeWith (now (a .expected))) _ _ (now (a .chunk)) (l .line) (l .begun) (l .sum) (l .at) (l .inv) (omega arith) (n .result)
+    (n .last .1 .0) (n .ensures) in
     omega (arith, h)
 
 loop-again : tie.Need-loop-again Inv-loop μ-loop
@@ -44,7 +45,8 @@ loop-again c =
     let a = c .before .before .before .before .before .before .before .before .before .before .before .before .before .args in
     let l = c .before .before .before .before .before .before .before .before .loop in
     let n = c .before .before .before .before .before .next in
-    turn-next (closeWith (now (a .expected))) _ _ (now (a .chunk)) (l .line) (l .begun) (l .sum) (l .at) (l .inv) (omega arith) (n .result) (n .last .1 .0) (n .ensures)
+    turn-next (closeWith (now (a .expected))) _ _ (now (a .chunk)) (l .line) (l .begun) (l .sum) (l .at) (l .inv) (omega arith) (n .result)
+    (n .last .1 .0) (n .ensures)
     (c .counted .result) (c .counted .ensures)
 
 same-length : tie.Need-same-length Inv-loop μ-loop

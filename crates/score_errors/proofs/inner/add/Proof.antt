@@ -52,7 +52,8 @@ scored-requires c κs = search needs
 -- the squared distance, call by call
 summed : (c : tie.After-square)
     → c .square .result
-    ≡ squareWith (c .before .before .before .before .before .before .before .before .args .table .now) (c .before .before .before .before .before .before .before .before .args .side)
+    ≡ squareWith (c .before .before .before .before .before .before .before .before .args .table .now)
+    (c .before .before .before .before .before .before .before .before .args .side)
     (c .before .before .before .before .answer .given .0 .0) (c .before .before .before .before .before .before .before .before .args .half)
 summed c =
     let a = c .before .before .before .before .before .before .before .before .args in
@@ -61,7 +62,8 @@ summed c =
     let f : SFits w16 z = record { sfits = k .known-told .given .0 .1 } in
     c .square .ensures
     ∙ ap (errorSquare (a .half))
-    (c .before .entry .ensures ∙ ap (entryIn (a .table .now)) (held-is (sfits-of (c .before .before .turned .ok)) (c .before .before .turned .ensures ∙ ap (turnedForBlack (a .side)) (held-is f refl))))
+    (c .before .entry .ensures ∙ ap (entryIn (a .table .now)) (held-is (sfits-of (c .before .before .turned .ok))
+    (c .before .before .turned .ensures ∙ ap (turnedForBlack (a .side)) (held-is f refl))))
 
 returns-4 : tie.Need-returns-4
 returns-4 c =

@@ -15,7 +15,8 @@ distance-requires c κs = search needs
 mul-result : tie.Need-mul-result
 mul-result c =
     square-fits (c .distance .result)
-    (subst (λ (n : ℕ). n ≤ 4294967295) (sym (c .distance .ensures)) (near (c .before .args .half) (c .before .args .expected) (c .before .fits .half .fits) (c .before .fits .expected .fits)))
+    (subst (λ (n : ℕ). n ≤ 4294967295) (sym (c .distance .ensures)) (near (c .before .args .half) (c .before .args .expected)
+    (c .before .fits .half .fits) (c .before .fits .expected .fits)))
 
 returns : tie.Need-returns
 returns c = ap (λ (n : ℕ). n * n) (c .distance .ensures)

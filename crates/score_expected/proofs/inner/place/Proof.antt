@@ -27,8 +27,10 @@ div-result c = (omega arith, quot-fits (c .before .before .args .score) (c .befo
 
 cast-result : tie.Need-cast-result
 cast-result c =
-    let z = c .before .before .args .score in
-    (not-negative z (c .before .before .fits .score) (c .before .if1 .left) (c .if2 .left), place-fits z (c .before .before .fits .score) (c .before .if1 .left) (c .if2 .left))
+    let z = c .before .before .args .score in (
+      not-negative z (c .before .before .fits .score) (c .before .if1 .left) (c .if2 .left),
+      place-fits z (c .before .before .fits .score) (c .before .if1 .left) (c .if2 .left),
+    )
 
 returns-3 : tie.Need-returns-3
 returns-3 c = at-between (c .before .before .args .score) (c .before .before .fits .score) (c .before .if1 .left) (c .if2 .left)

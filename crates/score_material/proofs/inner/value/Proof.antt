@@ -10,7 +10,8 @@ use Rattle.score_material.proofs.Constants.{place-lt, value-is, worth-l
 use Rattle.score_material.proofs.inner.value.Statement.{statement}
 use Rattle.score_material.proofs.inner.value.Tie as tie
 
-is : (c : tie.After-index) → c .before .before .args .n * getD pieceValues (c .index .result) 0 ≡ c .before .before .args .n * valueOf (c .before .before .args .kind)
+is : (c : tie.After-index) → c .before .before .args .n * getD pieceValues (c .index .result) 0 ≡ c .before .before .args .n
+    * valueOf (c .before .before .args .kind)
 is c =
     let a = c .before .before .args in
     ap (λ (x : ℕ). a .n * x) (value-is (a .kind) (c .before .white .result) (c .index .result) (c .before .white .ensures) (c .index .ensures))

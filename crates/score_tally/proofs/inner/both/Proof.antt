@@ -58,8 +58,10 @@ returns : tie.Need-returns
 returns c =
     let s = c .before .before .before in
     let r = s .before in
-    pair _ _ _ _ (same _ 0 _ _ _ _ _ _ (s .side .ensures) (toZ-ofZ {w = w32} (record { sfits = r .before .side-arg .given })) (toZ-ofZ {w = w32} (record { sfits = r .side-arg2 .given })))
-    (same _ 1 _ _ _ _ _ _ (c .side2 .ensures) (toZ-ofZ {w = w32} (record { sfits = c .before .before .side-arg3 .given })) (toZ-ofZ {w = w32} (record { sfits = c .before .side-arg4 .given })))
+    pair _ _ _ _ (same _ 0 _ _ _ _ _ _ (s .side .ensures) (toZ-ofZ {w = w32} (record { sfits = r .before .side-arg .given }))
+    (toZ-ofZ {w = w32} (record { sfits = r .side-arg2 .given })))
+    (same _ 1 _ _ _ _ _ _ (c .side2 .ensures) (toZ-ofZ {w = w32} (record { sfits = c .before .before .side-arg3 .given }))
+    (toZ-ofZ {w = w32} (record { sfits = c .before .side-arg4 .given })))
 
 pub both-spec : {M : Type 1} → statement M
 both-spec =

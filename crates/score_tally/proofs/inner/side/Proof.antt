@@ -11,7 +11,8 @@ use Rattle.score_material.proofs.Pieces.{worth-small, pair-small, material-of}
 use Rattle.score_tally.proofs.inner.side.Statement.{statement}
 use Rattle.score_tally.proofs.inner.side.Tie as tie
 
-same : (o p e q : ℤ) (w v m : ℕ) → o ≡ p → e ≡ q → w ≡ v → _≡_ {A = Side} (record { opening = o; ending = e; material = w; mobility = m }) (record { opening = p; ending = q; material = v; mobility = m })
+same : (o p e q : ℤ) (w v m : ℕ) → o ≡ p → e ≡ q → w ≡ v → _≡_ {A = Side} (record { opening = o; ending = e; material = w; mobility = m })
+    (record { opening = p; ending = q; material = v; mobility = m })
 same o p e q w v m h i j = cc
 
 material-requires : tie.Need-material-requires
@@ -23,7 +24,15 @@ pair-requires c κs = search needs
 add-t8 : tie.Need-add-t8
 add-t8 c =
     let a = c .before .before .before .args in
-    record { fits = omega (arith, c .pair .ensures, c .before .material .ensures, worth-small (a .bitboards .now) (a .color), pair-small (a .bitboards .now) (a .color)) }
+    record {
+      fits = omega (
+        arith,
+        c .pair .ensures,
+        c .before .material .ensures,
+        worth-small (a .bitboards .now) (a .color),
+        pair-small (a .bitboards .now) (a .color),
+      );
+    }
 
 returns : tie.Need-returns
 returns c =

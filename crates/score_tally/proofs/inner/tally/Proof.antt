@@ -105,10 +105,14 @@ returns c =
     let o = occ .occupied .result in
     c .both .ensures
     ∙ both-are bbs _ _ _ _ _ _
-    (first-is (o1 .opening .result) (sfits-of (o1 .opening .ok)) ∙ o1 .opening .ensures ∙ ap (λ (x : ColorSums). openingIn (x .words)) (white .ensures) ∙ opening-sum bbs 0 (omega arith))
-    (first-is (e1 .ending .result) (sfits-of (e1 .ending .ok)) ∙ e1 .ending .ensures ∙ ap (λ (x : ColorSums). endingIn (x .words)) (white .ensures) ∙ ending-sum bbs 0 (omega arith))
-    (first-is (o2 .opening2 .result) (sfits-of (o2 .opening2 .ok)) ∙ o2 .opening2 .ensures ∙ ap (λ (x : ColorSums). openingIn (x .words)) (black .ensures) ∙ opening-sum bbs 1 (omega arith))
-    (first-is (e2 .ending2 .result) (sfits-of (e2 .ending2 .ok)) ∙ e2 .ending2 .ensures ∙ ap (λ (x : ColorSums). endingIn (x .words)) (black .ensures) ∙ ending-sum bbs 1 (omega arith))
+    (first-is (o1 .opening .result) (sfits-of (o1 .opening .ok)) ∙ o1 .opening .ensures ∙ ap (λ (x : ColorSums). openingIn (x .words)) (white .ensures)
+    ∙ opening-sum bbs 0 (omega arith))
+    (first-is (e1 .ending .result) (sfits-of (e1 .ending .ok)) ∙ e1 .ending .ensures ∙ ap (λ (x : ColorSums). endingIn (x .words)) (white .ensures)
+    ∙ ending-sum bbs 0 (omega arith))
+    (first-is (o2 .opening2 .result) (sfits-of (o2 .opening2 .ok)) ∙ o2 .opening2 .ensures
+    ∙ ap (λ (x : ColorSums). openingIn (x .words)) (black .ensures) ∙ opening-sum bbs 1 (omega arith))
+    (first-is (e2 .ending2 .result) (sfits-of (e2 .ending2 .ok)) ∙ e2 .ending2 .ensures ∙ ap (λ (x : ColorSums). endingIn (x .words)) (black .ensures)
+    ∙ ending-sum bbs 1 (omega arith))
     (ap (λ (x : ColorSums). x .mobility) (white .ensures) ∙ moved-sum bbs 0 o (occ .occupied .ensures))
     (ap (λ (x : ColorSums). x .mobility) (black .ensures) ∙ moved-sum bbs 1 o (occ .occupied .ensures))
 

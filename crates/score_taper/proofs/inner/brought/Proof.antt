@@ -29,14 +29,16 @@ divided-requires c κs = search needs
 
 -- the two products as they are handed on
 opening-is : (c : tie.After-product)
-    → held w64 (c .product .result) ≡ openingProduct (c .before .before .before .before .before .before .args .side .opening) (c .before .before .before .before .before .before .args .x)
+    → held w64 (c .product .result) ≡ openingProduct (c .before .before .before .before .before .before .args .side .opening)
+    (c .before .before .before .before .before .before .args .x)
 opening-is c =
     let a = c .before .before .before .before .before .before .args in
     let f : SFits w32 (a .side .opening) = record { sfits = c .before .struct-told .given .0 .1 } in
     held-is {w = w64} (sfits-of (c .product .ok)) (c .product .ensures ∙ ap (λ (y : ℤ). openingProduct y (a .x)) (toZ-ofZ {w = w32} f))
 
 ending-is : (c : tie.After-product2)
-    → held w64 (c .product2 .result) ≡ endingProduct (c .before .before .before .before .before .before .before .before .args .side .ending) (c .before .before .before .before .before .before .before .before .args .x)
+    → held w64 (c .product2 .result) ≡ endingProduct (c .before .before .before .before .before .before .before .before .args .side .ending)
+    (c .before .before .before .before .before .before .before .before .args .x)
 ending-is c =
     let a = c .before .before .before .before .before .before .before .before .args in
     let f : SFits w32 (a .side .ending) = record { sfits = c .before .struct-told2 .given .1 .0 .1 } in

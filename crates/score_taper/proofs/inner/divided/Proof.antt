@@ -52,7 +52,8 @@ returns-2 c =
 add-sum : tie.Need-add-sum
 add-sum c =
     let s = c .before .before .before .before in
-    plus-fits _ (s .args .opening) (s .args .ending) 32768 32768 (opening-held s) (short-abs (s .args .opening) (yes-opening (c .before .before))) (short-abs (s .args .ending) (yes-ending c)) (omega arith)
+    plus-fits _ (s .args .opening) (s .args .ending) 32768 32768 (opening-held s) (short-abs (s .args .opening) (yes-opening (c .before .before)))
+    (short-abs (s .args .ending) (yes-ending c)) (omega arith)
 
 short-requires-3 : tie.Need-short-requires-3
 short-requires-3 c κs = search needs
@@ -62,7 +63,8 @@ sum-held : (c : tie.Else2)
     ≡ c .before .before .before .before .args .opening +ℤ c .before .before .before .before .args .ending
 sum-held c =
     let s = c .before .before .before .before in
-    plus-is _ (s .args .opening) (s .args .ending) 32768 32768 (opening-held s) (short-abs (s .args .opening) (yes-opening (c .before .before))) (short-abs (s .args .ending) (yes-ending c)) (omega arith)
+    plus-is _ (s .args .opening) (s .args .ending) 32768 32768 (opening-held s) (short-abs (s .args .opening) (yes-opening (c .before .before)))
+    (short-abs (s .args .ending) (yes-ending c)) (omega arith)
 
 returns-3 : tie.Need-returns-3
 returns-3 c =
@@ -71,7 +73,8 @@ returns-3 c =
     let e : in16 (s .args .opening +ℤ s .args .ending) ≡ false = ap in16 (sym (sum-held b)) ∙ sym (c .before .short3 .ensures) ∙ not-true _ (c .if3 .taken) in
     simp (yes-opening (b .before .before), yes-ending b, e)
 
-yes-sum : (c : tie.Else3) → in16 (c .before .before .before .before .before .before .args .opening +ℤ c .before .before .before .before .before .before .args .ending) ≡ true
+yes-sum : (c : tie.Else3) → in16 (c .before .before .before .before .before .before .args .opening +ℤ
+    c .before .before .before .before .before .before .args .ending) ≡ true
 yes-sum c = ap in16 (sym (sum-held (c .before .before))) ∙ sym (c .before .short3 .ensures) ∙ not-false _ (c .if3 .left)
 
 quot-fits : (z : ℤ) → in16 z ≡ true → SFits w64 (quotZ z (negsuc 29))

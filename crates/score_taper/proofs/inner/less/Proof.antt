@@ -14,7 +14,10 @@ sub-result : tie.Need-sub-result
 sub-result c = less-fits (c .args .a) (c .args .b) (c .fits .a .fits) (c .fits .b .fits)
 
 returns : tie.Need-returns
-returns c = (less-is (c .args .a) (c .args .b) (c .fits .a .fits) (c .fits .b .fits), less-small (c .args .a) (c .args .b) (c .fits .a .fits) (c .fits .b .fits))
+returns c = (
+  less-is (c .args .a) (c .args .b) (c .fits .a .fits) (c .fits .b .fits),
+  less-small (c .args .a) (c .args .b) (c .fits .a .fits) (c .fits .b .fits),
+)
 
 pub less-spec : {M : Type 1} → statement M
 less-spec = tie.close (tie.spec cast-result cast-result-2 sub-result returns)

@@ -23,7 +23,8 @@ returns c =
     let n = c .before .less in
     held-is {w = w64} (sfits-of (c .times .ok))
     (c .times .ensures
-    ∙ ap₂ _*ℤ_ (held-is {w = w64} (sfits-of (y .ok)) (y .ensures .0 ∙ toZ-ofZ {w = w32} (c .before .before .before .fits .y))) (held-is {w = w64} (sfits-of (n .ok)) (n .ensures .0)))
+    ∙ ap₂ _*ℤ_ (held-is {w = w64} (sfits-of (y .ok)) (y .ensures .0 ∙ toZ-ofZ {w = w32} (c .before .before .before .fits .y)))
+    (held-is {w = w64} (sfits-of (n .ok)) (n .ensures .0)))
 
 pub product-spec : {M : Type 1} → statement M
 product-spec = tie.close (tie.spec wide-requires less-requires times-requires returns)

@@ -12,11 +12,14 @@ use Rattle.score_taper.proofs.Steps.{minus-fits, minus-is, minus-small}
 use Rattle.score_taper.proofs.inner.score.Statement.{statement}
 use Rattle.score_taper.proofs.inner.score.Tie as tie
 
-own : (c : tie.After-known-told) → sides.Brought (c .before .before .before .before .args .own) (c .before .before .before .before .args .x) (c .before .a .given .0 .0)
-own c = let b = c .before .before .before in sides.brought (b .before .args .own) (b .before .args .x) (b .brought .result) _ (b .brought .ensures) (c .before .a .given .1)
+own : (c : tie.After-known-told) → sides.Brought (c .before .before .before .before .args .own) (c .before .before .before .before .args .x)
+    (c .before .a .given .0 .0)
+own c = let b = c .before .before .before in sides.brought (b .before .args .own) (b .before .args .x) (b .brought .result) _ (b .brought .ensures)
+    (c .before .a .given .1)
 
 other : (c : tie.After-known-told2)
-    → sides.Brought (c .before .before .before .before .before .before .before .before .args .other) (c .before .before .before .before .before .before .before .before .args .x) (c .before .b .given .0 .0)
+    → sides.Brought (c .before .before .before .before .before .before .before .before .args .other)
+    (c .before .before .before .before .before .before .before .before .args .x) (c .before .b .given .0 .0)
 other c =
     let b = c .before .before .before in
     let s = b .before .before .before .before .before in
@@ -101,8 +104,10 @@ returns-3 c =
     c .joined .ensures
     ∙ ap (λ (z : ℤ). joinedOf z (held w64 (b .before .before .before .less .result)) (held w64 (b .less2 .result))) e
     ∙ ap₂ (joinedOf (sidePart (s .args .own) (s .args .x) -ℤ sidePart (s .args .other) (s .args .x)))
-    (held-is {w = w64} (sfits-of (b .before .before .before .less .ok)) (b .before .before .before .less .ensures .0)) (held-is {w = w64} (sfits-of (b .less2 .ok)) (b .less2 .ensures .0))
-    ∙ sides.both (sideFits (s .args .own) (s .args .x)) (sideFits (s .args .other) (s .args .x)) (sumFits (s .args .own) (s .args .other) (s .args .x)) (total (s .args .own) (s .args .other) (s .args .x))
+    (held-is {w = w64} (sfits-of (b .before .before .before .less .ok)) (b .before .before .before .less .ensures .0))
+    (held-is {w = w64} (sfits-of (b .less2 .ok)) (b .less2 .ensures .0))
+    ∙ sides.both (sideFits (s .args .own) (s .args .x)) (sideFits (s .args .other) (s .args .x)) (sumFits (s .args .own) (s .args .other) (s .args .x))
+    (total (s .args .own) (s .args .other) (s .args .x))
     (g .fit) (h .fit)
 
 pub score-spec : {M : Type 1} → statement M

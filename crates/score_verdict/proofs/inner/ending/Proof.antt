@@ -14,14 +14,17 @@ use Rattle.score_verdict.proofs.inner.ending.Tie as tie
 
 -- too few kings, and how many the side to move has
 few : (c : tie.Then1) → fewKings (c .before .before .before .before .args .bitboards .now) ≡ true
-few c = let b = c .before in laws.few-kings (b .before .before .before .args .bitboards .now) _ _ (b .before .number .ensures) (b .number2 .ensures) (c .if1 .taken)
+few c = let b = c .before in laws.few-kings (b .before .before .before .args .bitboards .now) _ _ (b .before .number .ensures) (b .number2 .ensures)
+    (c .if1 .taken)
 
-own : (c : tie.After-number3) → c .number3 .result ≡ count (c .before .before .before .before .before .before .args .bitboards .now) 5 (toMove (c .before .before .before .before .before .before .args .side))
+own : (c : tie.After-number3) → c .number3 .result ≡ count (c .before .before .before .before .before .before .args .bitboards .now) 5
+    (toMove (c .before .before .before .before .before .before .args .side))
 own c = let a = c .before .before .before .before .before .before .args in c .number3 .ensures ∙ ap (count (a .bitboards .now) 5) (c .before .to-move .ensures)
 
 -- two or more, and how many pieces there are
 enough : (c : tie.Else1) → fewKings (c .before .before .before .before .args .bitboards .now) ≡ false
-enough c = let b = c .before in laws.two-kings (b .before .before .before .args .bitboards .now) _ _ (b .before .number .ensures) (b .number2 .ensures) (c .if1 .left)
+enough c = let b = c .before in laws.two-kings (b .before .before .before .args .bitboards .now) _ _ (b .before .number .ensures) (b .number2 .ensures)
+    (c .if1 .left)
 
 x-is : (c : tie.After-count) → c .count .result ≡ pieces (c .before .before .before .before .before .before .args .bitboards .now)
 x-is c =
@@ -79,7 +82,8 @@ returns-4 c =
     let n = h .before .before in
     let a = n .before .before .before .before .before .before .args in
     laws.is-none (a .bitboards .now) (a .side) (enough (n .before .before))
-    (laws.some-heavy (a .bitboards .now) (n .count .result) (h .heavy .result) (x-is n) (omega (arith, h .before .if3 .left)) (h .heavy .ensures) (c .if4 .taken))
+    (laws.some-heavy (a .bitboards .now) (n .count .result) (h .heavy .result) (x-is n) (omega (arith, h .before .if3 .left)) (h .heavy .ensures)
+    (c .if4 .taken))
 
 returns-5 : tie.Need-returns-5
 returns-5 c =

@@ -9,7 +9,8 @@ use Rattle.score_verdict.proofs.inner.heavy.Tie as tie
 
 -- how many of a kind, both colours: at most 128
 pawns-le : (c : tie.After-number2) → c .before .number .result + c .number2 .result ≤ 128
-pawns-le c = let l = c .before .before .before .args .bitboards .now in omega (arith, c .before .number .ensures, c .number2 .ensures, count-le l 0 0, count-le l 0 1)
+pawns-le c = let l = c .before .before .before .args .bitboards .now in
+    omega (arith, c .before .number .ensures, c .number2 .ensures, count-le l 0 0, count-le l 0 1)
 
 rooks-le : (c : tie.After-number4) → c .before .number3 .result + c .number4 .result ≤ 128
 rooks-le c =
@@ -60,7 +61,8 @@ returns c =
     let e = f .before in
     let d = e .before in
     let b = d .before in
-    heavy-of (b .before .before .before .args .bitboards .now) _ _ _ _ _ _ (b .before .number .ensures) (b .number2 .ensures) (d .number3 .ensures) (e .number4 .ensures) (f .number5 .ensures) (c .number6 .ensures)
+    heavy-of (b .before .before .before .args .bitboards .now) _ _ _ _ _ _ (b .before .number .ensures) (b .number2 .ensures) (d .number3 .ensures)
+    (e .number4 .ensures) (f .number5 .ensures) (c .number6 .ensures)
 
 pub heavy-spec : {M : Type 1} → statement M
 heavy-spec =

@@ -20,7 +20,8 @@ module _ (a b : ℕ) (ha : a < 16777216) (hb : b < 16777216) where
   fits =
       rw raw
       (fits-abs {w = w32} {z = pos a -ℤ pos (128 * b)} 2147483647 tt
-      (diff-abs (pos a -ℤ pos (128 * b)) (a + 0) (0 + 128 * b) 2147483647 (diff-minus (pos a) (pos (128 * b)) a 0 (128 * b) 0 (diff-pos a) (diff-pos (128 * b))) (omega arith) (omega arith)))
+      (diff-abs (pos a -ℤ pos (128 * b)) (a + 0) (0 + 128 * b) 2147483647
+      (diff-minus (pos a) (pos (128 * b)) a 0 (128 * b) 0 (diff-pos a) (diff-pos (128 * b))) (omega arith) (omega arith)))
 
 cast-result : tie.Need-cast-result
 cast-result c = search needs

@@ -61,7 +61,8 @@ loop-again c =
       omega arith,
       rw add-one
           (bytes-more (packed (a .board .now) (a .side) (a .half)) (l .«record») (l .i) (c .pair .result) (l .inv .1) (omega arith)
-          (c .pair .ensures ∙ ap₂ twoSquares (c .before .before .at .ensures) (c .before .at2 .ensures) ∙ sym (record-pair (packed (a .board .now) (a .side) (a .half)) (l .i) h))),
+          (c .pair .ensures ∙ ap₂ twoSquares (c .before .before .at .ensures) (c .before .at2 .ensures)
+          ∙ sym (record-pair (packed (a .board .now) (a .side) (a .half)) (l .i) h))),
     )
 
 array-write-record-2 : tie.Need-array-write-record-2 Inv-loop μ-loop

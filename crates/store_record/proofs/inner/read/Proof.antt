@@ -30,7 +30,8 @@ returns-2 c =
     let m = t .before .before in
     let u = m .before .before in
     let e = u .before in
-    bad-code (now (e .before .before .args .piece)) (e .if1 .left) (u .unpack .result) (u .unpack .ensures) (m .bitboards-of .result) (m .bitboards-of .ensures) (not-true _ (t .if2 .taken))
+    bad-code (now (e .before .before .args .piece)) (e .if1 .left) (u .unpack .result) (u .unpack .ensures) (m .bitboards-of .result)
+    (m .bitboards-of .ensures) (not-true _ (t .if2 .taken))
     (c .before .lowest-stray .result) (c .before .lowest-stray .ensures) (c .refused2 .result) (c .refused2 .ensures)
 
 shared-slice-read-side : tie.Need-shared-slice-read-side
@@ -45,7 +46,8 @@ returns-3 c =
     let m = t .before .before in
     let u = m .before .before in
     let e = u .before in
-    bad-side (now (e .before .before .args .piece)) (e .if1 .left) (u .unpack .result) (u .unpack .ensures) (m .bitboards-of .result) (m .bitboards-of .ensures) (not-false _ (t .if2 .left))
+    bad-side (now (e .before .before .args .piece)) (e .if1 .left) (u .unpack .result) (u .unpack .ensures) (m .bitboards-of .result)
+    (m .bitboards-of .ensures) (not-false _ (t .if2 .left))
     (c .refused3 .result) (c .refused3 .ensures) (c .before .if3 .taken)
 
 shared-slice-read-half : tie.Need-shared-slice-read-half
@@ -61,7 +63,8 @@ returns-4 c =
     let m = t .before .before in
     let u = m .before .before in
     let e = u .before in
-    bad-result (now (e .before .before .args .piece)) (e .if1 .left) (u .unpack .result) (u .unpack .ensures) (m .bitboards-of .result) (m .bitboards-of .ensures) (not-false _ (t .if2 .left))
+    bad-result (now (e .before .before .args .piece)) (e .if1 .left) (u .unpack .result) (u .unpack .ensures) (m .bitboards-of .result)
+    (m .bitboards-of .ensures) (not-false _ (t .if2 .left))
     (s .if3 .left) (c .refused4 .result) (c .refused4 .ensures) (c .before .if4 .taken)
 
 of-side-requires : tie.Need-of-side-requires
@@ -75,7 +78,8 @@ returns-5 c =
     let m = t .before .before in
     let u = m .before .before in
     let e = u .before in
-    good (now (e .before .before .args .piece)) (e .if1 .left) (u .unpack .result) (u .unpack .ensures) (m .bitboards-of .result) (m .bitboards-of .ensures) (not-false _ (t .if2 .left))
+    good (now (e .before .before .args .piece)) (e .if1 .left) (u .unpack .result) (u .unpack .ensures) (m .bitboards-of .result)
+    (m .bitboards-of .ensures) (not-false _ (t .if2 .left))
     (s .if3 .left) (h .if4 .left) (c .of-side .result) (c .of-side .ensures)
 
 pub read-spec : {M : Type 1} → statement M

@@ -11,7 +11,8 @@ use Rattle.store_text.proofs.page.add_up.Statement.{statement}
 use Rattle.store_text.proofs.page.add_up.Tie as tie
 
 abbrev Inv-loop : tie.InvT-loop
-Inv-loop summary piece total₀ most₀ square₀ total most square = (square ≤ 64) × (total ≡ sumN square (countOn summary piece) % 2 ^ 64) × (most ≡ mostN square (countOn summary piece))
+Inv-loop summary piece total₀ most₀ square₀ total most square = (square ≤ 64) × (total ≡ sumN square (countOn summary piece) % 2 ^ 64)
+    × (most ≡ mostN square (countOn summary piece))
 
 abbrev μ-loop : tie.MeasureT-loop
 μ-loop summary piece total₀ most₀ square₀ total most square = 64 - square
@@ -43,7 +44,8 @@ loop-again c =
     let l = (c .before .before .before .before .loop) in
     let f = countOn (now (a .summary)) (a .piece) in (
       omega (arith, (c .before .before .before .loop-test) .taken),
-      (c .before .wrapping-add-u64) .ensures ∙ total-more f (l .square) (l .total) ((c .before .before .count-on) .result) (l .inv .1) ((c .before .before .count-on) .ensures),
+      (c .before .wrapping-add-u64) .ensures ∙ total-more f (l .square) (l .total) ((c .before .before .count-on) .result) (l .inv .1)
+          ((c .before .before .count-on) .ensures),
       (c .larger) .ensures ∙ most-more f (l .square) (l .most) ((c .before .before .count-on) .result) (l .inv .2) ((c .before .before .count-on) .ensures),
     )
 

@@ -25,15 +25,27 @@ board-head-requires c κs =
 squares-requires : tie.Need-squares-requires
 squares-requires c κs =
     let a = (c .before .before .before .before .before .before .before .before .args) in
-    let p = after-room 134 16940 ((c .before .before .before .board-head) .ensures) (length-head (a .form) (a .piece) ((c .before .before .before .before .before .add-up) .result .total)) ((c .before .before .before .before .before .before .before .before .pre) .room) in
-    record { numbers = (c .before .before .before .before .before .before .before .before .pre) .numbers; one = (c .before .before .before .before .before .before .before .before .pre) .one; room = omega (arith, p) }
+    let p = after-room 134 16940 ((c .before .before .before .board-head) .ensures)
+    (length-head (a .form) (a .piece) ((c .before .before .before .before .before .add-up) .result .total))
+    ((c .before .before .before .before .before .before .before .before .pre) .room) in
+    record {
+      numbers = (c .before .before .before .before .before .before .before .before .pre) .numbers;
+      one =
+          (c .before .before .before .before .before .before .before .before .pre) .one;
+      room = omega (arith, p);
+    }
 
 board-end-requires : tie.Need-board-end-requires
 board-end-requires c κs =
     let a = (c .before .before .before .before .before .before .before .before .before .before .before .before .args) in
-    let p = after-room 134 16940 ((c .before .before .before .before .before .before .before .board-head) .ensures) (length-head (a .form) (a .piece) ((c .before .before .before .before .before .before .before .before .before .add-up) .result .total)) ((c .before .before .before .before .before .before .before .before .before .before .before .before .pre) .room) in
-    let f = squaresShown (a .form) (now (a .summary)) (a .piece) ((c .before .before .before .before .before .before .before .before .before .add-up) .result .most) in
-    after-room 16640 300 ((c .before .before .before .squares) .ensures) (length-laid 64 260 f (length-squares (a .form) (now (a .summary)) (a .piece) ((c .before .before .before .before .before .before .before .before .before .add-up) .result .most))) p
+    let p = after-room 134 16940 ((c .before .before .before .before .before .before .before .board-head) .ensures)
+    (length-head (a .form) (a .piece) ((c .before .before .before .before .before .before .before .before .before .add-up) .result .total))
+    ((c .before .before .before .before .before .before .before .before .before .before .before .before .pre) .room) in
+    let f = squaresShown (a .form) (now (a .summary)) (a .piece)
+    ((c .before .before .before .before .before .before .before .before .before .add-up) .result .most) in
+    after-room 16640 300 ((c .before .before .before .squares) .ensures)
+    (length-laid 64 260 f (length-squares (a .form) (now (a .summary)) (a .piece)
+    ((c .before .before .before .before .before .before .before .before .before .add-up) .result .most))) p
 
 same-length : tie.Need-same-length
 same-length c = search needs
@@ -47,8 +59,17 @@ returns c =
     let t = ap (λ (x : Sums). x .total) e in
     let m = ap (λ (x : Sums). x .most) e in
     let f = squaresShown (a .form) s (a .piece) (mostOf s (a .piece)) in
-    adds-3 (by-text (ap (boardHead (a .form) (a .piece)) t) ((c .before .before .before .before .before .before .before .before .before .before .board-head) .ensures)) (by-text (ap (λ (k : ℕ). laid 64 (squaresShown (a .form) s (a .piece) k)) m) ((c .before .before .before .before .before .before .squares) .ensures)) (by-text (ap (boardEnd (a .form)) m) ((c .before .before .board-end) .ensures))
-    (omega (arith, length-head (a .form) (a .piece) (totalOf s (a .piece)), length-laid 64 260 f (length-squares (a .form) s (a .piece) (mostOf s (a .piece))), length-board-end (a .form) (mostOf s (a .piece)), (c .before .before .before .before .before .before .before .before .before .before .before .before .before .before .before .pre) .room))
+    adds-3 (by-text (ap (boardHead (a .form) (a .piece)) t)
+    ((c .before .before .before .before .before .before .before .before .before .before .board-head) .ensures))
+    (by-text (ap (λ (k : ℕ). laid 64 (squaresShown (a .form) s (a .piece) k)) m)
+    ((c .before .before .before .before .before .before .squares) .ensures)) (by-text (ap (boardEnd (a .form)) m) ((c .before .before .board-end) .ensures))
+    (omega (
+      arith,
+      length-head (a .form) (a .piece) (totalOf s (a .piece)),
+      length-laid 64 260 f (length-squares (a .form) s (a .piece) (mostOf s (a .piece))),
+      length-board-end (a .form) (mostOf s (a .piece)),
+      (c .before .before .before .before .before .before .before .before .before .before .before .before .before .before .before .pre) .room,
+    ))
 
 pub board-spec : {M : Type 1} → statement M
 board-spec =

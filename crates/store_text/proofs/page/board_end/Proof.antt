@@ -20,7 +20,8 @@ width-requires c κs = search needs
 
 letters-requires : tie.Need-letters-requires
 letters-requires c κs =
-    let short = length-20 ((c .before .before .before .before .before .args) .most) in record { narrow = omega (arith, (c .width) .ensures); room = omega (arith, (c .before .before .before .before .before .pre)) }
+    let short = length-20 ((c .before .before .before .before .before .args) .most) in
+    record { narrow = omega (arith, (c .width) .ensures); room = omega (arith, (c .before .before .before .before .before .pre)) }
 
 enum-told-2 : tie.Need-enum-told-2
 enum-told-2 c = search needs
@@ -36,7 +37,8 @@ returns : tie.Need-returns
 returns c =
     let a = (c .before .before .before .before .before .before .before .before .args) in
     let p = (c .before .before .letters) in
-    subst (λ (f : Form). Adds (now (a .out)) (a .at) (boardEnd f (a .most)) (p .last .0) (p .result)) (sym ((c .before .before .before .before .before .enum-told) .given .1))
+    subst (λ (f : Form). Adds (now (a .out)) (a .at) (boardEnd f (a .most)) (p .last .0) (p .result))
+    (sym ((c .before .before .before .before .before .enum-told) .given .1))
     (subst (λ (w : ℕ). Adds (now (a .out)) (a .at) (lettersRow w) (p .last .0) (p .result)) ((c .before .before .before .width) .ensures) (p .ensures))
 
 same-length-2 : tie.Need-same-length-2
@@ -46,7 +48,8 @@ returns-2 : tie.Need-returns-2
 returns-2 c =
     let a = (c .before .before .before .before .before .before .before .args) in
     let p = (c .before .before .letters2) in
-    subst (λ (f : Form). Adds (now (a .out)) (a .at) (boardEnd f (a .most)) (p .last .0) (p .result)) (sym ((c .before .before .before .before .enum-told2) .given .1)) (p .ensures)
+    subst (λ (f : Form). Adds (now (a .out)) (a .at) (boardEnd f (a .most)) (p .last .0) (p .result))
+    (sym ((c .before .before .before .before .enum-told2) .given .1)) (p .ensures)
 
 pub board-end-spec : {M : Type 1} → statement M
 board-end-spec =

@@ -26,8 +26,17 @@ returns : tie.Need-returns
 unfolding boardHead
 returns c =
     let a = (c .before .before .before .before .before .before .before .before .before .before .before .before .before .before .before .before .before .args) in
-    adds-4 ((c .before .before .before .before .before .before .before .before .before .before .before .before .before .before .board-begin) .ensures) ((c .before .before .before .before .before .before .before .before .before .before .piece-words) .ensures) ((c .before .before .before .before .before .before .number) .ensures) ((c .before .before .words-end) .ensures)
-    (omega (arith, length-board-begin (a .form) (a .piece), length-piece (a .piece), length-20 (a .total), length-words (a .form), (c .before .before .before .before .before .before .before .before .before .before .before .before .before .before .before .before .before .pre) .1))
+    adds-4 ((c .before .before .before .before .before .before .before .before .before .before .before .before .before .before .board-begin) .ensures)
+    ((c .before .before .before .before .before .before .before .before .before .before .piece-words) .ensures)
+    ((c .before .before .before .before .before .before .number) .ensures) ((c .before .before .words-end) .ensures)
+    (omega (
+      arith,
+      length-board-begin (a .form) (a .piece),
+      length-piece (a .piece),
+      length-20 (a .total),
+      length-words (a .form),
+      (c .before .before .before .before .before .before .before .before .before .before .before .before .before .before .before .before .before .pre) .1,
+    ))
 
 pub board-head-spec : {M : Type 1} → statement M
 board-head-spec =

@@ -19,13 +19,23 @@ abbrev μ-loop : tie.MeasureT-loop
 
 loop-holds : tie.Need-loop-holds Inv-loop μ-loop
 loop-holds c =
-    let a = (c .before .before .args) in (laying-none 12 (boardText (a .form) (now (a .summary))) (now (a .out)) (a .at) (omega (arith, (c .before .before .pre) .1)), search needs)
+    let a = (c .before .before .args) in (
+      laying-none 12 (boardText (a .form) (now (a .summary))) (now (a .out)) (a .at)
+          (omega (arith, (c .before .before .pre) .1)),
+      search needs,
+    )
 
 board-requires : tie.Need-board-requires Inv-loop μ-loop
 board-requires c κs =
     let a = (c .before .before .before .before .before .args) in
     let l = (c .before .before .loop) in
-    record { numbers = (c .before .before .before .before .before .pre) .0; one = (c .before .loop-test) .taken; room = laying-room 12 17074 (boardText (a .form) (now (a .summary))) (length-board (a .form) (now (a .summary))) (now (a .out)) (a .at) (l .out) (l .end) (l .piece) (l .inv .0) (omega (arith, (c .before .before .before .before .before .pre) .1, (c .before .loop-test) .taken)) }
+    record {
+      numbers = (c .before .before .before .before .before .pre) .0;
+      one = (c .before .loop-test) .taken;
+      room =
+          laying-room 12 17074 (boardText (a .form) (now (a .summary))) (length-board (a .form) (now (a .summary))) (now (a .out)) (a .at) (l .out)
+          (l .end) (l .piece) (l .inv .0) (omega (arith, (c .before .before .before .before .before .pre) .1, (c .before .loop-test) .taken));
+    }
 
 add-piece : tie.Need-add-piece Inv-loop μ-loop
 add-piece c = search needs
@@ -36,8 +46,16 @@ loop-less c = search needs
 loop-again : tie.Need-loop-again Inv-loop μ-loop
 loop-again c =
     let a = (c .before .before .before .before .before .before .before .before .args) in
-    let l = (c .before .before .before .before .before .loop) in
-    (laying-more 12 17074 (boardText (a .form) (now (a .summary))) (length-board (a .form) (now (a .summary))) (now (a .out)) (a .at) (l .out) (l .end) (l .piece) (l .inv .0) (omega (arith, (c .before .before .before .before .before .before .before .before .pre) .1, (c .before .before .before .before .loop-test) .taken)) ((c .before .before .before .before .loop-test) .taken) ((c .before .before .board) .last .1 .1 .1 .0) ((c .before .before .board) .result) ((c .before .before .board) .ensures), search needs)
+    let l = (c .before .before .before .before .before .loop) in (
+      laying-more 12 17074 (boardText (a .form) (now (a .summary))) (length-board (a .form) (now (a .summary))) (now (a .out)) (a .at) (l .out) (l .end)
+          (l .piece) (l .inv .0) (omega (
+            arith,
+            (c .before .before .before .before .before .before .before .before .pre) .1,
+            (c .before .before .before .before .loop-test) .taken,
+          )) ((c .before .before .before .before .loop-test) .taken)
+          ((c .before .before .board) .last .1 .1 .1 .0) ((c .before .before .board) .result) ((c .before .before .board) .ensures),
+      search needs,
+    )
 
 same-length : tie.Need-same-length Inv-loop μ-loop
 same-length c = search needs

@@ -25,7 +25,8 @@ boards-requires : tie.Need-boards-requires
 boards-requires c κs =
     let a = (c .before .before .before .before .before .before .before .before .before .args) in
     let s = now (a .summary) in
-    let p = after-room 1000 261144 ((c .before .before .before .page-head) .ensures) (length-page-head (a .form) (getD s 0 0) (getD s 1 0)) (omega (arith, (c .before .before .before .before .before .before .before .before .before .pre) .1)) in
+    let p = after-room 1000 261144 ((c .before .before .before .page-head) .ensures) (length-page-head (a .form) (getD s 0 0) (getD s 1 0))
+    (omega (arith, (c .before .before .before .before .before .before .before .before .before .pre) .1)) in
     ((c .before .before .before .before .before .before .before .before .before .pre) .0, omega (arith, p))
 
 page-end-requires : tie.Need-page-end-requires
@@ -39,8 +40,16 @@ unfolding pageOf
 returns c =
     let a = (c .before .before .before .before .before .before .before .before .before .before .before .before .before .before .before .before .args) in
     let s = now (a .summary) in
-    adds-3 ((c .before .before .before .before .before .before .before .before .before .before .page-head) .ensures) ((c .before .before .before .before .before .before .boards) .ensures) ((c .before .before .page-end) .ensures)
-    (omega (arith, length-page-head (a .form) (getD s 0 0) (getD s 1 0), length-laid 12 17074 (boardText (a .form) s) (length-board (a .form) s), length-page-end (a .form), (c .before .before .before .before .before .before .before .before .before .before .before .before .before .before .before .before .pre) .1))
+    adds-3 ((c .before .before .before .before .before .before .before .before .before .before .page-head) .ensures)
+    ((c .before .before .before .before .before .before .boards) .ensures) ((c .before .before .page-end) .ensures)
+    (omega (
+      arith,
+      length-page-head (a .form) (getD s 0 0) (getD s 1 0),
+      length-laid 12 17074 (boardText (a .form) s) (length-board (a .form) s),
+      length-page-end (a .form),
+      (c .before .before .before .before .before .before .before .before .before .before .before .before .before .before
+          .before .before .pre) .1,
+    ))
 
 pub page-spec : {M : Type 1} → statement M
 page-spec =

@@ -18,15 +18,21 @@ slice-aggregate-named c = search needs
 
 named-requires : tie.Need-named-requires
 named-requires c κs =
-    let p = after-room 410 590 ((c .before .before .before .before .page-begin) .ensures) (length-begin ((c .before .before .before .before .before .before .before .args) .form)) (omega (arith, (c .before .before .before .before .before .before .before .pre))) in omega (arith, p)
+    let p = after-room 410 590 ((c .before .before .before .before .page-begin) .ensures)
+    (length-begin ((c .before .before .before .before .before .before .before .args) .form))
+    (omega (arith, (c .before .before .before .before .before .before .before .pre))) in omega (arith, p)
 
 slice-aggregate-named-2 : tie.Need-slice-aggregate-named-2
 slice-aggregate-named-2 c = search needs
 
 named-requires-2 : tie.Need-named-requires-2
 named-requires-2 c κs =
-    let p = after-room 410 590 ((c .before .before .before .before .before .before .before .before .before .page-begin) .ensures) (length-begin ((c .before .before .before .before .before .before .before .before .before .before .before .before .args) .form)) (omega (arith, (c .before .before .before .before .before .before .before .before .before .before .before .before .pre))) in
-    let q = after-room 28 562 ((c .before .before .before .before .named) .ensures) (length-named (text "records ") ((c .before .before .before .before .before .before .before .before .before .before .before .before .args) .records)) p in omega (arith, q)
+    let p = after-room 410 590 ((c .before .before .before .before .before .before .before .before .before .page-begin) .ensures)
+    (length-begin ((c .before .before .before .before .before .before .before .before .before .before .before .before .args) .form))
+    (omega (arith, (c .before .before .before .before .before .before .before .before .before .before .before .before .pre))) in
+    let q = after-room 28 562 ((c .before .before .before .before .named) .ensures)
+    (length-named (text "records ")
+    ((c .before .before .before .before .before .before .before .before .before .before .before .before .args) .records)) p in omega (arith, q)
 
 words-end-requires : tie.Need-words-end-requires
 words-end-requires c κs = search needs
@@ -37,9 +43,20 @@ same-length c = search needs
 returns : tie.Need-returns
 unfolding pageHead
 returns c =
-    let a = (c .before .before .before .before .before .before .before .before .before .before .before .before .before .before .before .before .before .before .before .args) in
-    adds-4 ((c .before .before .before .before .before .before .before .before .before .before .before .before .before .before .before .before .page-begin) .ensures) ((c .before .before .before .before .before .before .before .before .before .before .before .named) .ensures) ((c .before .before .before .before .before .before .named2) .ensures) ((c .before .before .words-end) .ensures)
-    (omega (arith, length-begin (a .form), length-named (text "records ") (a .records), length-named (text " half points ") (a .points), length-words (a .form), (c .before .before .before .before .before .before .before .before .before .before .before .before .before .before .before .before .before .before .before .pre)))
+    let a = (c .before .before .before .before .before .before .before .before .before .before .before .before .before .before .before .before .before
+    .before .before .args) in
+    adds-4 ((c .before .before .before .before .before .before .before .before .before .before .before .before .before .before .before .before
+    .page-begin) .ensures) ((c .before .before .before .before .before .before .before .before .before .before .before .named) .ensures)
+    ((c .before .before .before .before .before .before .named2) .ensures) ((c .before .before .words-end) .ensures)
+    (omega (
+      arith,
+      length-begin (a .form),
+      length-named (text "records ") (a .records),
+      length-named (text " half points ") (a .points),
+      length-words (a .form),
+      (c .before .before .before .before .before .before .before .before .before .before .before .before .before .before
+          .before .before .before .before .before .pre),
+    ))
 
 pub page-head-spec : {M : Type 1} → statement M
 page-head-spec =

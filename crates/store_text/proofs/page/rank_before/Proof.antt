@@ -18,7 +18,9 @@ same-length c = search needs
 
 returns : tie.Need-returns
 returns c =
-    let a = (c .before .before .before .before .before .before .args) in by-text (ap (λ (t : Bool). cond t (rankDigit (a .form) (a .i)) []) (sym (eq-eqb (a .i % 8) 0 ((c .before .before .before .before .if1) .taken)))) ((c .before .before .rank-word) .ensures)
+    let a = (c .before .before .before .before .before .before .args) in
+    by-text (ap (λ (t : Bool). cond t (rankDigit (a .form) (a .i)) [])
+    (sym (eq-eqb (a .i % 8) 0 ((c .before .before .before .before .if1) .taken)))) ((c .before .before .rank-word) .ensures)
 
 slice-aggregate-put : tie.Need-slice-aggregate-put
 slice-aggregate-put c = search needs
@@ -31,7 +33,9 @@ same-length-2 c = search needs
 
 returns-2 : tie.Need-returns-2
 returns-2 c =
-    let a = (c .before .before .before .before .before .before .before .args) in by-text (ap (λ (t : Bool). cond t (rankDigit (a .form) (a .i)) []) (sym (ne-eqb (a .i % 8) 0 ((c .before .before .before .before .before .if1) .left)))) ((c .before .before .put) .ensures)
+    let a = (c .before .before .before .before .before .before .before .args) in
+    by-text (ap (λ (t : Bool). cond t (rankDigit (a .form) (a .i)) [])
+    (sym (ne-eqb (a .i % 8) 0 ((c .before .before .before .before .before .if1) .left)))) ((c .before .before .put) .ensures)
 
 pub rank-before-spec : {M : Type 1} → statement M
 rank-before-spec =

@@ -21,7 +21,9 @@ same-length c = search needs
 
 returns : tie.Need-returns
 returns c =
-    let a = (c .before .before .before .before .before .before .before .args) in by-text (ap (λ (t : Bool). cond t (text "\n") []) (sym (eq-eqb (a .i % 8) 7 ((c .before .before .before .before .before .if1) .taken)))) ((c .before .before .put) .ensures)
+    let a = (c .before .before .before .before .before .before .before .args) in
+    by-text (ap (λ (t : Bool). cond t (text "\n") []) (sym (eq-eqb (a .i % 8) 7 ((c .before .before .before .before .before .if1) .taken))))
+    ((c .before .before .put) .ensures)
 
 slice-aggregate-put-2 : tie.Need-slice-aggregate-put-2
 slice-aggregate-put-2 c = search needs
@@ -34,7 +36,9 @@ same-length-2 c = search needs
 
 returns-2 : tie.Need-returns-2
 returns-2 c =
-    let a = (c .before .before .before .before .before .before .before .args) in by-text (ap (λ (t : Bool). cond t (text "\n") []) (sym (ne-eqb (a .i % 8) 7 ((c .before .before .before .before .before .if1) .left)))) ((c .before .before .put2) .ensures)
+    let a = (c .before .before .before .before .before .before .before .args) in
+    by-text (ap (λ (t : Bool). cond t (text "\n") []) (sym (ne-eqb (a .i % 8) 7 ((c .before .before .before .before .before .if1) .left))))
+    ((c .before .before .put2) .ensures)
 
 pub row-end-spec : {M : Type 1} → statement M
 row-end-spec =

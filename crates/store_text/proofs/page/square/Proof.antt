@@ -13,7 +13,10 @@ rank-before-requires c κs = search needs
 
 square-word-requires : tie.Need-square-word-requires
 square-word-requires c κs =
-    let a = (c .before .before .before .before .before .before .args) in let p = after-room 66 194 ((c .before .before .before .rank-before) .ensures) (length-before (a .form) (a .i)) ((c .before .before .before .before .before .before .pre) .room) in record { within = (c .before .before .before .before .before .before .pre) .within; room = omega (arith, p) }
+    let a = (c .before .before .before .before .before .before .args) in let p =
+    after-room 66 194 ((c .before .before .before .rank-before) .ensures) (length-before (a .form) (a .i))
+    ((c .before .before .before .before .before .before .pre) .room) in
+    record { within = (c .before .before .before .before .before .before .pre) .within; room = omega (arith, p) }
 
 row-end-requires : tie.Need-row-end-requires
 row-end-requires c κs = search needs
@@ -25,8 +28,15 @@ returns : tie.Need-returns
 unfolding squareShown
 returns c =
     let a = (c .before .before .before .before .before .before .before .before .before .before .before .before .before .args) in
-    adds-3 ((c .before .before .before .before .before .before .before .before .before .before .rank-before) .ensures) ((c .before .before .before .before .before .before .square-word) .ensures) ((c .before .before .row-end) .ensures)
-    (omega (arith, length-before (a .form) (a .i), length-square-word (a .form) (a .most) (a .n) (a .i), length-row-end (a .i), (c .before .before .before .before .before .before .before .before .before .before .before .before .before .pre) .room))
+    adds-3 ((c .before .before .before .before .before .before .before .before .before .before .rank-before) .ensures)
+    ((c .before .before .before .before .before .before .square-word) .ensures) ((c .before .before .row-end) .ensures)
+    (omega (
+      arith,
+      length-before (a .form) (a .i),
+      length-square-word (a .form) (a .most) (a .n) (a .i),
+      length-row-end (a .i),
+      (c .before .before .before .before .before .before .before .before .before .before .before .before .before .pre) .room,
+    ))
 
 pub square-spec : {M : Type 1} → statement M
 square-spec =

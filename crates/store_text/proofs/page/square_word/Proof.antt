@@ -20,7 +20,8 @@ width-requires c κs = search needs
 
 count-requires : tie.Need-count-requires
 count-requires c κs =
-    let short = length-20 ((c .before .before .before .before .before .args) .most) in record { narrow = omega (arith, (c .width) .ensures); room = omega (arith, (c .before .before .before .before .before .pre) .room) }
+    let short = length-20 ((c .before .before .before .before .before .args) .most) in
+    record { narrow = omega (arith, (c .width) .ensures); room = omega (arith, (c .before .before .before .before .before .pre) .room) }
 
 enum-told-2 : tie.Need-enum-told-2
 enum-told-2 c = search needs
@@ -35,8 +36,10 @@ returns : tie.Need-returns
 returns c =
     let a = (c .before .before .before .before .before .before .before .before .args) in
     let p = (c .before .before .count) in
-    subst (λ (f : Form). Adds (now (a .out)) (a .at) (squareWord f (a .most) (a .n) (a .i)) (p .last .0) (p .result)) (sym ((c .before .before .before .before .before .enum-told) .given .1))
-    (subst (λ (w : ℕ). Adds (now (a .out)) (a .at) (inColumn w (countWord (a .n))) (p .last .0) (p .result)) ((c .before .before .before .width) .ensures) (p .ensures))
+    subst (λ (f : Form). Adds (now (a .out)) (a .at) (squareWord f (a .most) (a .n) (a .i)) (p .last .0) (p .result))
+    (sym ((c .before .before .before .before .before .enum-told) .given .1))
+    (subst (λ (w : ℕ). Adds (now (a .out)) (a .at) (inColumn w (countWord (a .n))) (p .last .0) (p .result))
+    ((c .before .before .before .width) .ensures) (p .ensures))
 
 same-length-2 : tie.Need-same-length-2
 same-length-2 c = search needs
@@ -45,7 +48,8 @@ returns-2 : tie.Need-returns-2
 returns-2 c =
     let a = (c .before .before .before .before .before .before .before .args) in
     let p = (c .before .before .square) in
-    subst (λ (f : Form). Adds (now (a .out)) (a .at) (squareWord f (a .most) (a .n) (a .i)) (p .last .0) (p .result)) (sym ((c .before .before .before .before .enum-told2) .given .1)) (p .ensures)
+    subst (λ (f : Form). Adds (now (a .out)) (a .at) (squareWord f (a .most) (a .n) (a .i)) (p .last .0) (p .result))
+    (sym ((c .before .before .before .before .enum-told2) .given .1)) (p .ensures)
 
 pub square-word-spec : {M : Type 1} → statement M
 square-word-spec =

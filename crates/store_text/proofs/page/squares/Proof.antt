@@ -20,21 +20,33 @@ abbrev μ-loop : tie.MeasureT-loop
 
 loop-holds : tie.Need-loop-holds Inv-loop μ-loop
 loop-holds c =
-    let a = (c .before .before .args) in (laying-none 64 (squaresShown (a .form) (now (a .summary)) (a .piece) (a .most)) (now (a .out)) (a .at) (omega (arith, (c .before .before .pre) .room)), search needs)
+    let a = (c .before .before .args) in (
+      laying-none 64 (squaresShown (a .form) (now (a .summary)) (a .piece) (a .most)) (now (a .out)) (a .at)
+          (omega (arith, (c .before .before .pre) .room)),
+      search needs,
+    )
 
 drawn-requires : tie.Need-drawn-requires Inv-loop μ-loop
 drawn-requires c κs =
     (c .loop-test) .taken
 
 count-on-requires : tie.Need-count-on-requires Inv-loop μ-loop
-count-on-requires c κs =
-    (record { numbers = (c .before .before .before .before .before .pre) .numbers; one = (c .before .before .before .before .before .pre) .one }, omega (arith, (c .drawn) .ensures, (c .before .loop-test) .taken))
+count-on-requires c κs = (
+  record { numbers = (c .before .before .before .before .before .pre) .numbers; one = (c .before .before .before .before .before .pre) .one },
+  omega (arith, (c .drawn) .ensures, (c .before .loop-test) .taken),
+)
 
 square-requires : tie.Need-square-requires Inv-loop μ-loop
 square-requires c κs =
     let a = (c .before .before .before .before .before .before .before .args) in
     let l = (c .before .before .before .before .loop) in
-    record { within = (c .before .before .before .loop-test) .taken; room = laying-room 64 260 (squaresShown (a .form) (now (a .summary)) (a .piece) (a .most)) (length-squares (a .form) (now (a .summary)) (a .piece) (a .most)) (now (a .out)) (a .at) (l .out) (l .end) (l .i) (l .inv .0) (omega (arith, (c .before .before .before .before .before .before .before .pre) .room, (c .before .before .before .loop-test) .taken)) }
+    record {
+      within = (c .before .before .before .loop-test) .taken;
+      room =
+          laying-room 64 260 (squaresShown (a .form) (now (a .summary)) (a .piece) (a .most))
+          (length-squares (a .form) (now (a .summary)) (a .piece) (a .most)) (now (a .out)) (a .at) (l .out) (l .end) (l .i) (l .inv .0)
+          (omega (arith, (c .before .before .before .before .before .before .before .pre) .room, (c .before .before .before .loop-test) .taken));
+    }
 
 add-i : tie.Need-add-i Inv-loop μ-loop
 add-i c = search needs
@@ -46,8 +58,16 @@ loop-again : tie.Need-loop-again Inv-loop μ-loop
 loop-again c =
     let a = (c .before .before .before .before .before .before .before .before .before .before .args) in
     let l = (c .before .before .before .before .before .before .before .loop) in
-    let e = (c .before .before .before .before .count-on) .ensures ∙ ap (countOn (now (a .summary)) (a .piece)) ((c .before .before .before .before .before .drawn) .ensures) in (
-      laying-more 64 260 (squaresShown (a .form) (now (a .summary)) (a .piece) (a .most)) (length-squares (a .form) (now (a .summary)) (a .piece) (a .most)) (now (a .out)) (a .at) (l .out) (l .end) (l .i) (l .inv .0) (omega (arith, (c .before .before .before .before .before .before .before .before .before .before .pre) .room, (c .before .before .before .before .before .before .loop-test) .taken)) ((c .before .before .before .before .before .before .loop-test) .taken) ((c .before .before .square) .last .1 .1 .1 .1 .0) ((c .before .before .square) .result)
+    let e = (c .before .before .before .before .count-on) .ensures ∙ ap (countOn (now (a .summary)) (a .piece))
+    ((c .before .before .before .before .before .drawn) .ensures) in (
+      laying-more 64 260 (squaresShown (a .form) (now (a .summary)) (a .piece) (a .most))
+          (length-squares (a .form) (now (a .summary)) (a .piece) (a .most)) (now (a .out)) (a .at) (l .out) (l .end) (l .i) (l .inv .0)
+          (omega (
+            arith,
+            (c .before .before .before .before .before .before .before .before .before .before .pre) .room,
+            (c .before .before .before .before .before .before .loop-test) .taken,
+          )) ((c .before .before .before .before .before .before .loop-test) .taken)
+          ((c .before .before .square) .last .1 .1 .1 .1 .0) ((c .before .before .square) .result)
           (by-text (ap (λ (n : ℕ). squareShown (a .form) (a .most) n (l .i)) e) ((c .before .before .square) .ensures)),
       search needs,
     )
@@ -59,7 +79,8 @@ returns : tie.Need-returns Inv-loop μ-loop
 returns c =
     let a = (c .before .before .before .before .args) in
     let l = (c .before .loop) in
-    laying-all 64 (squaresShown (a .form) (now (a .summary)) (a .piece) (a .most)) (now (a .out)) (a .at) (l .out) (l .end) (l .i) (l .inv .0) ((c .loop-test) .left)
+    laying-all 64 (squaresShown (a .form) (now (a .summary)) (a .piece) (a .most)) (now (a .out)) (a .at) (l .out) (l .end) (l .i) (l .inv .0)
+    ((c .loop-test) .left)
 
 pub squares-spec : {M : Type 1} → statement M
 squares-spec =

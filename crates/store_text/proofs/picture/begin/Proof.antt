@@ -36,7 +36,14 @@ same-length c = search needs
 returns : tie.Need-returns
 unfolding pictureBegin
 returns c =
-    adds-4 ((c .before .before .before .before .before .before .before .before .before .before .before .before .before .before .before .before .before .put) .ensures) ((c .before .before .before .before .before .before .before .before .before .before .before .before .put2) .ensures) ((c .before .before .before .before .before .before .before .put3) .ensures) ((c .before .before .put4) .ensures) (omega (arith, (c .before .before .before .before .before .before .before .before .before .before .before .before .before .before .before .before .before .before .before .before .before .pre)))
+    adds-4 ((c .before .before .before .before .before .before .before .before .before .before .before .before .before .before .before .before .before
+    .put) .ensures) ((c .before .before .before .before .before .before .before .before .before .before .before .before .put2) .ensures)
+    ((c .before .before .before .before .before .before .before .put3) .ensures) ((c .before .before .put4) .ensures)
+    (omega (
+      arith,
+      (c .before .before .before .before .before .before .before .before .before .before .before .before .before .before .before .before
+          .before .before .before .before .before .pre),
+    ))
 
 pub begin-spec : {M : Type 1} → statement M
 begin-spec =

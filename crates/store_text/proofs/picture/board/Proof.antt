@@ -41,7 +41,9 @@ wide-requires-2 c κs = search needs
 
 named-requires-2 : tie.Need-named-requires-2
 named-requires-2 c κs =
-    let p = after-room 44 49 ((c .before .before .before .before .before .named) .ensures) (length-named (text "<g transform='translate(") ((c .before .before .before .before .before .before .wide) .result)) ((c .before .before .before .before .before .before .before .before .before .before .pre) .1) in omega (arith, p)
+    let p = after-room 44 49 ((c .before .before .before .before .before .named) .ensures)
+    (length-named (text "<g transform='translate(") ((c .before .before .before .before .before .before .wide) .result))
+    ((c .before .before .before .before .before .before .before .before .before .before .pre) .1) in omega (arith, p)
 
 slice-aggregate-put : tie.Need-slice-aggregate-put
 slice-aggregate-put c = search needs
@@ -55,11 +57,23 @@ same-length c = search needs
 returns : tie.Need-returns
 unfolding boardAt
 returns c =
-    let a = (c .before .before .before .before .before .before .before .before .before .before .before .before .before .before .before .before .before .before .args) in
+    let a = (c .before .before .before .before .before .before .before .before .before .before .before .before .before .before .before .before .before
+    .before .args) in
     let x = length-named (text "<g transform='translate(") (60 + 440 * (a .piece % 4)) in
     let y = length-named (text " ") (100 + 450 * (a .piece / 4)) in
-    adds-3 (by-text (ap (numbered (text "<g transform='translate(")) ((c .before .before .before .before .before .before .before .before .before .before .before .before .before .before .wide) .ensures)) ((c .before .before .before .before .before .before .before .before .before .before .before .before .before .named) .ensures)) (by-text (ap (numbered (text " ")) ((c .before .before .before .before .before .before .before .before .wide2) .ensures)) ((c .before .before .before .before .before .before .before .named2) .ensures))
-    ((c .before .before .put) .ensures) (omega (arith, x, y, (c .before .before .before .before .before .before .before .before .before .before .before .before .before .before .before .before .before .before .pre) .1))
+    adds-3 (by-text (ap (numbered (text "<g transform='translate("))
+    ((c .before .before .before .before .before .before .before .before .before .before .before .before .before .before .wide) .ensures))
+    ((c .before .before .before .before .before .before .before .before .before .before .before .before .before .named) .ensures))
+    (by-text (ap (numbered (text " ")) ((c .before .before .before .before .before .before .before .before .wide2) .ensures))
+    ((c .before .before .before .before .before .before .before .named2) .ensures))
+    ((c .before .before .put) .ensures)
+    (omega (
+      arith,
+      x,
+      y,
+      (c .before .before .before .before .before .before .before .before .before .before .before .before .before .before .before
+          .before .before .before .pre) .1,
+    ))
 
 pub board-spec : {M : Type 1} → statement M
 board-spec =

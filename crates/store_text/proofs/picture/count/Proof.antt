@@ -35,15 +35,20 @@ add-named-2 c = search needs
 
 named-requires-2 : tie.Need-named-requires-2
 named-requires-2 c κs =
-    let p = after-room 29 54 ((c .before .before .before .before .before .named) .ensures) (length-named (text "<text x='") ((c .before .before .before .before .before .before .across) .result + 24)) ((c .before .before .before .before .before .before .before .before .before .before .pre) .room) in omega (arith, p)
+    let p = after-room 29 54 ((c .before .before .before .before .before .named) .ensures)
+    (length-named (text "<text x='") ((c .before .before .before .before .before .before .across) .result + 24))
+    ((c .before .before .before .before .before .before .before .before .before .before .pre) .room) in omega (arith, p)
 
 slice-aggregate-named-3 : tie.Need-slice-aggregate-named-3
 slice-aggregate-named-3 c = search needs
 
 named-requires-3 : tie.Need-named-requires-3
 named-requires-3 c κs =
-    let p = after-room 29 54 ((c .before .before .before .before .before .before .before .before .before .before .named) .ensures) (length-named (text "<text x='") ((c .before .before .before .before .before .before .before .before .before .before .before .across) .result + 24)) ((c .before .before .before .before .before .before .before .before .before .before .before .before .before .before .before .pre) .room) in
-    let q = after-room 25 29 ((c .before .before .before .before .named2) .ensures) (length-named (text "' y='") ((c .before .before .before .before .before .down) .result + 29)) p in omega (arith, q)
+    let p = after-room 29 54 ((c .before .before .before .before .before .before .before .before .before .before .named) .ensures)
+    (length-named (text "<text x='") ((c .before .before .before .before .before .before .before .before .before .before .before .across) .result
+    + 24)) ((c .before .before .before .before .before .before .before .before .before .before .before .before .before .before .before .pre) .room) in
+    let q = after-room 25 29 ((c .before .before .before .before .named2) .ensures)
+    (length-named (text "' y='") ((c .before .before .before .before .before .down) .result + 29)) p in omega (arith, q)
 
 slice-aggregate-put : tie.Need-slice-aggregate-put
 slice-aggregate-put c = search needs
@@ -57,12 +62,27 @@ same-length c = search needs
 returns : tie.Need-returns
 unfolding countDrawn
 returns c =
-    let a = (c .before .before .before .before .before .before .before .before .before .before .before .before .before .before .before .before .before .before .before .before .before .before .before .args) in
+    let a = (c .before .before .before .before .before .before .before .before .before .before .before .before .before .before .before .before .before
+    .before .before .before .before .before .before .args) in
     let x = length-named (text "<text x='") (acrossAt (a .i) + 24) in
     let y = length-named (text "' y='") (downAt (a .i) + 29) in
     let z = length-named (text "'>") (a .n) in
-    adds-4 (by-text (ap (λ (k : ℕ). numbered (text "<text x='") (k + 24)) ((c .before .before .before .before .before .before .before .before .before .before .before .before .before .before .before .before .before .before .before .across) .ensures)) ((c .before .before .before .before .before .before .before .before .before .before .before .before .before .before .before .before .before .before .named) .ensures)) (by-text (ap (λ (k : ℕ). numbered (text "' y='") (k + 29)) ((c .before .before .before .before .before .before .before .before .before .before .before .before .before .down) .ensures)) ((c .before .before .before .before .before .before .before .before .before .before .before .before .named2) .ensures))
-    ((c .before .before .before .before .before .before .before .named3) .ensures) ((c .before .before .put) .ensures) (omega (arith, x, y, z, (c .before .before .before .before .before .before .before .before .before .before .before .before .before .before .before .before .before .before .before .before .before .before .before .pre) .room))
+    adds-4 (by-text (ap (λ (k : ℕ). numbered (text "<text x='") (k + 24))
+    ((c .before .before .before .before .before .before .before .before .before .before .before .before .before .before .before .before .before
+    .before .before .across) .ensures))
+    ((c .before .before .before .before .before .before .before .before .before .before .before .before .before .before .before .before .before
+    .before .named) .ensures)) (by-text (ap (λ (k : ℕ). numbered (text "' y='") (k + 29))
+    ((c .before .before .before .before .before .before .before .before .before .before .before .before .before .down) .ensures))
+    ((c .before .before .before .before .before .before .before .before .before .before .before .before .named2) .ensures))
+    ((c .before .before .before .before .before .before .before .named3) .ensures) ((c .before .before .put) .ensures)
+    (omega (
+      arith,
+      x,
+      y,
+      z,
+      (c .before .before .before .before .before .before .before .before .before .before .before .before .before .before
+          .before .before .before .before .before .before .before .before .before .pre) .room,
+    ))
 
 pub count-spec : {M : Type 1} → statement M
 count-spec =

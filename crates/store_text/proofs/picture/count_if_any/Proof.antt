@@ -20,7 +20,9 @@ same-length c = search needs
 
 returns : tie.Need-returns
 returns c =
-    let a = (c .before .before .before .before .before .before .before .args) in by-text (ap (λ (t : Bool). cond t [] (countDrawn (a .n) (a .i))) (sym (eq-eqb (a .n) 0 ((c .before .before .before .before .before .if1) .taken)))) ((c .before .before .put) .ensures)
+    let a = (c .before .before .before .before .before .before .before .args) in
+    by-text (ap (λ (t : Bool). cond t [] (countDrawn (a .n) (a .i)))
+    (sym (eq-eqb (a .n) 0 ((c .before .before .before .before .before .if1) .taken)))) ((c .before .before .put) .ensures)
 
 count-requires : tie.Need-count-requires
 count-requires c κs = search needs
@@ -30,7 +32,9 @@ same-length-2 c = search needs
 
 returns-2 : tie.Need-returns-2
 returns-2 c =
-    let a = (c .before .before .before .before .before .before .args) in by-text (ap (λ (t : Bool). cond t [] (countDrawn (a .n) (a .i))) (sym (ne-eqb (a .n) 0 ((c .before .before .before .before .if1) .left)))) ((c .before .before .count) .ensures)
+    let a = (c .before .before .before .before .before .before .args) in
+    by-text (ap (λ (t : Bool). cond t [] (countDrawn (a .n) (a .i))) (sym (ne-eqb (a .n) 0 ((c .before .before .before .before .if1) .left))))
+    ((c .before .before .count) .ensures)
 
 pub count-if-any-spec : {M : Type 1} → statement M
 count-if-any-spec =

@@ -28,7 +28,9 @@ down-requires c κs = search needs
 
 named-requires-2 : tie.Need-named-requires-2
 named-requires-2 c κs =
-    let p = after-room 29 81 ((c .before .before .before .before .before .named) .ensures) (length-named (text "<rect x='") ((c .before .before .before .before .before .before .across) .result)) ((c .before .before .before .before .before .before .before .before .before .before .pre) .room) in omega (arith, p)
+    let p = after-room 29 81 ((c .before .before .before .before .before .named) .ensures)
+    (length-named (text "<rect x='") ((c .before .before .before .before .before .before .across) .result))
+    ((c .before .before .before .before .before .before .before .before .before .before .pre) .room) in omega (arith, p)
 
 slice-aggregate-named-3 : tie.Need-slice-aggregate-named-3
 slice-aggregate-named-3 c = search needs
@@ -38,8 +40,12 @@ dark-requires c κs = search needs
 
 named-requires-3 : tie.Need-named-requires-3
 named-requires-3 c κs =
-    let p = after-room 29 81 ((c .before .before .before .before .before .before .before .before .before .before .before .named) .ensures) (length-named (text "<rect x='") ((c .before .before .before .before .before .before .before .before .before .before .before .before .across) .result)) ((c .before .before .before .before .before .before .before .before .before .before .before .before .before .before .before .before .pre) .room) in
-    let q = after-room 25 56 ((c .before .before .before .before .before .named2) .ensures) (length-named (text "' y='") ((c .before .before .before .before .before .before .down) .result)) p in omega (arith, q)
+    let p = after-room 29 81 ((c .before .before .before .before .before .before .before .before .before .before .before .named) .ensures)
+    (length-named (text "<rect x='")
+    ((c .before .before .before .before .before .before .before .before .before .before .before .before .across) .result))
+    ((c .before .before .before .before .before .before .before .before .before .before .before .before .before .before .before .before .pre) .room) in
+    let q = after-room 25 56 ((c .before .before .before .before .before .named2) .ensures)
+    (length-named (text "' y='") ((c .before .before .before .before .before .before .down) .result)) p in omega (arith, q)
 
 slice-aggregate-put : tie.Need-slice-aggregate-put
 slice-aggregate-put c = search needs
@@ -53,12 +59,29 @@ same-length c = search needs
 returns : tie.Need-returns
 unfolding squareDrawn
 returns c =
-    let a = (c .before .before .before .before .before .before .before .before .before .before .before .before .before .before .before .before .before .before .before .before .before .before .before .before .args) in
+    let a = (c .before .before .before .before .before .before .before .before .before .before .before .before .before .before .before .before .before
+    .before .before .before .before .before .before .before .args) in
     let x = length-named (text "<rect x='") (acrossAt (a .i)) in
     let y = length-named (text "' y='") (downAt (a .i)) in
     let z = length-named (text "' width='48' height='48' class='h") (darkness (a .most) (a .n)) in
-    adds-4 (by-text (ap (numbered (text "<rect x='")) ((c .before .before .before .before .before .before .before .before .before .before .before .before .before .before .before .before .before .before .before .before .across) .ensures)) ((c .before .before .before .before .before .before .before .before .before .before .before .before .before .before .before .before .before .before .before .named) .ensures)) (by-text (ap (numbered (text "' y='")) ((c .before .before .before .before .before .before .before .before .before .before .before .before .before .before .down) .ensures)) ((c .before .before .before .before .before .before .before .before .before .before .before .before .before .named2) .ensures))
-    (by-text (ap (numbered (text "' width='48' height='48' class='h")) ((c .before .before .before .before .before .before .before .before .dark) .ensures)) ((c .before .before .before .before .before .before .before .named3) .ensures)) ((c .before .before .put) .ensures) (omega (arith, x, y, z, (c .before .before .before .before .before .before .before .before .before .before .before .before .before .before .before .before .before .before .before .before .before .before .before .before .pre) .room))
+    adds-4 (by-text (ap (numbered (text "<rect x='"))
+    ((c .before .before .before .before .before .before .before .before .before .before .before .before .before .before .before .before .before
+    .before .before .before .across) .ensures))
+    ((c .before .before .before .before .before .before .before .before .before .before .before .before .before .before .before .before .before
+    .before .before .named) .ensures)) (by-text (ap (numbered (text "' y='"))
+    ((c .before .before .before .before .before .before .before .before .before .before .before .before .before .before .down) .ensures))
+    ((c .before .before .before .before .before .before .before .before .before .before .before .before .before .named2) .ensures))
+    (by-text (ap (numbered (text "' width='48' height='48' class='h"))
+    ((c .before .before .before .before .before .before .before .before .dark) .ensures))
+    ((c .before .before .before .before .before .before .before .named3) .ensures)) ((c .before .before .put) .ensures)
+    (omega (
+      arith,
+      x,
+      y,
+      z,
+      (c .before .before .before .before .before .before .before .before .before .before .before .before .before .before
+          .before .before .before .before .before .before .before .before .before .before .pre) .room,
+    ))
 
 pub field-spec : {M : Type 1} → statement M
 field-spec =

@@ -24,7 +24,8 @@ same-length c = search needs
 returns : tie.Need-returns
 unfolding lettersDrawn
 returns c =
-    adds-then ((c .before .before .before .before .before .before .before .put) .ensures) ((c .before .before .put2) .ensures) (omega (arith, (c .before .before .before .before .before .before .before .before .before .before .before .pre)))
+    adds-then ((c .before .before .before .before .before .before .before .put) .ensures) ((c .before .before .put2) .ensures)
+    (omega (arith, (c .before .before .before .before .before .before .before .before .before .before .before .pre)))
 
 pub letters-spec : {M : Type 1} → statement M
 letters-spec =

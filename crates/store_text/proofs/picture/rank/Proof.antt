@@ -35,7 +35,9 @@ wide-requires c κs = search needs
 
 named-requires-2 : tie.Need-named-requires-2
 named-requires-2 c κs =
-    let p = after-room 37 29 ((c .before .before .before .before .before .named) .ensures) (length-named (text "<text x='-14' y='") ((c .before .before .before .before .before .before .down) .result + 29)) ((c .before .before .before .before .before .before .before .before .before .before .pre) .room) in omega (arith, p)
+    let p = after-room 37 29 ((c .before .before .before .before .before .named) .ensures)
+    (length-named (text "<text x='-14' y='") ((c .before .before .before .before .before .before .down) .result + 29))
+    ((c .before .before .before .before .before .before .before .before .before .before .pre) .room) in omega (arith, p)
 
 slice-aggregate-put : tie.Need-slice-aggregate-put
 slice-aggregate-put c = search needs
@@ -49,11 +51,23 @@ same-length c = search needs
 returns : tie.Need-returns
 unfolding rankDrawn
 returns c =
-    let a = (c .before .before .before .before .before .before .before .before .before .before .before .before .before .before .before .before .before .before .args) in
+    let a = (c .before .before .before .before .before .before .before .before .before .before .before .before .before .before .before .before .before
+    .before .args) in
     let x = length-named (text "<text x='-14' y='") (downAt (a .i) + 29) in
     let y = length-named (text "'>") (8 - a .i / 8) in
-    adds-3 (by-text (ap (λ (k : ℕ). numbered (text "<text x='-14' y='") (k + 29)) ((c .before .before .before .before .before .before .before .before .before .before .before .before .before .before .down) .ensures)) ((c .before .before .before .before .before .before .before .before .before .before .before .before .before .named) .ensures)) (by-text (ap (numbered (text "'>")) ((c .before .before .before .before .before .before .before .before .wide) .ensures)) ((c .before .before .before .before .before .before .before .named2) .ensures))
-    ((c .before .before .put) .ensures) (omega (arith, x, y, (c .before .before .before .before .before .before .before .before .before .before .before .before .before .before .before .before .before .before .pre) .room))
+    adds-3 (by-text (ap (λ (k : ℕ). numbered (text "<text x='-14' y='") (k + 29))
+    ((c .before .before .before .before .before .before .before .before .before .before .before .before .before .before .down) .ensures))
+    ((c .before .before .before .before .before .before .before .before .before .before .before .before .before .named) .ensures))
+    (by-text (ap (numbered (text "'>")) ((c .before .before .before .before .before .before .before .before .wide) .ensures))
+    ((c .before .before .before .before .before .before .before .named2) .ensures))
+    ((c .before .before .put) .ensures)
+    (omega (
+      arith,
+      x,
+      y,
+      (c .before .before .before .before .before .before .before .before .before .before .before .before .before .before .before
+          .before .before .before .pre) .room,
+    ))
 
 pub rank-spec : {M : Type 1} → statement M
 rank-spec =

@@ -19,7 +19,8 @@ array-share-prefix-blank c =
 
 slice-aggregate-put : tie.Need-slice-aggregate-put
 slice-aggregate-put c =
-    sym (length-take-le ((c .before .before .spaces) .result) (replicate {A = ℕ} 21 32) (omega (arith, (c .before .before .spaces) .ensures, (c .before .before .before .before .before .pre) .1 .narrow, length-replicate {A = ℕ} 21 32)))
+    sym (length-take-le ((c .before .before .spaces) .result) (replicate {A = ℕ} 21 32)
+    (omega (arith, (c .before .before .spaces) .ensures, (c .before .before .before .before .before .pre) .1 .narrow, length-replicate {A = ℕ} 21 32)))
 
 put-requires : tie.Need-put-requires
 put-requires c κs = search needs
@@ -33,7 +34,12 @@ same-length c = search needs
 returns : tie.Need-returns
 returns c =
     let a = (c .before .before .before .before .before .before .before .before .before .before .before .before .args) in
-    column-adds (a .width) ((c .before .before .before .before .before .before .before .before .before .spaces) .result) (now (a .word)) ((c .before .before .before .before .before .before .before .before .before .before .before .before .pre) .1 .narrow) ((c .before .before .before .before .before .before .before .before .before .before .before .before .pre) .0) ((c .before .before .before .before .before .before .before .before .before .spaces) .ensures) ((c .before .before .before .before .before .before .put) .ensures) ((c .before .before .put2) .ensures) ((c .before .before .before .before .before .before .before .before .before .before .before .before .pre) .1 .room)
+    column-adds (a .width) ((c .before .before .before .before .before .before .before .before .before .spaces) .result) (now (a .word))
+    ((c .before .before .before .before .before .before .before .before .before .before .before .before .pre) .1 .narrow)
+    ((c .before .before .before .before .before .before .before .before .before .before .before .before .pre) .0)
+    ((c .before .before .before .before .before .before .before .before .before .spaces) .ensures)
+    ((c .before .before .before .before .before .before .put) .ensures) ((c .before .before .put2) .ensures)
+    ((c .before .before .before .before .before .before .before .before .before .before .before .before .pre) .1 .room)
 
 pub column-spec : {M : Type 1} → statement M
 column-spec =

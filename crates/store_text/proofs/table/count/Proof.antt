@@ -27,7 +27,9 @@ same-length c = search needs
 
 returns : tie.Need-returns
 returns c =
-    let a = (c .before .before .before .before .before .before .before .args) in by-text (ap (λ (t : Bool). inColumn (a .width) (cond t (text ".") (decimalOf (a .n)))) (sym (eq-eqb (a .n) 0 ((c .before .before .before .before .before .if1) .taken)))) ((c .before .before .column) .ensures)
+    let a = (c .before .before .before .before .before .before .before .args) in
+    by-text (ap (λ (t : Bool). inColumn (a .width) (cond t (text ".") (decimalOf (a .n))))
+    (sym (eq-eqb (a .n) 0 ((c .before .before .before .before .before .if1) .taken)))) ((c .before .before .column) .ensures)
 
 slice-aggregate-decimal : tie.Need-slice-aggregate-decimal
 slice-aggregate-decimal c = search needs
@@ -43,7 +45,8 @@ array-share-prefix-digits c =
     let a = (c .before .before .before .before .before .before .before .args) in
     let short = length-20 (a .n) in
     let room : 0 + length (decimalOf (a .n)) ≤ 20 = omega arith in
-    let d = adds-or (replicate 20 0) (0) (decimalOf (a .n)) ((c .before .before .before .decimal) .last .0) ((c .before .before .before .decimal) .result) ((c .before .or) .result) ((c .before .before .before .decimal) .ensures) ((c .before .or) .ensures) in
+    let d = adds-or (replicate 20 0) (0) (decimalOf (a .n)) ((c .before .before .before .decimal) .last .0)
+    ((c .before .before .before .decimal) .result) ((c .before .or) .result) ((c .before .before .before .decimal) .ensures) ((c .before .or) .ensures) in
     omega (arith, adds-to d room, adds-length d room)
 
 slice-aggregate-column-2 : tie.Need-slice-aggregate-column-2
@@ -51,15 +54,20 @@ slice-aggregate-column-2 c =
     let a = (c .before .before .before .before .before .before .before .before .args) in
     let short = length-20 (a .n) in
     let room : 0 + length (decimalOf (a .n)) ≤ 20 = omega arith in
-    let d = adds-or (replicate 20 0) (0) (decimalOf (a .n)) ((c .before .before .before .before .decimal) .last .0) ((c .before .before .before .before .decimal) .result) ((c .before .before .or) .result) ((c .before .before .before .before .decimal) .ensures) ((c .before .before .or) .ensures) in
-    sym (length-take-le ((c .before .before .or) .result) ((c .before .before .before .before .decimal) .last .0) (omega (arith, adds-to d room, adds-length d room)))
+    let d = adds-or (replicate 20 0) (0) (decimalOf (a .n)) ((c .before .before .before .before .decimal) .last .0)
+    ((c .before .before .before .before .decimal) .result) ((c .before .before .or) .result)
+    ((c .before .before .before .before .decimal) .ensures) ((c .before .before .or) .ensures) in
+    sym (length-take-le ((c .before .before .or) .result) ((c .before .before .before .before .decimal) .last .0)
+    (omega (arith, adds-to d room, adds-length d room)))
 
 column-requires-2 : tie.Need-column-requires-2
 column-requires-2 c κs =
     let a = (c .before .before .before .before .before .before .before .before .args) in
     let short = length-20 (a .n) in
     let room : 0 + length (decimalOf (a .n)) ≤ 20 = omega arith in
-    let d = adds-or (replicate 20 0) (0) (decimalOf (a .n)) ((c .before .before .before .before .decimal) .last .0) ((c .before .before .before .before .decimal) .result) ((c .before .before .or) .result) ((c .before .before .before .before .decimal) .ensures) ((c .before .before .or) .ensures) in
+    let d = adds-or (replicate 20 0) (0) (decimalOf (a .n)) ((c .before .before .before .before .decimal) .last .0)
+    ((c .before .before .before .before .decimal) .result) ((c .before .before .or) .result)
+    ((c .before .before .before .before .decimal) .ensures) ((c .before .before .or) .ensures) in
     (omega (arith, ap length (adds-front d room)), (c .before .before .before .before .before .before .before .before .pre))
 
 same-length-2 : tie.Need-same-length-2
@@ -70,8 +78,11 @@ returns-2 c =
     let a = (c .before .before .before .before .before .before .before .before .before .before .before .args) in
     let short = length-20 (a .n) in
     let room : 0 + length (decimalOf (a .n)) ≤ 20 = omega arith in
-    let d = adds-or (replicate 20 0) (0) (decimalOf (a .n)) ((c .before .before .before .before .before .before .before .decimal) .last .0) ((c .before .before .before .before .before .before .before .decimal) .result) ((c .before .before .before .before .before .or) .result) ((c .before .before .before .before .before .before .before .decimal) .ensures) ((c .before .before .before .before .before .or) .ensures) in
-    by-text (ap (inColumn (a .width)) (adds-front d room) ∙ ap (λ (t : Bool). inColumn (a .width) (cond t (text ".") (decimalOf (a .n)))) (sym (ne-eqb (a .n) 0 ((c .before .before .before .before .before .before .before .before .before .if1) .left)))) ((c .before .before .column2) .ensures)
+    let d = adds-or (replicate 20 0) (0) (decimalOf (a .n)) ((c .before .before .before .before .before .before .before .decimal) .last .0)
+    ((c .before .before .before .before .before .before .before .decimal) .result) ((c .before .before .before .before .before .or) .result)
+    ((c .before .before .before .before .before .before .before .decimal) .ensures) ((c .before .before .before .before .before .or) .ensures) in
+    by-text (ap (inColumn (a .width)) (adds-front d room) ∙ ap (λ (t : Bool). inColumn (a .width) (cond t (text ".") (decimalOf (a .n))))
+    (sym (ne-eqb (a .n) 0 ((c .before .before .before .before .before .before .before .before .before .if1) .left)))) ((c .before .before .column2) .ensures)
 
 pub count-spec : {M : Type 1} → statement M
 count-spec =

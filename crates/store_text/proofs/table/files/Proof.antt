@@ -19,7 +19,11 @@ abbrev μ-loop : tie.MeasureT-loop
 
 loop-holds : tie.Need-loop-holds Inv-loop μ-loop
 loop-holds c =
-    let a = (c .before .args) in (laying-none 8 (λ file. inColumn (a .width) (fileWord file)) (now (a .out)) (a .at) (omega (arith, (c .before .pre) .room)), search needs)
+    let a = (c .before .args) in (
+      laying-none 8 (λ file. inColumn (a .width) (fileWord file)) (now (a .out)) (a .at)
+          (omega (arith, (c .before .pre) .room)),
+      search needs,
+    )
 
 add-t8 : tie.Need-add-t8 Inv-loop μ-loop
 add-t8 c = search needs
@@ -31,8 +35,16 @@ column-requires : tie.Need-column-requires Inv-loop μ-loop
 column-requires c κs =
     let a = (c .before .before .before .before .before .args) in
     let l = (c .before .before .before .loop) in
-    let r = (c .before .before .before .before .before .pre) .room in
-    (omega arith, record { narrow = (c .before .before .before .before .before .pre) .narrow; room = laying-room 8 21 (λ file. inColumn (a .width) (fileWord file)) (length-files (a .width) ((c .before .before .before .before .before .pre) .narrow)) (now (a .out)) (a .at) (l .out) (l .end) (l .file) (l .inv .0) (omega (arith, r, (c .before .before .loop-test) .taken)) })
+    let r = (c .before .before .before .before .before .pre) .room in (
+      omega arith,
+      record {
+        narrow = (c .before .before .before .before .before .pre) .narrow;
+        room =
+            laying-room 8 21 (λ file. inColumn (a .width) (fileWord file)) (length-files (a .width)
+            ((c .before .before .before .before .before .pre) .narrow)) (now (a .out)) (a .at) (l .out) (l .end) (l .file) (l .inv .0)
+            (omega (arith, r, (c .before .before .loop-test) .taken));
+      },
+    )
 
 add-file : tie.Need-add-file Inv-loop μ-loop
 add-file c = search needs
@@ -44,8 +56,14 @@ loop-again : tie.Need-loop-again Inv-loop μ-loop
 loop-again c =
     let a = (c .before .before .before .before .before .before .before .before .args) in
     let l = (c .before .before .before .before .before .before .loop) in
-    let r = (c .before .before .before .before .before .before .before .before .pre) .room in
-    (laying-more 8 21 (λ file. inColumn (a .width) (fileWord file)) (length-files (a .width) ((c .before .before .before .before .before .before .before .before .pre) .narrow)) (now (a .out)) (a .at) (l .out) (l .end) (l .file) (l .inv .0) (omega (arith, r, (c .before .before .before .before .before .loop-test) .taken)) ((c .before .before .before .before .before .loop-test) .taken) ((c .before .before .column) .last .0) ((c .before .before .column) .result) ((c .before .before .column) .ensures), search needs)
+    let r = (c .before .before .before .before .before .before .before .before .pre) .room in (
+      laying-more 8 21 (λ file. inColumn (a .width) (fileWord file)) (length-files (a .width)
+          ((c .before .before .before .before .before .before .before .before .pre) .narrow)) (now (a .out)) (a .at) (l .out) (l .end) (l .file)
+          (l .inv .0) (omega (arith, r, (c .before .before .before .before .before .loop-test) .taken))
+          ((c .before .before .before .before .before .loop-test) .taken) ((c .before .before .column) .last .0) ((c .before .before .column) .result)
+          ((c .before .before .column) .ensures),
+      search needs,
+    )
 
 same-length : tie.Need-same-length Inv-loop μ-loop
 same-length c = search needs

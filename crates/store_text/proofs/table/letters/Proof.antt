@@ -17,7 +17,9 @@ put-requires c κs = search needs
 
 files-requires : tie.Need-files-requires
 files-requires c κs =
-    let p = after-room 1 169 ((c .before .before .before .put) .ensures) (omega arith) ((c .before .before .before .before .before .before .before .pre) .room) in record { narrow = (c .before .before .before .before .before .before .before .pre) .narrow; room = omega (arith, p) }
+    let p = after-room 1 169 ((c .before .before .before .put) .ensures) (omega arith)
+    ((c .before .before .before .before .before .before .before .pre) .room) in
+    record { narrow = (c .before .before .before .before .before .before .before .pre) .narrow; room = omega (arith, p) }
 
 slice-aggregate-put-2 : tie.Need-slice-aggregate-put-2
 slice-aggregate-put-2 c = search needs
@@ -32,8 +34,12 @@ returns : tie.Need-returns
 unfolding lettersRow
 returns c =
     let a = (c .before .before .before .before .before .before .before .before .before .before .before .before .before .before .before .args) in
-    let n = length-laid 8 21 (λ file. inColumn (a .width) (fileWord file)) (length-files (a .width) ((c .before .before .before .before .before .before .before .before .before .before .before .before .before .before .before .pre) .narrow)) in
-    adds-3 ((c .before .before .before .before .before .before .before .before .before .before .before .put) .ensures) ((c .before .before .before .before .before .before .before .files) .ensures) ((c .before .before .put2) .ensures) (omega (arith, n, (c .before .before .before .before .before .before .before .before .before .before .before .before .before .before .before .pre) .room))
+    let n = length-laid 8 21 (λ file. inColumn (a .width) (fileWord file))
+    (length-files (a .width) ((c .before .before .before .before .before .before .before .before .before .before .before .before .before .before
+    .before .pre) .narrow)) in
+    adds-3 ((c .before .before .before .before .before .before .before .before .before .before .before .put) .ensures)
+    ((c .before .before .before .before .before .before .before .files) .ensures) ((c .before .before .put2) .ensures)
+    (omega (arith, n, (c .before .before .before .before .before .before .before .before .before .before .before .before .before .before .before .pre) .room))
 
 pub letters-spec : {M : Type 1} → statement M
 letters-spec =

@@ -24,7 +24,8 @@ returns c =
     let a = (c .before .before .before .before .args) in
     let short = length-20 (a .most) in
     let room : 0 + length (decimalOf (a .most)) ≤ 20 = omega arith in
-    adds-to (adds-or (replicate 20 0) (0) (decimalOf (a .most)) ((c .before .before .decimal) .last .0) ((c .before .before .decimal) .result) ((c .or) .result) ((c .before .before .decimal) .ensures) ((c .or) .ensures)) room ∙ zero-add (length (decimalOf (a .most)))
+    adds-to (adds-or (replicate 20 0) (0) (decimalOf (a .most)) ((c .before .before .decimal) .last .0) ((c .before .before .decimal) .result)
+    ((c .or) .result) ((c .before .before .decimal) .ensures) ((c .or) .ensures)) room ∙ zero-add (length (decimalOf (a .most)))
 
 pub width-spec : {M : Type 1} → statement M
 width-spec = tie.close (tie.spec slice-aggregate-decimal decimal-requires or-requires returns)

@@ -17,7 +17,8 @@ same-length c = search needs
 returns : tie.Need-returns
 returns c =
     let a = (c .before .before .before .before .before .before .before .before .before .before .args) in
-    adds-then ((c .before .before .before .before .before .before .put) .ensures) ((c .before .before .number) .ensures) (omega (arith, length-20 (a .n), (c .before .before .before .before .before .before .before .before .before .before .pre)))
+    adds-then ((c .before .before .before .before .before .before .put) .ensures) ((c .before .before .number) .ensures)
+    (omega (arith, length-20 (a .n), (c .before .before .before .before .before .before .before .before .before .before .pre)))
 
 pub named-spec : {M : Type 1} → statement M
 named-spec = tie.close (tie.spec put-requires number-requires same-length returns)

@@ -18,7 +18,8 @@ same-length c = search needs
 returns : tie.Need-returns
 returns c =
     let a = (c .before .before .before .before .before .before .args) in
-    adds-or (now (a .out)) (a .at) (decimalOf (a .n)) ((c .before .before .before .decimal) .last .0) ((c .before .before .before .decimal) .result) ((c .or) .result) ((c .before .before .before .decimal) .ensures) ((c .or) .ensures)
+    adds-or (now (a .out)) (a .at) (decimalOf (a .n)) ((c .before .before .before .decimal) .last .0) ((c .before .before .before .decimal) .result)
+    ((c .or) .result) ((c .before .before .before .decimal) .ensures) ((c .or) .ensures)
 
 pub number-spec : {M : Type 1} → statement M
 number-spec = tie.close (tie.spec decimal-requires or-requires same-length returns)

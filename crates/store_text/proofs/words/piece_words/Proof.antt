@@ -89,7 +89,8 @@ returns : tie.Need-returns
 returns c =
     let a = (c .before .before .before .before .before .before .before .args) in
     let p = (c .before .before .put) in
-    subst (λ (k : ℕ). Adds (now (a .out)) (a .at) (pieceWords k) (p .last .0) (p .result)) (sym ((c .before .before .before .before .before .match) .keys1)) (p .ensures)
+    subst (λ (k : ℕ). Adds (now (a .out)) (a .at) (pieceWords k) (p .last .0) (p .result))
+    (sym ((c .before .before .before .before .before .match) .keys1)) (p .ensures)
 
 same-length-2 : tie.Need-same-length-2
 same-length-2 c = search needs
@@ -98,7 +99,8 @@ returns-2 : tie.Need-returns-2
 returns-2 c =
     let a = (c .before .before .before .before .before .before .before .args) in
     let p = (c .before .before .put2) in
-    subst (λ (k : ℕ). Adds (now (a .out)) (a .at) (pieceWords k) (p .last .0) (p .result)) (sym ((c .before .before .before .before .before .match) .keys2)) (p .ensures)
+    subst (λ (k : ℕ). Adds (now (a .out)) (a .at) (pieceWords k) (p .last .0) (p .result))
+    (sym ((c .before .before .before .before .before .match) .keys2)) (p .ensures)
 
 same-length-3 : tie.Need-same-length-3
 same-length-3 c = search needs
@@ -107,7 +109,8 @@ returns-3 : tie.Need-returns-3
 returns-3 c =
     let a = (c .before .before .before .before .before .before .before .args) in
     let p = (c .before .before .put3) in
-    subst (λ (k : ℕ). Adds (now (a .out)) (a .at) (pieceWords k) (p .last .0) (p .result)) (sym ((c .before .before .before .before .before .match) .keys3)) (p .ensures)
+    subst (λ (k : ℕ). Adds (now (a .out)) (a .at) (pieceWords k) (p .last .0) (p .result))
+    (sym ((c .before .before .before .before .before .match) .keys3)) (p .ensures)
 
 same-length-4 : tie.Need-same-length-4
 same-length-4 c = search needs
@@ -116,7 +119,8 @@ returns-4 : tie.Need-returns-4
 returns-4 c =
     let a = (c .before .before .before .before .before .before .before .args) in
     let p = (c .before .before .put4) in
-    subst (λ (k : ℕ). Adds (now (a .out)) (a .at) (pieceWords k) (p .last .0) (p .result)) (sym ((c .before .before .before .before .before .match) .keys4)) (p .ensures)
+    subst (λ (k : ℕ). Adds (now (a .out)) (a .at) (pieceWords k) (p .last .0) (p .result))
+    (sym ((c .before .before .before .before .before .match) .keys4)) (p .ensures)
 
 same-length-5 : tie.Need-same-length-5
 same-length-5 c = search needs
@@ -125,7 +129,8 @@ returns-5 : tie.Need-returns-5
 returns-5 c =
     let a = (c .before .before .before .before .before .before .before .args) in
     let p = (c .before .before .put5) in
-    subst (λ (k : ℕ). Adds (now (a .out)) (a .at) (pieceWords k) (p .last .0) (p .result)) (sym ((c .before .before .before .before .before .match) .keys5)) (p .ensures)
+    subst (λ (k : ℕ). Adds (now (a .out)) (a .at) (pieceWords k) (p .last .0) (p .result))
+    (sym ((c .before .before .before .before .before .match) .keys5)) (p .ensures)
 
 same-length-6 : tie.Need-same-length-6
 same-length-6 c = search needs
@@ -134,7 +139,8 @@ returns-6 : tie.Need-returns-6
 returns-6 c =
     let a = (c .before .before .before .before .before .before .before .args) in
     let p = (c .before .before .put6) in
-    subst (λ (k : ℕ). Adds (now (a .out)) (a .at) (pieceWords k) (p .last .0) (p .result)) (sym ((c .before .before .before .before .before .match) .keys6)) (p .ensures)
+    subst (λ (k : ℕ). Adds (now (a .out)) (a .at) (pieceWords k) (p .last .0) (p .result))
+    (sym ((c .before .before .before .before .before .match) .keys6)) (p .ensures)
 
 same-length-7 : tie.Need-same-length-7
 same-length-7 c = search needs
@@ -143,7 +149,8 @@ returns-7 : tie.Need-returns-7
 returns-7 c =
     let a = (c .before .before .before .before .before .before .before .args) in
     let p = (c .before .before .put7) in
-    subst (λ (k : ℕ). Adds (now (a .out)) (a .at) (pieceWords k) (p .last .0) (p .result)) (sym ((c .before .before .before .before .before .match) .keys7)) (p .ensures)
+    subst (λ (k : ℕ). Adds (now (a .out)) (a .at) (pieceWords k) (p .last .0) (p .result))
+    (sym ((c .before .before .before .before .before .match) .keys7)) (p .ensures)
 
 same-length-8 : tie.Need-same-length-8
 same-length-8 c = search needs
@@ -152,7 +159,8 @@ returns-8 : tie.Need-returns-8
 returns-8 c =
     let a = (c .before .before .before .before .before .before .before .args) in
     let p = (c .before .before .put8) in
-    subst (λ (k : ℕ). Adds (now (a .out)) (a .at) (pieceWords k) (p .last .0) (p .result)) (sym ((c .before .before .before .before .before .match) .keys8)) (p .ensures)
+    subst (λ (k : ℕ). Adds (now (a .out)) (a .at) (pieceWords k) (p .last .0) (p .result))
+    (sym ((c .before .before .before .before .before .match) .keys8)) (p .ensures)
 
 same-length-9 : tie.Need-same-length-9
 same-length-9 c = search needs
@@ -161,7 +169,8 @@ returns-9 : tie.Need-returns-9
 returns-9 c =
     let a = (c .before .before .before .before .before .before .before .args) in
     let p = (c .before .before .put9) in
-    subst (λ (k : ℕ). Adds (now (a .out)) (a .at) (pieceWords k) (p .last .0) (p .result)) (sym ((c .before .before .before .before .before .match) .keys9)) (p .ensures)
+    subst (λ (k : ℕ). Adds (now (a .out)) (a .at) (pieceWords k) (p .last .0) (p .result))
+    (sym ((c .before .before .before .before .before .match) .keys9)) (p .ensures)
 
 same-length-10 : tie.Need-same-length-10
 same-length-10 c = search needs
@@ -170,7 +179,8 @@ returns-10 : tie.Need-returns-10
 returns-10 c =
     let a = (c .before .before .before .before .before .before .before .args) in
     let p = (c .before .before .put10) in
-    subst (λ (k : ℕ). Adds (now (a .out)) (a .at) (pieceWords k) (p .last .0) (p .result)) (sym ((c .before .before .before .before .before .match) .keys10)) (p .ensures)
+    subst (λ (k : ℕ). Adds (now (a .out)) (a .at) (pieceWords k) (p .last .0) (p .result))
+    (sym ((c .before .before .before .before .before .match) .keys10)) (p .ensures)
 
 same-length-11 : tie.Need-same-length-11
 same-length-11 c = search needs
@@ -179,7 +189,8 @@ returns-11 : tie.Need-returns-11
 returns-11 c =
     let a = (c .before .before .before .before .before .before .before .args) in
     let p = (c .before .before .put11) in
-    subst (λ (k : ℕ). Adds (now (a .out)) (a .at) (pieceWords k) (p .last .0) (p .result)) (sym ((c .before .before .before .before .before .match) .keys11)) (p .ensures)
+    subst (λ (k : ℕ). Adds (now (a .out)) (a .at) (pieceWords k) (p .last .0) (p .result))
+    (sym ((c .before .before .before .before .before .match) .keys11)) (p .ensures)
 
 same-length-12 : tie.Need-same-length-12
 same-length-12 c = search needs
@@ -188,7 +199,9 @@ returns-12 : tie.Need-returns-12
 returns-12 c =
     let a = (c .before .before .before .before .before .before .before .args) in
     let r = (c .before .before .before .before .before .match) .rest in
-    by-text (queen (a .piece) (r .0 .0 .0 .0 .0 .0 .0 .0 .0 .0 .1) (r .0 .0 .0 .0 .0 .0 .0 .0 .0 .1) (r .0 .0 .0 .0 .0 .0 .0 .0 .1) (r .0 .0 .0 .0 .0 .0 .0 .1) (r .0 .0 .0 .0 .0 .0 .1) (r .0 .0 .0 .0 .0 .1) (r .0 .0 .0 .0 .1) (r .0 .0 .0 .1) (r .0 .0 .1) (r .0 .1) (r .1)) ((c .before .before .put12) .ensures)
+    by-text (queen (a .piece) (r .0 .0 .0 .0 .0 .0 .0 .0 .0 .0 .1) (r .0 .0 .0 .0 .0 .0 .0 .0 .0 .1) (r .0 .0 .0 .0 .0 .0 .0 .0 .1)
+    (r .0 .0 .0 .0 .0 .0 .0 .1) (r .0 .0 .0 .0 .0 .0 .1) (r .0 .0 .0 .0 .0 .1) (r .0 .0 .0 .0 .1) (r .0 .0 .0 .1) (r .0 .0 .1) (r .0 .1) (r .1))
+    ((c .before .before .put12) .ensures)
 
 pub piece-words-spec : {M : Type 1} → statement M
 piece-words-spec =

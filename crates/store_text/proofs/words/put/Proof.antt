@@ -17,7 +17,8 @@ same-length c = search needs
 returns : tie.Need-returns
 returns c =
     let a = (c .before .before .before .before .before .before .before .args) in
-    adds-or (now (a .out)) (a .at) (now (a .s)) ((c .before .before .before .put) .last .0) ((c .before .before .before .put) .result) ((c .or) .result) ((c .before .before .before .put) .ensures) ((c .or) .ensures)
+    adds-or (now (a .out)) (a .at) (now (a .s)) ((c .before .before .before .put) .last .0) ((c .before .before .before .put) .result)
+    ((c .or) .result) ((c .before .before .before .put) .ensures) ((c .or) .ensures)
 
 pub put-spec : {M : Type 1} → statement M
 put-spec = tie.close (tie.spec put-requires or-requires same-length returns)

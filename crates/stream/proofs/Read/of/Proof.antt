@@ -12,12 +12,14 @@ broken-off-requires c κs = search needs
 returns : tie.Need-returns
 returns c =
     let s = c .before .before .before in
-    read-again (s .args .got) (s .args .error) (s .args .room) (below-bits (s .fits .got) (c .before .before .if1 .taken)) (broken-said (s .fits .error) (c .before .broken-off .ensures) (c .if2 .taken))
+    read-again (s .args .got) (s .args .error) (s .args .room) (below-bits (s .fits .got) (c .before .before .if1 .taken))
+    (broken-said (s .fits .error) (c .before .broken-off .ensures) (c .if2 .taken))
 
 returns-2 : tie.Need-returns-2
 returns-2 c =
     let s = c .before .before .before in
-    read-failed (s .args .got) (s .args .error) (s .args .room) (below-bits (s .fits .got) (c .before .before .if1 .taken)) (broken-said (s .fits .error) (c .before .broken-off .ensures) (c .if2 .left))
+    read-failed (s .args .got) (s .args .error) (s .args .room) (below-bits (s .fits .got) (c .before .before .if1 .taken))
+    (broken-said (s .fits .error) (c .before .broken-off .ensures) (c .if2 .left))
 
 returns-3 : tie.Need-returns-3
 returns-3 c =

@@ -12,12 +12,14 @@ broken-off-requires c κs = search needs
 returns : tie.Need-returns
 returns c =
     let s = c .before .before .before in
-    write-again (s .args .put) (s .args .error) (s .args .size) (s .args .done) (below-bits (s .fits .put) (c .before .before .if1 .taken)) (broken-said (s .fits .error) (c .before .broken-off .ensures) (c .if2 .taken))
+    write-again (s .args .put) (s .args .error) (s .args .size) (s .args .done) (below-bits (s .fits .put) (c .before .before .if1 .taken))
+    (broken-said (s .fits .error) (c .before .broken-off .ensures) (c .if2 .taken))
 
 returns-2 : tie.Need-returns-2
 returns-2 c =
     let s = c .before .before .before in
-    write-failed (s .args .put) (s .args .error) (s .args .size) (s .args .done) (below-bits (s .fits .put) (c .before .before .if1 .taken)) (broken-said (s .fits .error) (c .before .broken-off .ensures) (c .if2 .left))
+    write-failed (s .args .put) (s .args .error) (s .args .size) (s .args .done) (below-bits (s .fits .put) (c .before .before .if1 .taken))
+    (broken-said (s .fits .error) (c .before .broken-off .ensures) (c .if2 .left))
 
 returns-3 : tie.Need-returns-3
 returns-3 c =
@@ -37,7 +39,8 @@ add-next : tie.Need-add-next
 add-next c =
     let s = c .before .before .before .before in
     record {
-      fits = took-fits (s .args .size) (s .args .done) (c .before .left .result) (c .least .result) _ (s .fits .size .fits) (s .fits .done .fits) (c .before .left .ensures) (c .least .ensures);
+      fits = took-fits (s .args .size) (s .args .done) (c .before .left .result) (c .least .result) _ (s .fits .size .fits) (s .fits .done .fits)
+          (c .before .left .ensures) (c .least .ensures);
     }
 
 returns-4 : tie.Need-returns-4

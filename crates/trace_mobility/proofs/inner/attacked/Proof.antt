@@ -17,13 +17,16 @@ one-by-one-requires : tie.Need-one-by-one-requires
 one-by-one-requires c κs = search needs
 
 returns : tie.Need-returns
-returns c = let a = c .before .before .args in of-pawns (c .by-pawns .result) (a .pieces) (a .kind) (a .color) (a .occupied) (c .before .match .keys1) (c .by-pawns .ensures)
+returns c = let a = c .before .before .args in of-pawns (c .by-pawns .result) (a .pieces) (a .kind) (a .color) (a .occupied) (c .before .match .keys1)
+    (c .by-pawns .ensures)
 
 returns-2 : tie.Need-returns-2
-returns-2 c = let a = c .before .before .args in of-knights (c .by-knights .result) (a .pieces) (a .kind) (a .color) (a .occupied) (c .before .match .keys2) (c .by-knights .ensures)
+returns-2 c = let a = c .before .before .args in of-knights (c .by-knights .result) (a .pieces) (a .kind) (a .color) (a .occupied)
+    (c .before .match .keys2) (c .by-knights .ensures)
 
 returns-3 : tie.Need-returns-3
-returns-3 c = let a = c .before .before .args in of-kings (c .by-kings .result) (a .pieces) (a .kind) (a .color) (a .occupied) (c .before .match .keys3) (c .by-kings .ensures)
+returns-3 c = let a = c .before .before .args in of-kings (c .by-kings .result) (a .pieces) (a .kind) (a .color) (a .occupied)
+    (c .before .match .keys3) (c .by-kings .ensures)
 
 returns-4 : tie.Need-returns-4
 returns-4 c = search needs

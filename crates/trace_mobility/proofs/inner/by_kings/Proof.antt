@@ -35,7 +35,8 @@ add-result-2 c = record { fits = omega (arith, few c .0, few c .1, few c .2) }
 
 returns : tie.Need-returns
 returns c =
-    three (c .before .before .shared .result) (c .before .shared2 .result) (c .shared3 .result) _ _ _ (c .before .before .shared .ensures .0) (c .before .shared2 .ensures .0) (c .shared3 .ensures .0)
+    three (c .before .before .shared .result) (c .before .shared2 .result) (c .shared3 .result) _ _ _ (c .before .before .shared .ensures .0)
+    (c .before .shared2 .ensures .0) (c .shared3 .ensures .0)
 
 pub by-kings-spec : {M : Type 1} → statement M
 by-kings-spec =

@@ -19,7 +19,8 @@ shared-requires-4 : tie.Need-shared-requires-4
 shared-requires-4 c κs = search needs
 
 few : (c : tie.After-shared4)
-    → (c .before .before .before .shared .result ≤ 64) × (c .before .before .shared2 .result ≤ 64) × (c .before .shared3 .result ≤ 64) × (c .shared4 .result ≤ 64)
+    → (c .before .before .before .shared .result ≤ 64) × (c .before .before .shared2 .result ≤ 64) × (c .before .shared3 .result ≤ 64)
+    × (c .shared4 .result ≤ 64)
 few c = (c .before .before .before .shared .ensures .1, c .before .before .shared2 .ensures .1, c .before .shared3 .ensures .1, c .shared4 .ensures .1)
 
 mul-result : tie.Need-mul-result
@@ -43,7 +44,8 @@ add-result-3 c = record { fits = omega (arith, few c .0, few c .1, few c .2, few
 returns : tie.Need-returns
 returns c =
     let k = c .before .before .before in
-    four (k .shared .result) (c .before .before .shared2 .result) (c .before .shared3 .result) (c .shared4 .result) _ _ _ _ (k .shared .ensures .0) (c .before .before .shared2 .ensures .0)
+    four (k .shared .result) (c .before .before .shared2 .result) (c .before .shared3 .result) (c .shared4 .result) _ _ _ _ (k .shared .ensures .0)
+    (c .before .before .shared2 .ensures .0)
     (c .before .shared3 .ensures .0) (c .shared4 .ensures .0)
 
 pub by-knights-spec : {M : Type 1} → statement M

@@ -18,7 +18,8 @@ add-result c = record { fits = omega (arith, c .before .shared .ensures .1, c .s
 returns : tie.Need-returns
 returns c =
     let i = c .before .before in
-    simp (eq-eqb (i .before .args .color) 0 (i .if1 .taken)) (two (c .before .shared .result) (c .shared2 .result) _ _ (c .before .shared .ensures .0) (c .shared2 .ensures .0))
+    simp (eq-eqb (i .before .args .color) 0 (i .if1 .taken)) (two (c .before .shared .result) (c .shared2 .result) _ _ (c .before .shared .ensures .0)
+    (c .shared2 .ensures .0))
 
 shared-requires-3 : tie.Need-shared-requires-3
 shared-requires-3 c κs = search needs
@@ -32,7 +33,8 @@ add-result-2 c = record { fits = omega (arith, c .before .shared3 .ensures .1, c
 returns-2 : tie.Need-returns-2
 returns-2 c =
     let i = c .before .before in
-    simp (ne-eqb (i .before .args .color) 0 (i .if1 .left)) (two (c .before .shared3 .result) (c .shared4 .result) _ _ (c .before .shared3 .ensures .0) (c .shared4 .ensures .0))
+    simp (ne-eqb (i .before .args .color) 0 (i .if1 .left)) (two (c .before .shared3 .result) (c .shared4 .result) _ _ (c .before .shared3 .ensures .0)
+    (c .shared4 .ensures .0))
 
 pub by-pawns-spec : {M : Type 1} → statement M
 by-pawns-spec =

@@ -49,7 +49,8 @@ returns c =
     let a = c .before .before .before .before .args in
     let f : ℕ → ℕ = reach (a .kind) (a .color) (a .occupied) in
     let over : squares (l .rest) ≡ [] = next-done (l .rest) (sym (ap lowest (c .enum-told .given .1)) ∙ c .before .before .next .ensures) in
-    sym (ap (counted f (l .sum)) over ∙ counted-none f (l .sum)) ∙ l .inv .1 ∙ sym (attacked-counted (λ s. attacks (a .kind) (a .color) s (a .occupied)) (a .pieces))
+    sym (ap (counted f (l .sum)) over ∙ counted-none f (l .sum)) ∙ l .inv .1
+    ∙ sym (attacked-counted (λ s. attacks (a .kind) (a .color) s (a .occupied)) (a .pieces))
 
 attacks-from-requires : tie.Need-attacks-from-requires Inv-loop μ-loop
 attacks-from-requires c κs = search needs
@@ -59,7 +60,8 @@ count-requires c κs = search needs
 
 -- the lowest square and the rest
 first : (c : tie.After-count Inv-loop μ-loop)
-    → squares (c .before .before .before .before .before .before .loop .rest) ≡ c .before .before .before .n .given .0 .0 ∷ squares (c .before .before .before .n .given .0 .1 .0)
+    → squares (c .before .before .before .before .before .before .loop .rest) ≡ c .before .before .before .n .given .0 .0
+    ∷ squares (c .before .before .before .n .given .0 .1 .0)
 first c =
     let n = c .before .before .before in
     let l = n .before .before .before .loop in
@@ -67,9 +69,11 @@ first c =
 
 -- what the piece adds, and what is left
 left : (c : tie.After-count Inv-loop μ-loop)
-    → c .before .before .before .before .before .before .loop .sum + c .count .result + 64 * length (squares (c .before .before .before .n .given .0 .1 .0)) ≤ 4096
+    → c .before .before .before .before .before .before .loop .sum + c .count .result + 64
+    * length (squares (c .before .before .before .n .given .0 .1 .0)) ≤ 4096
 left c =
-    let e : length (squares (c .before .before .before .before .before .before .loop .rest)) ≡ suc (length (squares (c .before .before .before .n .given .0 .1 .0))) = ap length (first c) in
+    let e : length (squares (c .before .before .before .before .before .before .loop .rest))
+    ≡ suc (length (squares (c .before .before .before .n .given .0 .1 .0))) = ap length (first c) in
     omega (arith, c .count .ensures, many-le 64 (has (c .before .attacks-from .result)), c .before .before .before .before .before .before .loop .inv .2)
 
 add-sum : tie.Need-add-sum Inv-loop μ-loop

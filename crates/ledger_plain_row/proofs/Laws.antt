@@ -29,18 +29,6 @@ module _ (least most b : ℕ) where
   pub between-up : least ≤ b → leb b most ≡ (leb least b && leb b most)
   between-up h = rw (le-leb least b h)
 
--- ---- the first byte
-pub none-starts : (byte : ℕ) (s : List ℕ) → length s ≡ 0 → false ≡ startsWith byte s
-none-starts byte [] h = refl
-none-starts byte (b ∷ s) h = absurd (no h)
-  where
-    no : suc (length s) ≡ 0 → ⊥
-    no q = omega arith
-
-pub first-starts : (byte : ℕ) (s : List ℕ) → (length s ≡ 0 → ⊥) → eqb (getD s 0 0) byte ≡ startsWith byte s
-first-starts byte [] h = absurd (h refl)
-first-starts byte (b ∷ s) h = refl
-
 -- ---- a number as the row's own, and as a score's
 module _ (n : Number) where
   pub own-none : (number : ℕ) → n .size ≡ 0 → false ≡ isOwn number n

@@ -1,5 +1,4 @@
--- Mobility (document 01, "The score"). What some pieces attack is counted for any rule of it: document 01's, or that of step tables which are lent.
--- Definitions only.
+-- Mobility (document 01, "The score"). Definitions only.
 use mathlib.Core.List.{List, [], _∷_}
 use Prim.Native.Nat.{ℕ, _*_}
 use lib.ListN.{getD}

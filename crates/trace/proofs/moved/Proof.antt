@@ -3,7 +3,7 @@ use Prim.Native.Nat.{ℕ, _≤_}
 use borrow.Author.Needs.{needs}
 use Rattle.attack.specs.Attacks.{attacks}
 use Rattle.score_tally.specs.Mobility.{attacked}
-use Rattle.trace_mobility.proofs.Sums.{attacked-most}
+use Rattle.score_walks.proofs.Rooms.{attacked-le}
 use Rattle.trace.proofs.Counted.{held-number}
 use Rattle.trace.proofs.Walks.{moved-is}
 use Rattle.trace.proofs.moved.Statement.{statement}
@@ -24,7 +24,7 @@ small c =
     let o = c .before in
     let s = o .before in
     let a = s .before .before .args in
-    rw (c .attacked .ensures) (attacked-most (λ (x : ℕ). attacks (a .kind) (a .color) x (o .occupied .result)) (s .standing .result))
+    rw (c .attacked .ensures) (attacked-le (λ (x : ℕ). attacks (a .kind) (a .color) x (o .occupied .result)) (s .standing .result))
 
 whole-requires : tie.Need-whole-requires
 whole-requires c κs = small c

@@ -4,8 +4,7 @@ use mathlib.Core.Bool.{Bool, true, false, cond}
 use mathlib.Core.List.{_∷_}
 use Prim.Native.Nat.{ℕ, zero, suc, _+_, _<_}
 use native.Mathlib.Omega.{arith}
-use lib.IntN.{ℤ, _+ℤ_}
-use Rattle.laws.specs.Sums.{counted, added}
+use Rattle.laws.specs.Sums.{counted}
 use Rattle.bits.specs.Bitboard.{has, squaresFrom, squares}
 
 counted-from : (f g : ℕ → ℕ) (n k b a : ℕ) → ((s : ℕ) → s < k + n → f s ≡ g s) → counted f a (squaresFrom n k b) ≡ counted g a (squaresFrom n k b)
@@ -22,18 +21,3 @@ counted-from f g (suc n) k b a e = pick (has b k) (λ z. counted-from f g n (suc
 pub counted-squares : (f g : ℕ → ℕ) (b a : ℕ) → ((s : ℕ) → s < 64 → f s ≡ g s) → counted f a (squares b) ≡ counted g a (squares b)
 unfolding squares
 counted-squares f g b a e = counted-from f g 64 0 b a (λ s h. e s (omega arith))
-
-added-from : (f g : ℕ → ℤ) (n k b : ℕ) (a : ℤ) → ((s : ℕ) → s < k + n → f s ≡ g s) → added f a (squaresFrom n k b) ≡ added g a (squaresFrom n k b)
-unfolding added squaresFrom
-added-from f g zero k b a e = refl
-added-from f g (suc n) k b a e = pick (has b k) (λ z. added-from f g n (suc k) b z (λ s h. e s (omega arith)))
-  where
-    pick : (t : Bool) → ((z : ℤ) → added f z (squaresFrom n (suc k) b) ≡ added g z (squaresFrom n (suc k) b))
-        → added f a (cond t (k ∷ squaresFrom n (suc k) b) (squaresFrom n (suc k) b))
-        ≡ added g a (cond t (k ∷ squaresFrom n (suc k) b) (squaresFrom n (suc k) b))
-    pick true rest = ap (λ (x : ℤ). added f (a +ℤ x) (squaresFrom n (suc k) b)) (e k (omega arith)) ∙ rest (a +ℤ g k)
-    pick false rest = rest a
-
-pub added-squares : (f g : ℕ → ℤ) (b : ℕ) (a : ℤ) → ((s : ℕ) → s < 64 → f s ≡ g s) → added f a (squares b) ≡ added g a (squares b)
-unfolding squares
-added-squares f g b a e = added-from f g 64 0 b a (λ s h. e s (omega arith))

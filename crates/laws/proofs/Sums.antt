@@ -5,8 +5,8 @@ use Prim.Native.Nat.{ℕ, zero, suc, _+_, _*_, _<_, _≤_}
 use native.Mathlib.Nat.{mul-suc}
 use native.Mathlib.Numerals.{add-one}
 use native.Mathlib.Omega.{arith}
-use lib.IntN.{ℤ, pos, _+ℤ_}
-use Rattle.laws.specs.Sums.{sumN, sumZ, counted, added}
+use lib.IntN.{ℤ, _+ℤ_}
+use Rattle.laws.specs.Sums.{sumN, sumZ, counted}
 
 -- ---- one term on, as a loop goes
 pub sum-none : (f : ℕ → ℕ) → sumN 0 f ≡ 0
@@ -17,14 +17,6 @@ pub sum-more : (f : ℕ → ℕ) (n : ℕ) → sumN (n + 1) f ≡ sumN n f + f n
 unfolding sumN
 sum-more f n = ap (λ (k : ℕ). sumN k f) (add-one n)
 
-pub whole-none : (f : ℕ → ℤ) → sumZ 0 f ≡ pos 0
-unfolding sumZ
-whole-none f = refl
-
-pub whole-more : (f : ℕ → ℤ) (n : ℕ) → sumZ (n + 1) f ≡ sumZ n f +ℤ f n
-unfolding sumZ
-whole-more f n = ap (λ (k : ℕ). sumZ k f) (add-one n)
-
 pub counted-none : (f : ℕ → ℕ) (a : ℕ) → counted f a [] ≡ a
 unfolding counted
 counted-none f a = refl
@@ -32,14 +24,6 @@ counted-none f a = refl
 pub counted-one : (f : ℕ → ℕ) (a s : ℕ) (l : List ℕ) → counted f a (s ∷ l) ≡ counted f (a + f s) l
 unfolding counted
 counted-one f a s l = refl
-
-pub added-none : (f : ℕ → ℤ) (a : ℤ) → added f a [] ≡ a
-unfolding added
-added-none f a = refl
-
-pub added-one : (f : ℕ → ℤ) (a : ℤ) (s : ℕ) (l : List ℕ) → added f a (s ∷ l) ≡ added f (a +ℤ f s) l
-unfolding added
-added-one f a s l = refl
 
 -- ---- the same terms
 pub sum-same : (n : ℕ) (f g : ℕ → ℕ) → ((k : ℕ) → k < n → f k ≡ g k) → sumN n f ≡ sumN n g

@@ -24,7 +24,7 @@ use Rattle.ledger_feed.specs.declared.SoFar.{SoFar}
 use Rattle.ledger_feed.proofs.Counted.{tally-both}
 use Rattle.ledger_finish.specs.Promises.{unfinished}
 use Rattle.ledger_finish.proofs.Doors.{one-unfinished}
-use Rattle.fit_sample.proofs.Parts.{adds-none}
+use Rattle.text_out.proofs.Added.{adds-none}
 use Rattle.sift_form.specs.Forms.{roomOf, madeOf}
 use Rattle.sift_form.specs.declared.Form.{Form}
 use Rattle.sift_close.specs.Ended.{madeBy, refusedRowOf, ClosesSifted}

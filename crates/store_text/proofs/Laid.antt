@@ -7,7 +7,7 @@ use native.Mathlib.Numerals.{add-one}
 use native.Mathlib.Omega.{arith}
 use lib.ListN.{length, length-append}
 use Rattle.text_out.specs.Text.{Adds}
-use Rattle.text_out.proofs.Added.{adds-then}
+use Rattle.text_out.proofs.Added.{adds-then, adds-none}
 use Rattle.ledger_totals.proofs.Point.{after-room}
 use Rattle.store_text.specs.Board.{laid}
 
@@ -30,7 +30,7 @@ pub record Laying (n : ℕ) (f : ℕ → List ℕ) (old : List ℕ) (at : ℕ) (
 
 pub laying-none : (n : ℕ) (f : ℕ → List ℕ) (old : List ℕ) (at : ℕ) → at ≤ length old → Laying n f old at old at 0
 unfolding laid
-laying-none n f old at h = record { most = omega arith; adds = adds-none old at h }
+laying-none n f old at h = record { most = omega arith; adds = adds-none old at }
 
 module _ (n k : ℕ) (f : ℕ → List ℕ) (size : (i : ℕ) → length (f i) ≤ k) (old : List ℕ) (at : ℕ) (now : List ℕ) (end i : ℕ) (l : Laying n f old at now end i)
     (room : at + (i * k + k) ≤ length old) where

@@ -230,6 +230,21 @@ pub const ERROR: &[Cause] = &[
 pub const BUFFER: &[Cause] =
     &[of("SHAPE", "a line buffer of 255 bytes", |x| drop(x.buffer.pop())), of("SHAPE", "a line buffer of 257 bytes", |x| x.buffer.push(0))];
 
+/// A part joined to another: what both come to.
+pub const ERRORS_JOINED: &[Cause] = &[
+    of("MANY", "a million lines with a score before one more", |x| x.totals[0] = 1_000_000),
+    of("MANY", "a million and a verdict, counted apart", |x| x.more[1] = 1_000_001),
+    of("MANY", "a sum past 64 bits", |x| x.totals[2] = u64::MAX),
+    of("MANY", "refused lines past 64 bits", |x| x.long = u64::MAX),
+];
+
+pub const SUMMARIES_JOINED: &[Cause] = &[
+    of("SHAPE", "769 numbers of the other", |x| drop(x.more_summary.pop())),
+    of("SHAPE", "771 numbers of the other", |x| x.more_summary.push(0)),
+    of("MANY", "10,000,000 records before one more", |x| x.summary[0] = 10_000_000),
+    of("MANY", "10,000,000 records after one", |x| x.more_summary[0] = 10_000_000),
+];
+
 pub const ERROR_END: &[Cause] = &[of("MANY", "a line that found no room", |x| x.errors[6] = 1)];
 
 /// The ledger's own numbers.

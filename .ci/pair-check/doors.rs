@@ -89,6 +89,9 @@ fn records() -> Vec<Door> {
         door("chess_add_record", &[BOARDS, POSITION, SUMMARY, RUN, ADDED], |x| {
             position!(chess_add_record, x, x.half_points, x.run.as_mut_ptr(), x.run.len(), x.summary.as_mut_ptr(), x.summary.len())
         }),
+        door("chess_join_summary", &[SUMMARY, SUMMARIES_JOINED], |x| unsafe {
+            chess_join_summary(x.summary.as_mut_ptr(), x.summary.len(), x.more_summary.as_ptr(), x.more_summary.len())
+        }),
         door("chess_replace_record", &[BOARDS, POSITION, SUMMARY, RUN, NUMBER, REPLACED], |x| {
             position!(chess_replace_record, x, x.half_points, x.number, x.run.as_mut_ptr(), x.run.len(), x.summary.as_mut_ptr(), x.summary.len())
         }),
@@ -219,6 +222,9 @@ fn collections() -> Vec<Door> {
             }),
         ),
         door("chess_error_add", &[ERROR], |x| unsafe { chess_error_add(x.totals.as_mut_ptr(), x.color, true, 117, x.half_points) }),
+        door("chess_error_join", &[ERRORS_JOINED], |x| unsafe {
+            chess_error_join(x.totals.as_mut_ptr(), &mut x.long, x.more.as_ptr(), x.others)
+        }),
         door("chess_error_feed", &[BUFFER], |x| unsafe {
             chess_error_feed(x.errors.as_mut_ptr(), x.buffer.as_mut_ptr(), x.buffer.len(), x.chunk.as_ptr(), x.chunk.len())
         }),

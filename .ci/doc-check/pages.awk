@@ -17,7 +17,7 @@ function judge_paths(line,    path, before) {
         path = substr(line, RSTART, RLENGTH)
         line = substr(line, RSTART + RLENGTH)
         sub(/[.\/-]+$/, "", path)
-        if (before !~ /[A-Za-z0-9_\/.-]/ && !is_open(path) && path !~ /(^|\/)target(\/|$)/) judge_path(path)
+        if (before !~ /[A-Za-z0-9_\/.-]/ && !is_open(path) && path !~ /(^|\/)target(\/|$)|^crates\/[^\/]*\/out(\/|$)/) judge_path(path)
     }
 }
 
@@ -99,7 +99,7 @@ function judge_function(name,    part, n, i) {
 # ---- commands: rt check bits chess
 
 function judge_commands(line,    text, word, n, i) {
-    while (match(line, /(^|[ `(])rt (check|dev|must-fail|staticlib|try|goals|mir)( [a-z_]+)+/)) {
+    while (match(line, /(^|[ `(])rt (check|verdict|lib|run|test|try|ci|must-fail|expand|tidy|plant)( [a-z_]+)+/)) {
         text = substr(line, RSTART, RLENGTH)
         line = substr(line, RSTART + RLENGTH)
         if (line ~ /^[a-zA-Z]/) continue

@@ -12,7 +12,7 @@ function new_import(name, module, alias,    part, n, i) {
     import_module[imports] = module
     import_word[imports] = alias
     import_passed_on[imports] = passes_on
-    n = split(alias, part, "_")
+    n = split(alias, part, "◌")
     part[n + 1] = alias
     for (i = 1; i <= n + 1; i++) if (part[i] != "") imported[path, part[i]] = imports
 }
@@ -56,15 +56,12 @@ function note_source_use(text,    part, n, i, word) {
     }
 }
 
-# The file that a module of the house stands in, or "": Rattle·bits.specs.Board, and inside the crate Rattle·bits·specs.specs.Board.
+# The file that a module of the house stands in, or "": Rattle.bits.specs.Board.
 function file_of(module) {
-    if (!match(module, /^Rattle·[A-Za-z0-9_]+/)) return ""
-    crate_named = substr(module, 1, RLENGTH)
-    sub(/^Rattle·/, "", crate_named)
-    module = substr(module, RLENGTH + 1)
-    sub(/^·(specs|proofs)/, "", module)
+    if (module !~ /^Rattle\.[a-z0-9_]+\.(specs|proofs)\./) return ""
+    sub(/^Rattle\./, "", module)
     gsub(/\./, "/", module)
-    return "crates/" crate_named module ".antt"
+    return "crates/" module ".antt"
 }
 
 # ---- words

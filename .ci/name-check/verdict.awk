@@ -4,7 +4,7 @@
 
 # home[path, word]: the items that a file declares under a word, an operator under its parts too.
 function settle(item,    part, n, i) {
-    n = split(name_of[item], part, "_")
+    n = split(name_of[item], part, "◌")
     part[n + 1] = name_of[item]
     for (i = 1; i <= n + 1; i++) if (part[i] != "") home[path_of[item], part[i]] = home[path_of[item], part[i]] " " item
 }
@@ -15,11 +15,23 @@ function resolve(in_path, word,    i, start) {
         i = imported[in_path, word]
         return home[file_of(import_module[i]), import_name[i]]
     }
+    if (word ~ /::/) word = path_of_source(in_path, word)
     if (word !~ /[^.]\.[^.]/) return ""
     start = word
     sub(/\.[^.]*$/, "", start)
     sub(/^.*\./, "", word)
-    return (in_path, start) in imported ? home[file_of(import_module[imported[in_path, start]]), word] : ""
+    if (file_of(start) != "") return home[file_of(start), word]
+    # a name of a module that is imported whole; else a field of what stands before it
+    if ((in_path, start) in imported && import_name[imported[in_path, start]] == "") return home[file_of(import_module[imported[in_path, start]]), word]
+    return resolve(in_path, start)
+}
+
+# crate::proofs::Words::up, as a source names a law in `using(..)`, is Rattle.bits.proofs.Words.up.
+function path_of_source(in_path, word) {
+    if (word !~ /^[a-z0-9_]+::(specs|proofs)::/) return ""
+    gsub(/::/, ".", word)
+    sub(/^crate\./, crate_in(in_path) ".", word)
+    return "Rattle." word
 }
 
 # Reached from what must stand: definitions, what the prover asks for, determination, worked examples, the proof of a claim of
@@ -28,9 +40,18 @@ function is_root(item) {
     if (kind[item] == "definition") return 1
     if (path_of[item] ~ /\/Examples\.antt$/ || crate_of[item] ~ /_examples$/) return 1
     if (!public[item]) return 0
-    if (path_of[item] ~ /\/Proof\.antt$/) return signature[item] ~ /(^|[ (])statement( |$)/
+    if (path_of[item] ~ /\/proofs\/.+\/(Answers|Invariants|Proof)\.antt$/) return is_goal(item)
     if (path_of[item] ~ /\/Determined\.antt$/) return 1
     return name_of[item] in in_docs || (crate_of[item], file_word(path_of[item])) in file_in_docs || is_claim(item)
+}
+
+# `pub returns : goal.returns`, where the module goal is one that the prover makes of a function; or a walk's `statement M`.
+function is_goal(item,    word, n, start) {
+    n = split(signature[item], word, " ")
+    start = word[n]
+    if (n > 2 && word[n - 1] == ":" && sub(/\.[^.]*$/, "", start) && (path_of[item], start) in imported)
+        return import_module[imported[path_of[item], start]] ~ /\.(Goals|Given)$/
+    return path_of[item] ~ /\/Proof\.antt$/ && signature[item] ~ /(^|[ (])statement( |$)/
 }
 
 function file_word(file) { sub(/^.*\//, "", file); sub(/\.antt$/, "", file); return file }
@@ -108,8 +129,8 @@ function crate_in(file,    part) { split(file, part, "/"); return part[2] }
 
 function is_used(i,    part, n, j) {
     if ((import_path[i], import_word[i]) in has_word) return 1
-    n = split(import_word[i], part, "_")
-    if (n == 1 || import_path[i] ~ /\.rt$/ && import_word[i] ~ /^[A-Za-z0-9_]+$/) return 0
+    n = split(import_word[i], part, "◌")
+    if (n == 1) return 0
     for (j = 1; j <= n; j++) if (part[j] != "" && !((import_path[i], part[j]) in has_word)) return 0
     return 1
 }

@@ -78,9 +78,9 @@ function declare(what, name, marks, form, line) {
     add_line(line)
 }
 
-# An operator is cited by the parts of its name: _⊓_ as ⊓.
+# An operator is cited by the parts of its name: ◌⊓◌ as ⊓.
 function define(name,    part, n, i) {
-    n = split(name, part, "_")
+    n = split(name, part, "◌")
     part[n + 1] = name
     for (i = 1; i <= n + 1; i++) if (part[i] != "" && !((open_item, part[i]) in has_name)) {
         has_name[open_item, part[i]] = 1

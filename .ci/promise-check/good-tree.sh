@@ -18,32 +18,34 @@ pub fn passed_over() {}
 END
     put good/crates/bits/src/lib.rt <<'END'
 // pub fn in_a_comment(b: u64) -> u32 { 0 }
-ghost use mathlib.Core.Path.{_≡_};
-ghost use Rattle·other.specs.Board.{Foreign};
-ghost use Rattle·bits·specs.specs.Board.{Counts, Shifts as Board·Shifts, Made, Fills};
+#![tactic(auto)]
+ghost use Rattle.std.specs.Prelude.{◌≡◌};
+ghost use Rattle.other.specs.Board.{Foreign};
+ghost use Rattle.bits.specs.Board.{Counts, Shifts as Board·Shifts, Made, Fills};
 pub mod steps;
 mod inner_private;
 
 // A square.
+#[derive(Clone, Copy)]
 pub struct Square(pub u8);
 
 /* pub fn in_a_block(b: u64) -> u32
 { */
 pub fn count(b: u64) -> u32
-    // requires { ⌜ b < 7 ⌝ }
-    ensures { λ r. ⌜ Counts b r ⌝ }
+    // requires { b < 7 }
+    ensures { Counts b result }
 {
     let requires = b"{ \" // pub fn quoted() {";
     let brace = b'{';
     u64::count_ones(b)
 }
 
-#[no_mangle]
+#[unsafe(no_mangle)]
 pub extern "C" fn shift<'a>(b: &'a u64, s: [u8; 2]) -> u64
 where
     'a: 'a,
     ensures {
-        λ r. ⌜ Board·Shifts (now (b .entry)) s r ⌝ -- }
+        Board·Shifts b.now s result -- }
     }
 {
     moved(b, s)
@@ -58,7 +60,7 @@ fn up(b: u64, s: [u8; 2]) -> u64 {
 }
 
 pub fn fill(out: &'a mut [(u8, u8); 2], mut with: u8,) -> &u64
-    ensures { λ r. ⌜ Fills (now (out .entry)) with (now r) (now (out .exit)) ⌝ }
+    ensures { Fills out.old with result.now out.new }
 {
     out[0] = with;
     b
@@ -68,7 +70,7 @@ impl<'a> Square {
     pub const COUNT: usize = 64;
 
     pub fn new(s: u8) -> Square
-        ensures { λ r. ⌜ Made s r ⌝ }
+        ensures { Made s result }
     {
         Square(s)
     }
@@ -79,7 +81,7 @@ impl<'a> Square {
 }
 END
     put good/crates/bits/src/steps.rt <<'END'
-ghost use Rattle·bits·specs.specs.Board.{Steps};
+ghost use Rattle.bits.specs.Board.{Steps};
 
 const KNIGHT: [u64; 2] = [
     0x20400,
@@ -87,7 +89,7 @@ const KNIGHT: [u64; 2] = [
 ];
 
 pub fn knight(s: u8) -> u64
-    ensures { λ r. ⌜ Steps s r ⌝ }
+    ensures { Steps s result }
 {
     KNIGHT[s]
 }
@@ -98,21 +100,21 @@ pub(crate) fn within(s: u8) -> u64 {
 END
     put good/crates/bits/src/inner_private.rt <<'END'
 pub fn not_public(b: u64) -> u64
-    requires { ⌜ b < 7 ⌝ }
+    requires { b < 7 }
 {
     b
 }
 END
     put good/crates/bits/specs/Board.antt <<'END'
 -- The bitboard.
-use Prim.Native.Nat.{ℕ, _+_}
+use Rattle.std.specs.Prelude.{◌≡◌, ℕ, ◌+◌}
 
 -- square k stands in b
 unfoldable pub has : ℕ → ℕ → Bool
-has b k = isSet (b / 2 ^ k)
+has b k = is_set (b / 2 ^ k)
 
 abbrev pub Counts : ℕ → ℕ → Type 0
-Counts b r = r ≡ howMany 64 (has b)
+Counts b r = r ≡ how_many 64 (has b)
 
 pub record Moved (b s : ℕ) (r : ℕ) : Type 0 where
   pub is : r ≡ b
@@ -131,18 +133,18 @@ module _ (n : ℕ)
   abbrev limit : ℕ
   limit = 64
 
-  abbrev pub madeOf : ℕ → ℕ
-  madeOf s = cond (ltb s limit) s n
+  abbrev pub made_of : ℕ → ℕ
+  made_of s = cond (ltb s limit) s n
 
 abbrev pub Made : ℕ → ℕ → Type 0
-Made s r = r ≡ madeOf 0 0 s
+Made s r = r ≡ made_of 0 0 s
 
 abbrev pub Steps : ℕ → ℕ → Type 0
 Steps s r = r ≡ 0
 END
     put good/crates/bits/specs/Other.antt <<'END'
 -- What has the same names as the bitboard's.
-use Rattle·bits·specs.specs.Board.{Steps as Moves}
+use Rattle.bits.specs.Board.{Steps as Moves}
 
 abbrev pub limit : ℕ
 limit = 7
@@ -152,29 +154,29 @@ Made s r = r ≡ limit
 END
     put good/crates/bits/proofs/Determined.antt <<'END'
 -- Each promise allows one result.
-use mathlib.Core.Path.{_≡_, sym, _∙_}
-use Rattle·bits·specs.specs.Board.{Counts, Shifts as Moves, Made, Steps, Fills}
+use mathlib.Core.Path.{◌≡◌, sym, ◌∙◌}
+use Rattle.bits.specs.Board.{Counts, Shifts as Moves, Made, Steps, Fills}
 
-{- pub count-once : Made b r → Made b s → r ≡ s -}
-pub count-once : (b r s : ℕ) → Counts b r → Counts b s → r ≡ s
-count-once b r s p q = p ∙ sym q
+{- pub count_once : Made b r → Made b s → r ≡ s -}
+pub count_once : (b r s : ℕ) → Counts b r → Counts b s → r ≡ s
+count_once b r s p q = p ∙ sym q
 
-pub shift-once : (b s r t : ℕ)
+pub shift_once : (b s r t : ℕ)
     → Moves b s r -- the one
     → Moves b s t
     → r ≡ t
-shift-once b s r t p q = p .is ∙ sym (q .is)
+shift_once b s r t p q = p.is ∙ sym (q.is)
 
-pub made-once : (s : ℕ) (r t : ℕ)
+pub made_once : (s : ℕ) (r t : ℕ)
     → Made s r → Made s t → r ≡ t
-made-once s r t p q = p ∙ sym q
+made_once s r t p q = p ∙ sym q
 
-pub fill-once : (old : List (ℕ)) (with r s : ℕ) (new new′ : List ℕ)
-    → Fills old with r new → Fills old with s new′ → (new ≡ new′) × (r ≡ s)
-fill-once old with r s new new′ p q = (one (p .lent) (q .lent), one (p .answer) (q .answer))
+pub fill_once : (old : List (ℕ)) (with r s : ℕ) (new new' : List ℕ)
+    → Fills old with r new → Fills old with s new' → (new ≡ new') × (r ≡ s)
+fill_once old with r s new new' p q = (one (p.lent) (q.lent), one (p.answer) (q.answer))
 
-pub steps-once : (s r t : ℕ) → Steps s r → Steps s t → r ≡ t
-steps-once s r t p q = p ∙ sym q
+pub steps_once : (s r t : ℕ) → Steps s r → Steps s t → r ≡ t
+steps_once s r t p q = p ∙ sym q
 END
     put good/crates/bits/must-fail/count_wrong.edit <<'END'
 # the full bitboard: 0 for 64
@@ -221,11 +223,11 @@ Tried by count_wrong, shift_wrong, made_wrong, steps_wrong and others.
 
 | function | answers | promise (definition) | refusals, in order | determined by | must-fail edits |
 |---|---|---|---|---|---|
-| `bits::count` | how many | `Counts` (`howMany`) | none | `count-once` | count_wrong |
-| `bits::shift` | up | `Shifts` | none | `shift-once` | shift_wrong |
-| `bits::fill` | filled | `Fills` | none | `fill-once` | `fill_wrong`, fill_again |
-| `bits::Square::new` | a square | `Made` (`madeOf`) | SQUARE | `made-once` | made_wrong; and those of steps |
-| `bits::steps::knight` | steps | `Steps` | none | `steps-once` | steps_wrong |
+| `bits::count` | how many | `Counts` (`how_many`) | none | `count_once` | count_wrong |
+| `bits::shift` | up | `Shifts` | none | `shift_once` | shift_wrong |
+| `bits::fill` | filled | `Fills` | none | `fill_once` | `fill_wrong`, fill_again |
+| `bits::Square::new` | a square | `Made` (`made_of`) | SQUARE | `made_once` | made_wrong; and those of steps |
+| `bits::steps::knight` | steps | `Steps` | none | `steps_once` | steps_wrong |
 END
     put good/crates/bits/must-fail/fill_again.edit <<'END'
 # an empty buffer: 1 for 0

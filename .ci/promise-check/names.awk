@@ -2,8 +2,8 @@
 
 # The file of a module of this crate, or "" for a module of anything else.
 function module_file(module) {
-    if (index(module, "Rattle·" crate "·specs.") != 1 && index(module, "Rattle·" crate ".specs.") != 1) return ""
-    sub(/^[^.]*\./, "", module)
+    if (index(module, "Rattle." crate ".specs.") != 1) return ""
+    sub(/^[^.]*\.[^.]*\./, "", module)
     gsub(/\./, "/", module)
     return "crates/" crate "/" module ".antt"
 }
@@ -34,7 +34,7 @@ function note_import(module, name, alias,    part, n, i) {
         name = substr(name, RLENGTH + 1)
     }
     if (alias == "") alias = name
-    n = split(alias, part, "_")
+    n = split(alias, part, "◌")
     part[n + 1] = alias
     for (i = 1; i <= n + 1; i++) if (part[i] != "") {
         imported_from[path, part[i]] = module_file(module)
@@ -54,12 +54,15 @@ function cited(in_crate, in_path, word) {
     return cited_in(in_crate, imported_from[in_path, word], called)
 }
 
+# The steps after a name that is no module's are fields, as in `b.now` or `r.taken`.
 function cited_by_path(in_crate, in_path, word,    module) {
     called = module = word
     sub(/^.*\./, "", called)
     sub(/\.[^.]*$/, "", module)
     if ((in_path, module) in module_of) return cited_in(in_crate, module_of[in_path, module], called)
-    return defined_in_crate[in_crate, called]
+    if (word ~ /^[A-Z]/) return defined_in_crate[in_crate, called]
+    sub(/\..*$/, "", word)
+    return cited(in_crate, in_path, word)
 }
 
 # Where the file is there without the name, another module passed it on; what is declared/ comes from the source.

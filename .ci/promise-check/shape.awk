@@ -24,7 +24,7 @@ function term_words(text, word) {
     return split(text, word, " ")
 }
 
-# The head of an application and what it is applied to, each with a gap after its words: without one, `(now(b.entry))`.
+# The head of an application and what it is applied to, each with a gap after its words: without one, `(b+0)`.
 function applied(text, term, gap,    word, n, i, depth, count) {
     delete_all(term)
     n = term_words(text, word)
@@ -52,7 +52,7 @@ function bare(text,    word, n, i, depth) {
 
 function mentions_name(text, name,    word, n, i) {
     n = antt_words(text, word)
-    for (i = 1; i <= n; i++) if (word[i] == name) return 1
+    for (i = 1; i <= n; i++) if (word[i] == name || index(word[i], name ".") == 1) return 1
     return 0
 }
 
@@ -60,13 +60,13 @@ function mentions_name(text, name,    word, n, i) {
 
 # wanted[term]: 1 for what is given, 2 for what it gives: the result, and what a `&mut` holds at the exit.
 # The answer is what is wrong with the parameters, or "".
-function want_all(f, result, wanted,    text, list, n, i) {
+function want_all(f, wanted,    text, list, n, i) {
     delete_all(wanted)
     text = signature_text[f]
     sub(/^[^(]*/, "", text)
     n = parameters(text, list)
-    for (i = 1; i <= n; i++) if (!want_parameter(list[i], result, wanted)) return "has a parameter that is no name of its own, or lends inside its type"
-    want_result(after_parameters, result, wanted)
+    for (i = 1; i <= n; i++) if (!want_parameter(list[i], wanted)) return "has a parameter that is no name of its own, or lends inside its type"
+    want_result(after_parameters, wanted)
     return ""
 }
 
@@ -87,7 +87,7 @@ function parameters(text, list,    i, c, depth, count, angles) {
     return count + 0
 }
 
-function want_parameter(text, result, wanted,    name, type) {
+function want_parameter(text, wanted,    name, type, is_lent) {
     if (text ~ /^[ \t]*(&[ \t]*(mut[ \t]+)?|mut[ \t]+)?self[ \t]*$/) {
         name = "self"
         type = text
@@ -97,38 +97,35 @@ function want_parameter(text, result, wanted,    name, type) {
         sub(/^[ \t]*(mut[ \t]+)?/, "", name)
         sub(/[ \t]*$/, "", name)
     }
-    if (name !~ /^[A-Za-z_][A-Za-z0-9_]*$/ || name == result) return 0
+    if (name !~ /^[A-Za-z_][A-Za-z0-9_]*$/ || name == "result") return 0
     gsub(quote "[a-z_]+", "", type)
     if (!sub(/^[ \t]*&[ \t]*/, "", type)) wanted[name] = 1
     else {
-        wanted["(now(" name ".entry))"] = 1
-        if (type ~ /^mut[ \t]/) wanted["(now(" name ".exit))"] = 2
+        is_lent = type ~ /^mut[ \t]/
+        wanted[name (is_lent ? ".old" : ".now")] = 1
+        if (is_lent) wanted[name ".new"] = 2
     }
     return type !~ /&/
 }
 
-function want_result(text, result, wanted) {
+function want_result(text, wanted) {
     if (text !~ /^[ \t]*->/) return
-    wanted[text ~ /^[ \t]*->[ \t]*&/ ? "(now" result ")" : result] = 2
+    wanted[text ~ /^[ \t]*->[ \t]*&/ ? "result.now" : "result"] = 2
 }
 
 # ---- an ensures: one promise applied to each of them once
 
 # What is wrong with it, or ""; then promise_item, and in outputs the places of what the function gives, as ",3,4,".
-function read_ensures(f,    text, result, term, n, wanted, i, wrong) {
+function read_ensures(f,    text, term, n, wanted, i, wrong) {
     promise_item = 0
     outputs = ","
     text = ensures[f]
-    if (!match(text, /^ *λ [A-Za-z_][A-Za-z0-9_]*\. *⌜/) || text !~ /⌝ *\} *$/) return not_one(f)
-    result = substr(text, 1, RLENGTH)
-    text = substr(text, RLENGTH + 1)
-    gsub(/ *λ |\. *⌜/, "", result)
-    sub(/⌝ *\} *$/, "", text)
+    if (ensures_count[f] != 1 || !sub(/ *\} *$/, "", text)) return not_one(f)
     n = applied(text, term, "")
     promise_item = promise_named(crate_of[f], path_of[f], term[1])
-    if (text ~ /⌜|⌝|→/ || !promise_item || (path_of[f], "now") in imported_as) { promise_item = 0; return not_one(f) }
+    if (text ~ /⌜|⌝|→|λ/ || !promise_item || (path_of[f], "result") in imported_as) { promise_item = 0; return not_one(f) }
     if (head_of(promise_item) ~ /\{/) return "its promise " name_of[promise_item] " has an argument that is not written"
-    wrong = want_all(f, result, wanted)
+    wrong = want_all(f, wanted)
     if (wrong != "") return wrong
     for (i = 2; i <= n; i++) {
         if (!(term[i] in wanted)) return "its promise " name_of[promise_item] " is applied to " term[i] ", which it is not given and does not give, or twice"
@@ -248,9 +245,10 @@ function note_law(proof,    part, n, i, first_at, one, other, m, key, free, boun
     if (i) law_for[i, key] = law_for[i, key] " " name_of[proof] " "
 }
 
-# ≡ is the library's, and × the language's.
+# ≡ is the library's, by one of the modules that hand it on, and × the language's.
 function has_library_symbols(file) {
-    return imported_from_module[file, "≡"] == "mathlib.Core.Path" && !((file, "×") in imported_as) && !((file, "_≡_") in declared) && !((file, "_×_") in declared)
+    return imported_from_module[file, "≡"] ~ /^(mathlib\.Core\.Path|Rattle\.std\.specs\.Prelude|Rattle\.std\.proofs\.Common)$/ && imported_as[file, "≡"] == "◌≡◌" &&
+        !((file, "×") in imported_as) && !((file, "◌≡◌") in declared) && !((file, "◌×◌") in declared)
 }
 
 function past_colon(text) { return substr(text, index(text, " : ") + 3) }

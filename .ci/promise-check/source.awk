@@ -183,7 +183,10 @@ function clause_token(token) {
     clause = clause token
     if (nest > 0) return
     has_clause[open_item, clause_word] = 1
-    if (clause_word == "ensures") ensures[open_item] = ensures[open_item] " " clause
+    if (clause_word == "ensures") {
+        ensures[open_item] = ensures[open_item] " " clause
+        ensures_count[open_item]++
+    }
     clause_word = ""
     to("signature")
 }

@@ -66,10 +66,10 @@ function past_text(line) {
 
 # ---- names of antt
 
-# The names of a term, in order, a path as one: M.has. A field, as in `r .taken`, names no definition, and the dot of
-# `λ r. ` belongs to no name.
+# The names of a term, in order, a path as one: M.has, and so a field: r.taken. The field of a term, as in `(g x).taken`, names no
+# definition, and the dot of `λ r. ` belongs to no name.
 function antt_words(text, word) {
-    gsub(/[ \t(]\.[^ \t(){}.;,@"]+/, " ", text)
+    gsub(/[ \t()](\.[^ \t(){}.;,@"]+)+/, " ", text)
     gsub(/\.[ \t]/, " ", text)
     gsub(/[(){};,@"]/, " ", text)
     gsub(/«|»|⌜|⌝/, " ", text)

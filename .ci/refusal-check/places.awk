@@ -50,7 +50,7 @@ function number_of(text) { match(text, /[0-9]+$/); return substr(text, RSTART) +
 # ---- the definition
 
 function read_definition(place, file,    line, word, n) {
-    while ((getline line < file) > 0) if (line ~ /^numberOf .* = [0-9]+$/) {
+    while ((getline line < file) > 0) if (line ~ /^number_of .* = [0-9]+$/) {
         gsub(/[()]/, " ", line)
         n = split(line, word, " ")
         sub(/^.*\./, "", word[2])

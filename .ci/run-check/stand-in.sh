@@ -1,9 +1,11 @@
 # A kit and a repository that stand in for the toolchain and the library: `rt` in seconds, programs that are shell scripts. For .ci/test-run.
 
 # As the toolchain's: a crate is proved by processes in the background, a program stands half written for a while, what was proved is not
-# proved again, nobody looks whether a program is still whole, and something lies in TMPDIR while it goes on. A source with BROKEN is not
-# proved. Each call is noted in $work/calls, each prover in $work/provers; two at once are a fault. The machine is the one that $work/machine
-# names. A module is the program's text; an object, and what cc links of it, has one line more, which says what it is for.
+# proved again, and something lies in TMPDIR while it goes on. `run` and `lib` work in a crate's folder, and leave a program's stamp unless a source
+# was changed meanwhile; `ci` begins with no program. `run` would run the program too, here it only prints something. `check` and `staticlib` are those
+# of the older toolchain, which alone compiled for another processor. A source with BROKEN is not proved. Each call is noted in $work/calls, each
+# prover in $work/provers; two at once are a fault. The machine is the one that $work/machine names. A module is the program's text; an object, and
+# what cc links of it, has one line more, which says what it is for.
 put_kit() {
     tools=$work/kit/on/aarch64/toolchain/bin
     mkdir -p "$work/kit/bin" "$work/kit/toolchain/lib" "$tools" "$work/kit/on/x86_64/toolchain/bin"
@@ -30,9 +32,11 @@ prove() {
     (prover) &
     wait
     if grep -q BROKEN crates/*/src/*; then
+        echo "rt: chose --jobs 2 for $1"
         echo "src/main.rt:1:1: error: BROKEN is not proved"
-        echo "rt: $1 NOT PROVED (exit 1, 0 s)"
-        echo "rt: FAILED: $1"
+        echo "crate $1: modules loaded=26 checked=7"
+        echo "logic=not-proved"
+        echo "rt: the library $1 did not build, so nothing above it was checked"
         rm -f "$work/busy"
         exit 1
     fi
@@ -44,32 +48,44 @@ compile() { # SOURCE OBJECT
     mkdir -p target/obj && cp "$scratch/module.o" "$2"
 }
 
-case $1 in
-version) cat "$work/kit/KIT-ID" && exit ;;
-check) result=target/bin/$2 source=crates/$2/src/main.rt ;;
-staticlib) result=target/staticlib/lib$2.a source=crates/$2/src/lib.rt ;;
-esac
+[ "$1" != version ] || { cat "$work/kit/KIT-ID" && exit; }
 alone
 echo "$*" >>"$work/calls"
-mkdir -p target/bin target/stamp target/staticlib
+case $1 in
+run) crate=${PWD##*/} && cd ../.. && exec 3>&1 >&2 ;;
+lib) crate=${PWD##*/} && cd ../.. ;;
+ci) crate=ledger && rm -rf crates/*/out ;;
+*) crate=$2 ;;
+esac
+case $1 in
+run | ci) result=crates/$crate/out/$crate stamps=crates/$crate/out/$crate.stamp source=crates/$crate/src/main.rt ;;
+lib) result=crates/$crate/out/lib$crate.a stamps=crates/$crate/out/rlib.stamp source=crates/$crate/src/lib.rt ;;
+check) result=target/bin/$crate stamps=target/stamp/$crate source=crates/$crate/src/main.rt ;;
+staticlib) result=target/staticlib/lib$crate.a stamps=target/stamp/$crate source=crates/$crate/src/lib.rt ;;
+esac
+mkdir -p target/bin target/stamp target/staticlib "crates/$crate/out"
 scratch=$(mktemp -d)
 stamp=$(cat crates/*/src/* | cksum)
-echo "rt: base proved (unchanged since it was last proved)"
-if [ "$1" = check ] && [ "$(cat "target/stamp/$2" 2>/dev/null)" = "$stamp" ]; then
-    echo "rt: $2 proved (unchanged since it was last proved)"
+echo "only=0 proved=0"
+if [ "$1" = check ] || [ "$1" = run ] && [ "$(cat "$stamps" 2>/dev/null)" = "$stamp" ]; then
+    echo "rt: nothing has changed since the last proved build, by $stamps, so nothing is checked now"
 else
-    rm -f "target/stamp/$2"
+    rm -f "$stamps"
+    echo "rt: chose --jobs 2 for $crate"
     head -n 1 "$source" >"$result"
-    prove "$2"
+    prove "$crate"
+    echo "fn $crate::main: proved"
     case $1 in
-    check) compile "$source" "target/obj/$2.o" && cp "$source" "$result" ;;
-    staticlib) cp "$source" "$scratch/$2.o" && rm -f "$result" && ar rc "$result" "$scratch/$2.o" ;;
+    run | ci) cp "$source" "$result" ;;
+    check) compile "$source" "target/obj/$crate.o" && cp "$source" "$result" ;;
+    lib | staticlib) cp "$source" "$scratch/$crate.o" && rm -f "$result" && ar rc "$result" "$scratch/$crate.o" ;;
     esac
-    echo "$stamp" >"target/stamp/$2"
-    echo "rt: $2 proved (1 s)"
+    [ "$1" = ci ] || [ "$stamp" != "$(cat crates/*/src/* | cksum)" ] || echo "$stamp" >"$stamps"
+    echo "crate $crate: modules loaded=0 checked=54"
+    echo "logic=proved functions=1"
 fi
 rm -rf "$scratch" "$work/busy"
-echo "rt: ok, 2 crates proved"
+[ "$1" != run ] || { echo "rt: running out/$crate" && echo "rows that nobody asked for" >&3 && exit 7; }
 RT
     } >"$work/kit/bin/rt"
     printf '#!/bin/sh\nshift 2\nexec sh "$@"\n' >"$work/kit/toolchain/lib/ld-linux-x86-64.so.2"
@@ -105,7 +121,7 @@ CC
 put_tree() {
     rm -rf "$tree" "$work/calls" "$work/provers" "$work/busy" "$work/faults"
     for crate in base other ledger abi abi_more; do mkdir -p "$tree/crates/$crate/src"; done
-    printf '# a comment\nbase:\nother:\nledger: base # what it uses\nabi: base\nabi_more: base\n' >"$tree/crates.txt"
+    printf '# a comment\nbase:\nother:\nledger: base # what it uses\nabi staticlib: base\nabi_more staticlib: base\n' >"$tree/crates.txt"
     echo 'base 1' >"$tree/crates/base/src/lib.rt"
     echo 'other 1' >"$tree/crates/other/src/lib.rt"
     for crate in abi abi_more; do echo "$crate 1: extern \"C\"" >"$tree/crates/$crate/src/lib.rt"; done

@@ -17,27 +17,27 @@ find_kit() {
 }
 
 # ---- what a crate is made of
-crates_of() { # CRATE: it and all that it depends on, as crates.txt has them, a line for each
+crates_of() { # CRATE: it and all that it depends on, as crates.txt has them, a line for each: its name, and its line
     awk -v wanted="$1" '
         function visit(crate,    uses, count, k) {
             if (!(crate in deps) || crate in seen) return
             seen[crate] = 1
             count = split(deps[crate], uses, " ")
             for (k = 1; k <= count; k++) visit(uses[k])
-            print crate ":" deps[crate]
+            print crate ":" line[crate]
         }
         { sub(/#.*/, ""); at = index($0, ":") }
-        at { crate = substr($0, 1, at - 1); gsub(/[ \t]/, "", crate); deps[crate] = substr($0, at + 1) }
+        at { crate = $1; sub(/:.*/, "", crate); line[crate] = $0; deps[crate] = substr($0, at + 1) }
         END { visit(wanted) }' "$root/crates.txt"
 }
 
-# The files that `rt` reads of a crate; its must-fail edits are not among them.
+# The files that a crate is made of; its must-fail edits, and what a program is tried on, are not among them.
 sources_of() { # CRATE..
     cd "$root"
     crates=$*
     set --
     for crate in $crates; do
-        for part in src specs proofs stdin stdout args data; do
+        for part in src specs proofs; do
             [ ! -e "crates/$crate/$part" ] || set -- "$@" "crates/$crate/$part"
         done
     done
@@ -52,6 +52,7 @@ made_of() { # CRATE: one checksum of the toolchain's id, the lines of crates.txt
         printf '%s\n' "$lines"
         # shellcheck disable=SC2046
         (sources_of $(printf '%s\n' "$lines" | cut -d: -f1))
+        [ ! -f "$root/HANDLES" ] || cat "$root/HANDLES"
         # shellcheck disable=SC2086
         [ -z "${beside:-}" ] || (cd "$root" && sha256sum $beside)
     } | sha256sum
@@ -132,8 +133,8 @@ writable() {
     why=$( (mkdir -p "$root/target/built" && : >"$file.new") 2>&1) || fail "it has to be built, and $root/target can't be written: ${why##*: }"
 }
 
-# Provers are a group of processes of their own, to be ended together; what they write beside target/ goes to a folder that is removed.
-prove() { # CRATE COMMAND..
+# Provers are a group of processes of their own, to be ended together; what they write beside out/ and target/ goes to a folder that is removed.
+prove() { # CRATE COMMAND..: whether it ended well
     total=$(crates_of "$1" | wc -l)
     shift
     room=$(mktemp -d) && chmod 711 "$room" || fail "no temporary folder"
@@ -144,16 +145,21 @@ prove() { # CRATE COMMAND..
     end_provers
     rm -rf "$room"
     room=''
-    [ "$proved" -eq 0 ] || fail "could not be built"
+    [ "$proved" -eq 0 ]
 }
 
 # Without its stamp, `rt` links a program anew: it does not look whether the one that stands there is whole.
 forget() { # CRATE RESULT
-    case $2 in bin/* | native/*) rm -f "$root/target/stamp/$1" ;; esac
-    rm -f "$root/target/$2"
+    case $2 in target/native/*) rm -f "$root/target/stamp/$1" ;; esac
+    rm -f "$root/$2" "$root/$2.stamp"
 }
 
-# Brings target/built/FILE up to date, where FILE is the last part of RESULT: what COMMAND leaves in target/ once CRATE is proved.
+# Whether what `rt ci` left is of these sources: they are those that bin/run --mark has noted, and it was made after that.
+is_marked() { # RESULT FILE MADE-OF
+    [ -f "$root/$1" ] && [ -f "$2.mark" ] && [ "$(cat "$2.mark")" = "$3" ] && [ -z "$(find "$root/$1" ! -newer "$2.mark")" ]
+}
+
+# Brings target/built/FILE up to date, where FILE is the last part of RESULT: what COMMAND leaves there once CRATE is proved.
 build() { # CRATE RESULT COMMAND..
     crate=$1 result=$2 file=$root/target/built/${2##*/}
     shift 2
@@ -162,13 +168,18 @@ build() { # CRATE RESULT COMMAND..
     on_signals
     while made=$(made_of "$crate") && ! up_to_date "$file" "$made"; do
         writable
-        [ "${taking:-no}" = yes ] || forget "$crate" "$result"
-        prove "$crate" "$@"
+        proved=0
+        if [ "${taking:-no}" = no ] || ! is_marked "$result" "$file" "$made"; then
+            forget "$crate" "$result"
+            prove "$crate" "$@" || proved=1
+        fi
         if [ "$made" != "$(made_of "$crate")" ]; then
             say "a source was changed during the build; building again"
             continue
         fi
-        keep "$root/target/$result" "$file" "$made" || fail "what was built could not be kept"
+        [ "$proved" -eq 0 ] || fail "could not be built"
+        keep "$root/$result" "$file" "$made" || fail "what was built could not be kept"
+        rm -f "$file.mark"
         break
     done
     unlock

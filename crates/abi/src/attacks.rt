@@ -8,13 +8,7 @@ use attack::Found;
 use attack_to::Told;
 
 // The squares that a piece attacks: SHAPE, SQUARE.
-#[unsafe(no_mangle)]
-pub extern "C" fn chess_piece_attacks(
-    piece: u8,
-    square: u8,
-    occupied: u64,
-    squares: &mut u64,
-) -> Code
+pub fn chess_piece_attacks(piece: u8, square: u8, occupied: u64, squares: &mut u64) -> Code
     ensures { PieceAttacks piece square occupied squares.old result squares.new }
 {
     let answer = attack::piece_attacks(piece, square, occupied);
@@ -28,8 +22,7 @@ pub extern "C" fn chess_piece_attacks(
 }
 
 // The squares of the attackers of both colours, whether they stand in `occupied` or not: SHAPE, OVERLAP, UNION, BYTEBOARD, RIGHTS, PASSANT, COUNTER, SQUARE.
-#[unsafe(no_mangle)]
-pub extern "C" fn chess_attacks_to(
+pub fn chess_attacks_to(
     bitboards: &[u64],
     board: &[u8],
     state: State,
@@ -50,8 +43,7 @@ pub extern "C" fn chess_attacks_to(
 }
 
 // Whether a piece of the colour other than the one named attacks a square: SHAPE, OVERLAP, UNION, BYTEBOARD, RIGHTS, PASSANT, COUNTER, SQUARE.
-#[unsafe(no_mangle)]
-pub extern "C" fn chess_is_attacked(
+pub fn chess_is_attacked(
     bitboards: &[u64],
     board: &[u8],
     state: State,
@@ -72,8 +64,7 @@ pub extern "C" fn chess_is_attacked(
 }
 
 // Whether a colour's king is attacked, the lowest if it has several; true if it has none: SHAPE, OVERLAP, UNION, BYTEBOARD, RIGHTS, PASSANT, COUNTER.
-#[unsafe(no_mangle)]
-pub extern "C" fn chess_is_check(
+pub fn chess_is_check(
     bitboards: &[u64],
     board: &[u8],
     state: State,

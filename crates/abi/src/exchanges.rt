@@ -12,8 +12,7 @@ use exchange_start::Mode;
 
 // Whether there is an attacker of the colour, in `attacks` and in `occupied`, and the square and kind of the least in the order; 0 beside none:
 // SHAPE, OVERLAP, UNION, BYTEBOARD, RIGHTS, PASSANT, COUNTER, ORDER.
-#[unsafe(no_mangle)]
-pub extern "C" fn chess_lvp(
+pub fn chess_lvp(
     bitboards: &[u64],
     board: &[u8],
     state: State,
@@ -78,8 +77,7 @@ fn see(
 
 // What the exchange that a capture starts is worth to the side to move, in the first mode, 0, or the second, 1, and the kinds capturing in the order:
 // SHAPE, OVERLAP, UNION, BYTEBOARD, RIGHTS, PASSANT, COUNTER, SQUARE, ORDER, MOVE, CROWD.
-#[unsafe(no_mangle)]
-pub extern "C" fn chess_see(
+pub fn chess_see(
     bitboards: &[u64],
     board: &[u8],
     state: State,

@@ -1,4 +1,6 @@
 // The doors for C and Rust to a position and a line: numbers, slices and small records. Each gives 0, or a refusal and changes nothing.
+#![tactic(auto)]
+
 use abi_codes::Code;
 
 pub mod attacks;

@@ -11,7 +11,7 @@ use position::of_side;
 
 // What a reader says beside the boards: 0, the state and the half points; or a refusal, and a state and half points that say nothing.
 #[repr(C)]
-#[derive(Drop)]
+#[derive(Clone, Copy)]
 pub struct Line {
     pub code: Code,
     pub state: State,
@@ -37,16 +37,14 @@ pub fn line_of(read: Read) -> Line
 }
 
 // The position, its state and the half points: SHAPE, LONG, BYTE, FIELD, PLACE, SIDE, RIGHTS, PASSANT, COUNTER, RESULT.
-#[unsafe(no_mangle)]
-pub extern "C" fn chess_read_line(line: &[u8], bitboards: &mut [u64], board: &mut [u8]) -> Line
+pub fn chess_read_line(line: &[u8], bitboards: &mut [u64], board: &mut [u8]) -> Line
     ensures { ReadsLine line.now bitboards.old board.old result bitboards.new board.new }
 {
     line_of(line::read_line(line, bitboards, board))
 }
 
 // Where the trimmed position field stands in the line; the empty part at 0 where the line is refused. Only blanks stand before its first byte.
-#[unsafe(no_mangle)]
-pub extern "C" fn chess_position_field(line: &[u8]) -> Part
+pub fn chess_position_field(line: &[u8]) -> Part
     ensures { GivesPart line.now result }
 {
     line::field_part(line)

@@ -18,13 +18,7 @@ pub const WON: u8 = 2;
 pub const DRAWN: u8 = 3;
 
 // The verdict for the side to move: SHAPE, OVERLAP, UNION, BYTEBOARD, RIGHTS, PASSANT, COUNTER.
-#[unsafe(no_mangle)]
-pub extern "C" fn chess_eval_ending(
-    bitboards: &[u64],
-    board: &[u8],
-    state: State,
-    verdict: &mut u8,
-) -> Code
+pub fn chess_eval_ending(bitboards: &[u64], board: &[u8], state: State, verdict: &mut u8) -> Code
     ensures { EvalsEnding bitboards.now board.now state verdict.old result verdict.new }
 {
     let answer = score_verdict::eval_ending(bitboards, board, taken(state));
@@ -43,8 +37,7 @@ pub extern "C" fn chess_eval_ending(
 }
 
 // What a colour's pieces are worth, without the pair of bishops: SHAPE, OVERLAP, UNION, BYTEBOARD, RIGHTS, PASSANT, COUNTER, SCORE.
-#[unsafe(no_mangle)]
-pub extern "C" fn chess_eval_material(
+pub fn chess_eval_material(
     bitboards: &[u64],
     board: &[u8],
     state: State,
@@ -64,8 +57,7 @@ pub extern "C" fn chess_eval_material(
 }
 
 // The verdict, and beside it 0; or none, and the score for the side to move: SHAPE, OVERLAP, UNION, BYTEBOARD, RIGHTS, PASSANT, COUNTER, SCORE.
-#[unsafe(no_mangle)]
-pub extern "C" fn chess_eval(
+pub fn chess_eval(
     bitboards: &[u64],
     board: &[u8],
     state: State,

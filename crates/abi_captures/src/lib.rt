@@ -1,4 +1,6 @@
 // The door to the captures of an exchange.
+#![tactic(auto)]
+
 ghost use Rattle.std.specs.Prelude.{◌≡◌};
 ghost use Rattle.exchange_value.specs.Answers.{stopped};
 ghost use Rattle.abi_captures.specs.Promises.{stop_number, TellsSaid, TellsCaptures};
@@ -70,8 +72,7 @@ fn captures(
 // The captures of the exchange that a capture starts, in the first mode, 0, or the second, 1, each by its square, its kind and the value that it
 // takes, zeros after them; how many there are; and before which of them the exchange stops, or their number where it is played out: SHAPE, OVERLAP,
 // UNION, BYTEBOARD, RIGHTS, PASSANT, COUNTER, SQUARE, ORDER, MOVE, CROWD.
-#[unsafe(no_mangle)]
-pub extern "C" fn chess_captures(
+pub fn chess_captures(
     bitboards: &[u64],
     board: &[u8],
     state: State,

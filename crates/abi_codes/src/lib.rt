@@ -1,11 +1,13 @@
 // What a door for C gives back: 0, or a refusal's number with the square that it names; and a flag as a number that C lends.
+#![tactic(auto)]
+
 ghost use Rattle.abi_codes.specs.Promises.{GivesCode, GivesFlag};
 
 use refusal::{Beside, Refusal};
 
 // What comes back: 0, or the number of the refusal, and the square that it names.
 #[repr(C)]
-#[derive(Drop)]
+#[derive(Clone, Copy)]
 pub struct Code {
     pub number: u8,
     pub square: u8,

@@ -1,12 +1,13 @@
 // The door to a line's coefficient by the table of expected scores.
+#![tactic(auto)]
+
 ghost use Rattle.abi_coefficients.specs.Promises.{WeighsByTable};
 
 use abi_codes::{Code, GIVEN, refused};
 use fit_coefficient::Weighed;
 
 // What a line lets expect, in points, and its coefficient, by its double, its half points, K and how many lines there are: SHAPE (no lines), RESULT.
-#[unsafe(no_mangle)]
-pub extern "C" fn chess_table_coefficient(
+pub fn chess_table_coefficient(
     value: f64,
     half: u8,
     k: f64,

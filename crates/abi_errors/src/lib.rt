@@ -1,5 +1,7 @@
 // The doors for C and Rust to expected scores and to the sum over a collection, fed in pieces of any size. Each but the first gives 0, or a
 // refusal and changes nothing. What is kept between calls is lent as numbers, all 0 before anything was read.
+#![tactic(auto)]
+
 ghost use Rattle.std.specs.Prelude.{◌≡◌};
 ghost use Rattle.abi_errors.specs.Numbers.{totals_from, total_numbers, gathered_from, gathered_numbers, answer_from};
 ghost use Rattle.abi_errors.specs.Promises.{ExpectsScore, AddsError, FeedsError, EndsError};
@@ -13,10 +15,10 @@ use score_collection::{Ended, Gathered, Piece, Sum};
 use score_errors::{Added, Totals};
 
 // Lines with a score, lines apart, the sum.
-const TOTALS: usize = 3;
+pub const TOTALS: usize = 3;
 
 // Bytes held of the line that has not ended, whether the last was a CR; the totals; refused lines; whether a count had no room.
-const STATE: usize = 7;
+pub const STATE: usize = 7;
 
 fn totals_of(numbers: &[u64; TOTALS]) -> Totals
     ensures { result ≡ totals_from numbers.now }
@@ -82,16 +84,14 @@ fn answer_of(some: bool, score: i16) -> Scored
 }
 
 // The expected result of a score, in millionths of a point.
-#[unsafe(no_mangle)]
-pub extern "C" fn chess_expected(score: i16) -> u32
+pub fn chess_expected(score: i16) -> u32
     ensures { ExpectsScore score result }
 {
     score_expected::expected(score)
 }
 
 // A line more in the totals, by its side to move, whether it has a score, the score, and its half points: SHAPE (the side), RESULT, MANY.
-#[unsafe(no_mangle)]
-pub extern "C" fn chess_error_add(
+pub fn chess_error_add(
     totals: &mut [u64; TOTALS],
     side: u8,
     some: bool,
@@ -112,8 +112,7 @@ pub extern "C" fn chess_error_add(
 }
 
 // The lines that end in a piece: SHAPE (not 256 bytes for the line).
-#[unsafe(no_mangle)]
-pub extern "C" fn chess_error_feed(state: &mut [u64; STATE], line: &mut [u8], piece: &[u8]) -> Code
+pub fn chess_error_feed(state: &mut [u64; STATE], line: &mut [u8], piece: &[u8]) -> Code
     ensures { FeedsError state.old line.old piece.now result state.new line.new }
 {
     let fed = score_collection::feed(gathered_of(state), line, piece);
@@ -127,8 +126,7 @@ pub extern "C" fn chess_error_feed(state: &mut [u64; STATE], line: &mut [u8], pi
 }
 
 // The end of the input: the totals, and in `lines` how many were refused. SHAPE, MANY.
-#[unsafe(no_mangle)]
-pub extern "C" fn chess_error_end(
+pub fn chess_error_end(
     state: &[u64; STATE],
     line: &[u8],
     totals: &mut [u64; TOTALS],

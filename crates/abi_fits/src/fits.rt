@@ -8,8 +8,7 @@ use fit_adam::Stepped;
 use fit_gradient::Added;
 
 // A line's part of the gradient, added to 779 sums: SHAPE, TRACE.
-#[unsafe(no_mangle)]
-pub extern "C" fn chess_gradient_add(
+pub fn chess_gradient_add(
     counts: &[i32; COUNTS],
     mobility: &[i32; MOBILITY],
     sign: i32,
@@ -29,8 +28,7 @@ pub extern "C" fn chess_gradient_add(
 }
 
 // The step of an iteration over 779 weights and both moments: SHAPE, ITERATION.
-#[unsafe(no_mangle)]
-pub extern "C" fn chess_adam_step(
+pub fn chess_adam_step(
     gradient: &[f64],
     m: &mut [f64],
     v: &mut [f64],

@@ -1,4 +1,6 @@
 // The doors for C and Rust to a trace, its double and the fitting step. Each gives 0, or a refusal and changes nothing.
+#![tactic(auto)]
+
 use abi_codes::Code;
 
 pub mod fits;

@@ -10,8 +10,7 @@ use trace_double::Doubled;
 use trace_shipped::Written;
 
 // The trace of a position: SHAPE, also where there are not 768 entries, OVERLAP, UNION, BYTEBOARD, RIGHTS, PASSANT, COUNTER.
-#[unsafe(no_mangle)]
-pub extern "C" fn chess_compute_trace(
+pub fn chess_compute_trace(
     bitboards: &[u64],
     board: &[u8],
     state: State,
@@ -40,8 +39,7 @@ pub extern "C" fn chess_compute_trace(
 }
 
 // The double of a trace: SHAPE, TRACE.
-#[unsafe(no_mangle)]
-pub extern "C" fn chess_trace_eval(
+pub fn chess_trace_eval(
     counts: &[i32; COUNTS],
     mobility: &[i32; MOBILITY],
     sign: i32,
@@ -65,8 +63,7 @@ pub extern "C" fn chess_trace_eval(
 }
 
 // The weights that the score ships with: SHAPE, where there is not room for just 768 square weights.
-#[unsafe(no_mangle)]
-pub extern "C" fn chess_shipped_weights(weights: &mut [f64; NAMED], squares: &mut [f64]) -> Code
+pub fn chess_shipped_weights(weights: &mut [f64; NAMED], squares: &mut [f64]) -> Code
     ensures { Ships weights.old squares.old result weights.new squares.new }
 {
     let written = trace_shipped::square_weights(squares);

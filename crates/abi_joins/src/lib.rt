@@ -1,4 +1,6 @@
 // The doors for C and Rust to the sums and the summaries of parts, joined. Each gives 0, or a refusal and changes nothing.
+#![tactic(auto)]
+
 ghost use Rattle.std.specs.Prelude.{◌≡◌};
 ghost use Rattle.abi_errors.specs.Numbers.{totals_from};
 ghost use Rattle.score_collection.specs.declared.Ended.TheVariants as E;
@@ -10,7 +12,7 @@ use score_errors::Totals;
 use store_record::Stored;
 
 // Lines with a score, lines apart, the sum.
-const TOTALS: usize = 3;
+pub const TOTALS: usize = 3;
 
 fn sum_of(totals: &[u64; TOTALS], lines: u64) -> Ended
     ensures { result ≡ E.Sum (totals_from totals.now) lines }
@@ -26,8 +28,7 @@ fn sum_of(totals: &[u64; TOTALS], lines: u64) -> Ended
 }
 
 // The totals of another part and its refused lines, added to those before it: MANY.
-#[unsafe(no_mangle)]
-pub extern "C" fn chess_error_join(
+pub fn chess_error_join(
     totals: &mut [u64; TOTALS],
     lines: &mut u64,
     more: &[u64; TOTALS],
@@ -48,8 +49,7 @@ pub extern "C" fn chess_error_join(
 }
 
 // The summary of another store, added to that of the stores before it: SHAPE, MANY.
-#[unsafe(no_mangle)]
-pub extern "C" fn chess_join_summary(summary: &mut [u64], more: &[u64]) -> Code
+pub fn chess_join_summary(summary: &mut [u64], more: &[u64]) -> Code
     ensures { SummaryJoined summary.old more.now result summary.new }
 {
     let answer = store_joined::join(summary, more);

@@ -50,8 +50,7 @@ pub fn numbers_of(state: SoFar) -> [u64; NUMBERS]
 
 // A row for each line that ends in the chunk, and how many bytes they are: SHAPE (not 256 bytes for the line), the ledger's own MANY, FULL (not 32
 // bytes of room for each).
-#[unsafe(no_mangle)]
-pub extern "C" fn chess_ledger_feed(
+pub fn chess_ledger_feed(
     state: &mut [u64; NUMBERS],
     line: &mut [u8],
     chunk: &[u8],
@@ -74,8 +73,7 @@ pub extern "C" fn chess_ledger_feed(
 }
 
 // The row of a last line with no LF, and the totals: SHAPE, MANY, FULL (not room for what is written).
-#[unsafe(no_mangle)]
-pub extern "C" fn chess_ledger_finish(
+pub fn chess_ledger_finish(
     state: &[u64; NUMBERS],
     line: &[u8],
     out: &mut [u8],

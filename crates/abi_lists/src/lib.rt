@@ -1,5 +1,7 @@
 // The doors for C and Rust to a trace's list. Each gives 0, or a refusal and changes nothing. The list is lent as its bytes, 64 entries of kind,
 // square and colour, and the record of counts as its numbers, in the order of the fields.
+#![tactic(auto)]
+
 ghost use Rattle.abi_lists.specs.Promises.{EvalsList, ListsTrace, FlattensList, ComputesTraceList, AddsTraceList};
 
 use abi_codes::{Code, refused};
@@ -15,8 +17,7 @@ use trace_list_turn::{Flattened, Listed};
 const GIVEN: Code = abi_codes::GIVEN;
 
 // The double of a trace from its list: SHAPE, TRACE, ENTRY.
-#[unsafe(no_mangle)]
-pub extern "C" fn chess_list_eval(
+pub fn chess_list_eval(
     counts: &[i32; COUNTS],
     mobility: &[i32; MOBILITY],
     sign: i32,
@@ -42,8 +43,7 @@ pub extern "C" fn chess_list_eval(
 }
 
 // A flat trace as a list: SHAPE, TRACE, ENTRY.
-#[unsafe(no_mangle)]
-pub extern "C" fn chess_list_of(
+pub fn chess_list_of(
     counts: &[i32; COUNTS],
     mobility: &[i32; MOBILITY],
     sign: i32,
@@ -66,8 +66,7 @@ pub extern "C" fn chess_list_of(
 }
 
 // A list as a flat trace: SHAPE, TRACE, ENTRY.
-#[unsafe(no_mangle)]
-pub extern "C" fn chess_flat_of(
+pub fn chess_flat_of(
     counts: &[i32; COUNTS],
     mobility: &[i32; MOBILITY],
     sign: i32,
@@ -87,8 +86,7 @@ pub extern "C" fn chess_flat_of(
 }
 
 // A line's part of the gradient from a list, added to 779 sums: SHAPE, TRACE, ENTRY.
-#[unsafe(no_mangle)]
-pub extern "C" fn chess_list_add(
+pub fn chess_list_add(
     counts: &[i32; COUNTS],
     mobility: &[i32; MOBILITY],
     sign: i32,
@@ -109,8 +107,7 @@ pub extern "C" fn chess_list_add(
 }
 
 // The trace of a position as a list: SHAPE, OVERLAP, UNION, BYTEBOARD, RIGHTS, PASSANT, COUNTER.
-#[unsafe(no_mangle)]
-pub extern "C" fn chess_compute_list(
+pub fn chess_compute_list(
     bitboards: &[u64],
     board: &[u8],
     state: State,

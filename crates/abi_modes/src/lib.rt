@@ -1,4 +1,6 @@
 // A mode of the exchange as a number that C hands over.
+#![tactic(auto)]
+
 ghost use Rattle.abi_modes.specs.Modes.{NamesMode};
 
 use exchange_start::Mode;
@@ -8,7 +10,7 @@ const FIRST: u8 = 0;
 
 const SECOND: u8 = 1;
 
-#[derive(Drop)]
+#[derive(Clone, Copy)]
 pub enum Named {
     In(Mode),
     Refused(Refusal),

@@ -1,4 +1,6 @@
 // The records of a trace's counts and of the named weights as flat lists of numbers in the order of the fields, both ways.
+#![tactic(auto)]
+
 ghost use Rattle.std.specs.Prelude.{◌≡◌, ◌+◌, ◌<◌};
 ghost use Rattle.abi_records.specs.Records.{pair_of};
 ghost use Rattle.abi_records.specs.Promises.{GivesCounts, GivesTrace, GivesNamed, GivesWeights};

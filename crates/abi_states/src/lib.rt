@@ -1,4 +1,6 @@
 // The part of a position that goes by value, as a record that C has: both ways.
+#![tactic(auto)]
+
 ghost use Rattle.std.specs.Prelude.{◌≡◌};
 ghost use Rattle.abi_states.specs.States.{passant_from, passant_number};
 ghost use Rattle.abi_states.specs.Promises.{TakesState, TellsState};
@@ -9,7 +11,7 @@ use position_further::{Passant, Rights};
 // The side, a flag for each right, the en passant square or 255 for none, and the counters: no right can be nonsense, any other number is refused
 // where the position is tested.
 #[repr(C)]
-#[derive(Drop)]
+#[derive(Clone, Copy)]
 pub struct State {
     pub side: u8,
     pub white_short: bool,

@@ -1,4 +1,6 @@
 // The doors for C and Rust to the records of a store. Each gives 0, or a refusal and changes nothing.
+#![tactic(auto)]
+
 ghost use Rattle.abi_stores.specs.Promises.{RecordRead, RecordWritten};
 
 use abi::lines::{Line, line_of};
@@ -7,21 +9,14 @@ use abi_states::{State, taken};
 use store_record::Stored;
 
 // The position, its state and the half points of a record, by its number from 0: SHAPE, LENGTH, ABSENT, CODE, SIDE, RESULT.
-#[unsafe(no_mangle)]
-pub extern "C" fn chess_read_record(
-    run: &[u8],
-    number: u64,
-    bitboards: &mut [u64],
-    board: &mut [u8],
-) -> Line
+pub fn chess_read_record(run: &[u8], number: u64, bitboards: &mut [u64], board: &mut [u8]) -> Line
     ensures { RecordRead run.now number bitboards.old board.old result bitboards.new board.new }
 {
     line_of(store_record::read_record(run, number, bitboards, board))
 }
 
 // The 34 bytes of a position and its half points, in the lent place: SHAPE, OVERLAP, UNION, BYTEBOARD, RIGHTS, PASSANT, COUNTER, RESULT, LENGTH.
-#[unsafe(no_mangle)]
-pub extern "C" fn chess_write_record(
+pub fn chess_write_record(
     bitboards: &[u64],
     board: &[u8],
     state: State,

@@ -1,4 +1,6 @@
 // The doors for C and Rust to a store kept with its summary. Each gives 0, or a refusal and changes nothing.
+#![tactic(auto)]
+
 ghost use Rattle.abi_summaries.specs.Promises.{RecordAdded, RecordReplaced};
 
 use abi_codes::{Code, GIVEN, refused};
@@ -6,8 +8,7 @@ use abi_states::{State, taken};
 use store_record::Stored;
 
 // A record more, and its counts: SHAPE, OVERLAP, UNION, BYTEBOARD, RIGHTS, PASSANT, COUNTER, RESULT, LENGTH, MANY, ROOM.
-#[unsafe(no_mangle)]
-pub extern "C" fn chess_add_record(
+pub fn chess_add_record(
     bitboards: &[u64],
     board: &[u8],
     state: State,
@@ -25,8 +26,7 @@ pub extern "C" fn chess_add_record(
 }
 
 // Another record in the place of a number: SHAPE, OVERLAP, UNION, BYTEBOARD, RIGHTS, PASSANT, COUNTER, RESULT, LENGTH, ABSENT, CODE, SIDE, RESULT, ABSENT.
-#[unsafe(no_mangle)]
-pub extern "C" fn chess_replace_record(
+pub fn chess_replace_record(
     bitboards: &[u64],
     board: &[u8],
     state: State,

@@ -1,4 +1,6 @@
 // The door to the writer of a position's line.
+#![tactic(auto)]
+
 ghost use Rattle.std.specs.Prelude.{◌≡◌};
 ghost use Rattle.abi_writes.specs.Promises.{wanted_of, WritesPosition};
 
@@ -18,8 +20,7 @@ fn wanted(request: u8, half: u8) -> Wanted
 
 // The text of a position at the front of `out`, with `;` and a result where `request` is not 0; how many bytes it has: SHAPE, OVERLAP, UNION,
 // BYTEBOARD, RIGHTS, PASSANT, COUNTER, RESULT, ROOM.
-#[unsafe(no_mangle)]
-pub extern "C" fn chess_write_line(
+pub fn chess_write_line(
     bitboards: &[u64],
     board: &[u8],
     state: State,

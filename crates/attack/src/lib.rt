@@ -1,4 +1,6 @@
 // What a piece attacks, as attack.rs has it: the door.
+#![tactic(auto)]
+
 ghost use Rattle.std.specs.Prelude.{◌≡◌};
 ghost use Rattle.attack.specs.PrivateLent.{pawn_row, step_row};
 ghost use Rattle.attack.specs.Promises.{PieceAttacks};
@@ -11,7 +13,7 @@ use refusal::Refusal;
 pub mod inner;
 
 // Squares as a bitboard.
-#[derive(Drop)]
+#[derive(Clone, Copy)]
 pub enum Found {
     Squares(u64),
     Refused(Refusal),

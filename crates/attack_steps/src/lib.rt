@@ -1,4 +1,6 @@
 // "The four fixed step tables of 64 entries": for each square the squares that a white pawn, a black pawn, a knight and a king attack from it.
+#![tactic(auto)]
+
 use chess::square::Square;
 
 pub mod inner;

@@ -1,4 +1,6 @@
 // Who attacks a square, and check, as attack.rs has them: the doors.
+#![tactic(auto)]
+
 ghost use Rattle.attack_to.specs.Promises.{AttacksTo, IsAttacked, IsCheck};
 
 use attack::Found;
@@ -8,7 +10,7 @@ use refusal::Refusal;
 
 pub mod inner;
 
-#[derive(Drop)]
+#[derive(Clone, Copy)]
 pub enum Told {
     Is(bool),
     Refused(Refusal),

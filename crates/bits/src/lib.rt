@@ -1,4 +1,6 @@
 // A bitboard, as bitboard.rs has it: count, scan, shift, one square, and the squares one after the other.
+#![tactic(auto)]
+
 ghost use Rattle.bits.specs.Promises.{Counts, Scans, FromSquare, Gets, Sets, Resets, Toggles, Shifts, Nexts};
 
 use refusal::Refusal;
@@ -6,20 +8,20 @@ use refusal::Refusal;
 pub mod inner;
 
 // Whether a square stands there.
-#[derive(Drop)]
+#[derive(Clone, Copy)]
 pub enum Got {
     Is(bool),
     Refused(Refusal),
 }
 
-#[derive(Drop)]
+#[derive(Clone, Copy)]
 pub enum Changed {
     Bitboard(u64),
     Refused(Refusal),
 }
 
 // The lowest square and the rest.
-#[derive(Drop)]
+#[derive(Clone, Copy)]
 pub enum Lowest {
     At(u8, u64),
     Done,

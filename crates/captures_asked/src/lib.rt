@@ -1,4 +1,6 @@
 // What a call of the captures program asks for, by its arguments.
+#![tactic(auto)]
+
 ghost use Rattle.captures_asked.specs.Called.{AsksMode};
 
 use exchange_start::Mode;
@@ -10,7 +12,7 @@ const BARE: usize = 1;
 const WITH_OPTION: usize = 2;
 
 // The mode of the exchanges; or a call that there is not.
-#[derive(Drop)]
+#[derive(Clone, Copy)]
 pub enum Asked {
     In(Mode),
     Unknown,

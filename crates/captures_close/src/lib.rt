@@ -1,5 +1,7 @@
 // The rows of a question that ends, by a buffer that holds its line's first bytes: the line is read, then the move and the order behind it, and the
 // exchange is told.
+#![tactic(auto)]
+
 ghost use Rattle.std.specs.Prelude.{◌≤◌, length};
 ghost use Rattle.position.specs.Promises.{paper};
 ghost use Rattle.text_out.specs.Text.{Adds, Puts};

@@ -1,5 +1,7 @@
 // The tool that tells exchanges as a machine over bytes: any number of bytes at a time go in, whole rows come out. Its counts, its answers and what
 // it refuses are the ledger's.
+#![tactic(auto)]
+
 ghost use Rattle.std.specs.Prelude.{◌≡◌, [], ◌+◌, ◌^◌, ◌≤◌, ◌<◌, length};
 ghost use Rattle.text_out.specs.Text.{Adds};
 ghost use Rattle.ledger_feed.specs.Machine.{at, tally as tally_of};
@@ -20,7 +22,7 @@ use text_out::Placed;
 const LAST: usize = 2132;
 
 // How many questions were told and refused, and how many bytes of their rows are written.
-#[derive(Drop)]
+#[derive(Clone, Copy)]
 pub struct Written {
     pub loaded: u64,
     pub refused: u64,

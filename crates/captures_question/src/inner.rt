@@ -9,7 +9,7 @@ use line_tail::inner::{NOWHERE, square};
 use text_in::inner::{find, text_after, text_before, trim};
 
 // Two squares and an order of the kinds.
-#[derive(Drop)]
+#[derive(Clone, Copy)]
 pub struct Asked {
     pub from: u8,
     pub to: u8,

@@ -3,6 +3,8 @@
 // What a read, a write and an error number mean stands in crate stream, what a line does to the totals in score_collection, the row in
 // score_row. Where a read or a write fails, a loop comes to its bound, or there are more lines of a kind than are counted, no row is
 // written and the reason goes to standard error; that the row is written is said on descriptor 3, last of all.
+#![tactic(auto)]
+
 use refusal::Refusal;
 use score_collection::{Gathered, Piece};
 use score_row::ErrorWritten;
@@ -12,37 +14,37 @@ use stream_io::Taken;
 const LONGEST: usize = 164;
 
 // What follows a read: another one, the end of the input, or nothing more.
-#[derive(Drop)]
+#[derive(Clone, Copy)]
 enum Turn {
     More(Gathered),
     End,
     Stopped,
 }
 
-fn main() {
+fn main(rt: HostRuntime) {
     let mut chunk = io::buffer();
-    if write_error(&mut chunk) {
-        stream_io::say_whole(b"error: standard output");
+    if write_error(&rt, &mut chunk) {
+        stream_io::say_whole(&rt, rt.stdout(), rt.stderr(), b"error: standard output");
     }
 }
 
 // All reads, and then the row: whether it is written.
-fn write_error(chunk: &mut [u8]) -> bool {
+fn write_error(rt: &HostRuntime, chunk: &mut [u8]) -> bool {
     let mut line = [0u8; line_cut::LINE];
-    let read = read_to_end(&mut line, chunk);
+    let read = read_to_end(rt, &mut line, chunk);
     let Turn::More(gathered) = read else {
         return false;
     };
-    finish(gathered, &line)
+    finish(rt, gathered, &line)
 }
 
 // All reads, and what the lines that end in them come to.
-fn read_to_end(line: &mut [u8], chunk: &mut [u8]) -> Turn {
+fn read_to_end(rt: &HostRuntime, line: &mut [u8], chunk: &mut [u8]) -> Turn {
     let mut gathered = score_collection::begin();
     let mut turns: u64 = 0;
     while stream::may_go_on(turns) {
         turns += 1;
-        match read_some(gathered, line, chunk) {
+        match read_some(rt, gathered, line, chunk) {
             Turn::More(next) => {
                 gathered = next;
             }
@@ -54,51 +56,51 @@ fn read_to_end(line: &mut [u8], chunk: &mut [u8]) -> Turn {
             }
         }
     }
-    stop(b": too many reads\n");
+    stop(rt, b": too many reads\n");
     Turn::Stopped
 }
 
 // One read, and the lines that end in it.
-fn read_some(gathered: Gathered, line: &mut [u8], chunk: &mut [u8]) -> Turn {
-    match stream_io::read(libc::STDIN_FILENO, chunk, b"error: standard input") {
-        Taken::Bytes(n) => feed(gathered, line, &chunk[..n]),
+fn read_some(rt: &HostRuntime, gathered: Gathered, line: &mut [u8], chunk: &mut [u8]) -> Turn {
+    match stream_io::read(rt.stderr(), &mut rt.stdin(), chunk, b"error: standard input") {
+        Taken::Bytes(n) => feed(rt, gathered, line, &chunk[..n]),
         Taken::End => Turn::End,
         Taken::Failed => Turn::Stopped,
     }
 }
 
-fn feed(gathered: Gathered, line: &mut [u8], chunk: &[u8]) -> Turn {
+fn feed(rt: &HostRuntime, gathered: Gathered, line: &mut [u8], chunk: &[u8]) -> Turn {
     match score_collection::feed(gathered, line, chunk) {
         Piece::Lines(next) => Turn::More(next),
         Piece::Refused(_) => {
-            stop(b": no line buffer\n");
+            stop(rt, b": no line buffer\n");
             Turn::Stopped
         }
     }
 }
 
-fn finish(gathered: Gathered, line: &[u8]) -> bool {
+fn finish(rt: &HostRuntime, gathered: Gathered, line: &[u8]) -> bool {
     let mut row = [0u8; LONGEST];
     match score_row::write(gathered, line, &mut row) {
-        ErrorWritten::Row(wrote) => write(&row[..wrote]),
-        ErrorWritten::Full => stop(b": too little room for the row\n"),
-        ErrorWritten::Refused(refusal) => stop_refused(refusal),
+        ErrorWritten::Row(wrote) => write(rt, &row[..wrote]),
+        ErrorWritten::Full => stop(rt, b": too little room for the row\n"),
+        ErrorWritten::Refused(refusal) => stop_refused(rt, refusal),
     }
 }
 
-fn stop_refused(refusal: Refusal) -> bool {
+fn stop_refused(rt: &HostRuntime, refusal: Refusal) -> bool {
     match refusal {
-        Refusal::Many => stop(b": more than a million lines of a kind\n"),
-        _ => stop(b": no line buffer\n"),
+        Refusal::Many => stop(rt, b": more than a million lines of a kind\n"),
+        _ => stop(rt, b": no line buffer\n"),
     }
 }
 
-fn write(row: &[u8]) -> bool {
-    stream_io::write_all(libc::STDOUT_FILENO, row, b"error: standard output")
+fn write(rt: &HostRuntime, row: &[u8]) -> bool {
+    stream_io::write_all(rt.stderr(), &mut rt.stdout(), row, b"error: standard output")
 }
 
 // Nothing more is written.
-fn stop(reason: &[u8]) -> bool {
-    stream_io::say(b"error", reason);
+fn stop(rt: &HostRuntime, reason: &[u8]) -> bool {
+    stream_io::say(rt.stderr(), b"error", reason);
     false
 }

@@ -20,7 +20,7 @@ use position::State;
 pub const MOST: usize = 32;
 
 // The first `count` places: the square that each capture is made from, the kind that makes it, and the value that it takes. Zeros after them.
-#[derive(Drop)]
+#[derive(Clone, Copy)]
 pub struct Listed {
     pub from: [u8; MOST],
     pub kind: [u8; MOST],
@@ -105,7 +105,7 @@ fn without_passed(b: u64, side: u8, to: u8) -> u64
 }
 
 // The first capture: the kind that makes it, the value that it takes, what then stands on the target, and where else pieces stand.
-#[derive(Drop)]
+#[derive(Clone, Copy)]
 struct Begun {
     kind: u8,
     taken: u16,
@@ -136,7 +136,7 @@ fn begin(mode: Mode, bitboards: &[u64], board: &[u8], state: State, from: u8, to
 }
 
 // A capture made: the value that it takes, what then stands on the target, where else pieces stand, and who captures next.
-#[derive(Drop)]
+#[derive(Clone, Copy)]
 struct Made {
     taken: u16,
     last: u8,

@@ -8,7 +8,7 @@ use attack::inner::standing;
 use attack_to::inner::attacks_to;
 
 // Who captures next: its square and its kind.
-#[derive(Drop)]
+#[derive(Clone, Copy)]
 pub enum Attacker {
     At(u8, u8),
     Nobody,
@@ -21,7 +21,7 @@ fn still_there(bitboards: &[u64], kind: u8, color: u8, attacks: u64, occupied: u
 }
 
 // The attackers of the first kind that has one still there, and that kind; none where no kind has.
-#[derive(Drop)]
+#[derive(Clone, Copy)]
 struct Found {
     there: u64,
     kind: u8,

@@ -1,4 +1,6 @@
 // The least attacker, as eval.rs has it: the door.
+#![tactic(auto)]
+
 ghost use Rattle.exchange_least.specs.Promises.{Lvp};
 
 use crate::inner::{Attacker, pick};
@@ -11,7 +13,7 @@ use refusal::Refusal;
 pub mod inner;
 
 // The square of the least attacker and its kind.
-#[derive(Drop)]
+#[derive(Clone, Copy)]
 pub enum Least {
     At(u8, u8),
     Nobody,

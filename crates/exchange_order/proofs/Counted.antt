@@ -104,6 +104,12 @@ module _ (kinds : List ℕ) where
   -- and back
   back : (a b c d e f : Bool) → T (a && b && c && d && e && f) → (a ≡ true) × (b ≡ true) × (c ≡ true) × (d ≡ true) × (e ≡ true) × (f ≡ true)
   back true true true true true true h = (refl, refl, refl, refl, refl, refl)
+  back false b c d e f h = elim h [ ]
+  back true false c d e f h = elim h [ ]
+  back true true false d e f h = elim h [ ]
+  back true true true false e f h = elim h [ ]
+  back true true true true false f h = elim h [ ]
+  back true true true true true false h = elim h [ ]
 
   counted : T (each_once kinds) → packed 6 kinds ≡ 1118481
   counted h =

@@ -1,4 +1,6 @@
 // The order in which the kinds capture (document 02, W-206): document 01's, by name.
+#![tactic(auto)]
+
 ghost use Rattle.exchange_order.specs.Promises.{GivesOrder};
 
 use chess::kind::{BISHOP, KING, KNIGHT, Kind, PAWN, QUEEN, ROOK};

@@ -1,4 +1,6 @@
 // The captures of an exchange, and where it stops (document 02, W-207): the door.
+#![tactic(auto)]
+
 ghost use Rattle.std.specs.Prelude.{[]};
 ghost use Rattle.exchange.specs.Promises.{HoldsCaptures};
 ghost use Rattle.exchange_told.specs.Promises.{Captures};
@@ -11,7 +13,7 @@ use exchange_value::inner::{Stopped, stop};
 use position::{Checked, State};
 
 // Whether the exchange was refused, its captures, and where it stops; beside a refusal no capture, and nothing that stops.
-#[derive(Drop)]
+#[derive(Clone, Copy)]
 pub struct Told {
     pub checked: Checked,
     pub listed: Listed,

@@ -1,1 +1,2 @@
 // No position from real play is refused as CROWD. No code.
+#![tactic(auto)]

@@ -3,7 +3,7 @@ ghost use Rattle.std.specs.Prelude.{◌≡◌, cond, eqb, ◌-◌};
 ghost use Rattle.exchange_value.specs.Promises.{Settles, Stops};
 
 // Where an exchange stops: before the capture of this number, the first being 0.
-#[derive(Drop)]
+#[derive(Clone, Copy)]
 pub enum Stopped {
     PlayedOut,
     Before(usize),

@@ -14,7 +14,7 @@ const BETA2: f64 = 0.999;
 const EPSILON: f64 = 1e-8;
 
 // The powers of both decay constants.
-#[derive(Drop)]
+#[derive(Clone, Copy)]
 pub struct Powers {
     pub first: f64,
     pub second: f64,

@@ -1,11 +1,13 @@
 // The Adam update of `tune`: one step of both moments and the weights, 779 each, lent. The pawn's weight never moves.
+#![tactic(auto)]
+
 ghost use Rattle.fit_adam.specs.Promises.{StepsFit};
 
 pub mod inner;
 
 use refusal::Refusal;
 
-#[derive(Drop)]
+#[derive(Clone, Copy)]
 pub enum Stepped {
     Done,
     Refused(Refusal),

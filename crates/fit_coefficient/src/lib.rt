@@ -1,5 +1,7 @@
 // A line's coefficient in the gradient by the table of expected scores: whole numbers and IEEE 754's operations alone, no power of ten, and so the
 // same bits on every machine.
+#![tactic(auto)]
+
 ghost use Rattle.std.specs.Prelude.{◌≡◌, ◌≤◌, not, T, pos, neg_ℤ, is_nan};
 ghost use Rattle.fit_coefficient.specs.Coefficient.{expected_points, points_at, coefficient_of};
 ghost use Rattle.fit_coefficient.specs.Promises.{WeighsLine};
@@ -10,13 +12,13 @@ use refusal::Refusal;
 const LN_10: f64 = 2.302585092994046;
 
 // What a line lets expect, in points, and the factor of its part of the gradient.
-#[derive(Drop)]
+#[derive(Clone, Copy)]
 pub struct Share {
     pub expected: f64,
     pub coefficient: f64,
 }
 
-#[derive(Drop)]
+#[derive(Clone, Copy)]
 pub enum Weighed {
     Line(Share),
     Refused(Refusal),

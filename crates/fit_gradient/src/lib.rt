@@ -1,4 +1,6 @@
 // One line's part of the gradient, as `compute_gradient` has it, added to 779 sums that are lent: one rounding for each operation.
+#![tactic(auto)]
+
 ghost use Rattle.std.specs.Prelude.{◌≡◌, true, T, pos, length, get_or, ◌+◌, ◌*◌, ◌<◌};
 ghost use Rattle.trace_list.specs.Ones.{over};
 ghost use Rattle.trace_list.specs.Form.{is_list, list_places};
@@ -29,7 +31,7 @@ const ROOK: usize = chess::kind::ROOK as usize;
 
 const QUEEN: usize = chess::kind::QUEEN as usize;
 
-#[derive(Drop)]
+#[derive(Clone, Copy)]
 pub enum Added {
     Done,
     Refused(Refusal),
@@ -89,7 +91,7 @@ fn named_added(parts: &[f64; Weight::NAMED], gradient: &mut [f64])
 }
 
 // What an entry raises its two weights by, by its colour.
-#[derive(Drop)]
+#[derive(Clone, Copy)]
 struct Parts {
     white_opening: f64,
     white_ending: f64,

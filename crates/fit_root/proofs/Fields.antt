@@ -79,6 +79,10 @@ field_value_suc f s y t h = rw (ne_eqb (suc y) (ones f) (λ e. lt_irrefl (ones f
 -- the root of a float by a value that it has
 pub root_of_value : (x r : Float) (s : Bool) (a : ℕ) → Above x → HasValue x s a (2 ^ 1074) → r ≡ nearest_root a → r ≡ root_of x
 unfolding root_of
+root_of_value nan r s a x4 v h = elim x4 [ ]
+root_of_value (inf true) r s a x9 v h = elim x9 [ ]
+root_of_value (fin false zero e) r s a x15 v h = elim x15 [ ]
+root_of_value (fin true _ e) r s a x13 v h = elim x13 [ ]
 root_of_value (inf false) r s a endless v h = absurd v
 root_of_value (fin false (suc m) e) r s a some v h = h ∙ ap nearest_root (sym (ap (λ (z : ℕ). z / down e) v.1 ∙ mul-div_cancel a (down_pos e)))
 
@@ -98,6 +102,10 @@ real s (suc y) t h = rw (eq-eqb (suc y) 2047 h) (go (eqb t 0))
     go false v = v
 
 pub sized : (s : Bool) (X t : ℕ) (x : Float) → X < 2048 → x ≡ of_fields binary64 s X t → Above x → Fin x → (X < 2047) × (s ≡ false)
+sized s X t nan h e x5 v = elim x5 [ ]
+sized s X t (inf true) h e x11 v = elim x11 [ ]
+sized s X t (fin false zero d) h e x18 v = elim x18 [ ]
+sized s X t (fin true _ d) h e x15 v = elim x15 [ ]
 sized s X t (inf false) h e endless v = absurd v
 sized s X t (fin false (suc m) d) h e some v = (under, sign X refl)
   where
@@ -136,6 +144,10 @@ module _ (x : Float) (A : Above x) (F : T (fits binary64 x)) where
 -- an infinity's field
 pub endless_root : (x : Float) (A : Above x) → T (fits binary64 x) → to_bits binary64 x / 2 ^ 52 ≡ 2047 → x ≡ root_of x
 unfolding root_of
+endless_root nan A F h = elim A [ ]
+endless_root (inf true) A F h = elim A [ ]
+endless_root (fin false zero e) A F h = elim A [ ]
+endless_root (fin true _ e) A F h = elim A [ ]
 endless_root (inf false) endless F h = refl
 endless_root (fin false (suc m) e) some F h = absurd (lt_irrefl 2047 (subst (λ (z : ℕ). z < 2047) h (finite_fields (fin false (suc m) e) some F tt)))
 
@@ -144,6 +156,10 @@ unfolding to_bits
 endless_field = refl
 
 pub field_below : (x : Float) (A : Above x) → T (fits binary64 x) → (to_bits binary64 x / 2 ^ 52 ≡ 2047 → ⊥) → to_bits binary64 x / 2 ^ 52 < 2047
+field_below nan A F h = elim A [ ]
+field_below (inf true) A F h = elim A [ ]
+field_below (fin false zero e) A F h = elim A [ ]
+field_below (fin true _ e) A F h = elim A [ ]
 field_below (inf false) endless F h = absurd (h endless_field)
 field_below (fin false (suc m) e) some F h = finite_fields (fin false (suc m) e) some F tt
 
@@ -172,6 +188,10 @@ module _ (x : Float) (A : Above x) (F : T (fits binary64 x)) where
 
 -- a field of 0 has digits above 0
 pub digits_above : (x : Float) (A : Above x) (F : T (fits binary64 x)) (b : ℕ) → b ≡ to_bits binary64 x → b / 2 ^ 52 ≡ 0 → 0 < b % 2 ^ 52
+digits_above nan A F b q h = elim A [ ]
+digits_above (inf true) A F b q h = elim A [ ]
+digits_above (fin false zero e) A F b q h = elim A [ ]
+digits_above (fin true _ e) A F b q h = elim A [ ]
 digits_above (inf false) endless F b q h = absurd (omega (arith, endless_field))
 digits_above (fin false (suc m) e) some F b q h =
     elim (eq-zero-or-pos (b % 2 ^ 52)) [

@@ -1,4 +1,6 @@
 // The square root of a double, worked out by whole numbers: the nearest double, for every double.
+#![tactic(auto)]
+
 ghost use Rattle.std.specs.Prelude.{◌≡◌, ◌+◌, ◌*◌, ◌/◌, ◌^◌, ◌<◌, ◌≤◌, ◌≢◌};
 ghost use Rattle.fit_root.specs.Root.{whole_root, nearest_root, Roots};
 ghost use Rattle.fit_root.specs.Whole.{IsRoot, IsNear};
@@ -112,7 +114,7 @@ fn nearest(m: u64, odd: u64) -> u64
 }
 
 // m·2^(e - 60), m having 53 binary digits.
-#[derive(Drop)]
+#[derive(Clone, Copy)]
 struct Scaled {
     m: u64,
     e: u64,

@@ -3,56 +3,60 @@
 //
 // What a read, a write and an error number mean stands in crate stream. Where one fails, or a loop comes to its bound, the rows so far
 // stay, no last row follows them, and the reason goes to standard error; that all is written is said on descriptor 3, last of all.
+#![tactic(auto)]
+
 use ledger_asked::Asked;
 use ledger_feed::{Fed, SoFar};
 use ledger_files::Ending;
 use ledger_finish::Finished;
 use line_profile::Profile;
+use std::io::Read;
 use stream_io::{Opened, Taken};
 
 // The room for an option or its value. What does not fit is none that the program knows.
 const WORD: usize = 16;
 
 // What follows a read: another one, the end of the input, or nothing more.
-#[derive(Drop)]
+#[derive(Clone, Copy)]
 enum Turn {
     More(SoFar),
     End,
     Stopped,
 }
 
-fn main() {
+fn main(rt: HostRuntime) {
     let mut chunk = io::buffer();
     let mut out = [0u8; 131072];
-    if write_ledger(&mut chunk, &mut out) {
-        stream_io::say_whole(b"ledger: standard output");
+    if write_ledger(&rt, &mut chunk, &mut out) {
+        stream_io::say_whole(&rt, rt.stdout(), rt.stderr(), b"ledger: standard output");
     }
 }
 
 // What the arguments ask for: whether all of it is written.
-fn write_ledger(chunk: &mut [u8], out: &mut [u8]) -> bool {
+fn write_ledger(rt: &HostRuntime, chunk: &mut [u8], out: &mut [u8]) -> bool {
     let mut first = [0u8; WORD];
-    let n = os::arg(1, &mut first);
+    let n = stream_io::argument(rt, 1, &mut first);
     let mut second = [0u8; WORD];
-    let m = os::arg(2, &mut second);
+    let m = stream_io::argument(rt, 2, &mut second);
     match ledger_asked::read_call(&first[..n], &second[..m]) {
-        Asked::For(profile, files) => write_rows(profile, files, chunk, out),
-        Asked::Unknown => stop(b": there is no such profile\n"),
+        Asked::For(profile, files) => write_rows(rt, profile, files, chunk, out),
+        Asked::Unknown => stop(rt, b": there is no such profile\n"),
     }
 }
 
 // All reads, and then the last rows: whether all of them are written.
-fn write_rows(profile: Profile, files: usize, chunk: &mut [u8], out: &mut [u8]) -> bool {
+fn write_rows(rt: &HostRuntime, profile: Profile, files: usize, chunk: &mut [u8], out: &mut [u8]) -> bool {
     let mut line = [0u8; line_cut::LINE];
-    let read = read_all(profile, files, &mut line, chunk, out);
+    let read = read_all(rt, profile, files, &mut line, chunk, out);
     let Turn::More(state) = read else {
         return false;
     };
-    finish(profile, state, &line, out)
+    finish(rt, profile, state, &line, out)
 }
 
 // The files one after another, or standard input where none is named.
 fn read_all(
+    rt: &HostRuntime,
     profile: Profile,
     files: usize,
     line: &mut [u8],
@@ -60,11 +64,12 @@ fn read_all(
     out: &mut [u8],
 ) -> Turn {
     let state = ledger_feed::start();
-    let count = os::arg_count();
+    let count = stream_io::argument_count(rt);
     if count <= files {
         return read_to_end(
+            rt,
             profile,
-            libc::STDIN_FILENO,
+            &mut rt.stdin(),
             b"ledger: standard input",
             state,
             line,
@@ -72,10 +77,11 @@ fn read_all(
             out,
         );
     }
-    read_files(profile, files, count, state, line, chunk, out)
+    read_files(rt, profile, files, count, state, line, chunk, out)
 }
 
 fn read_files(
+    rt: &HostRuntime,
     profile: Profile,
     files: usize,
     count: usize,
@@ -87,7 +93,7 @@ fn read_files(
     let mut state = state;
     let mut i = files;
     while i < count {
-        match read_file(profile, i, state, line, chunk, out) {
+        match read_file(rt, profile, i, state, line, chunk, out) {
             Turn::More(next) => {
                 state = next;
             }
@@ -104,6 +110,7 @@ fn read_files(
 }
 
 fn read_file(
+    rt: &HostRuntime,
     profile: Profile,
     i: usize,
     state: SoFar,
@@ -112,32 +119,33 @@ fn read_file(
     out: &mut [u8],
 ) -> Turn {
     let mut name = io::buffer();
-    match stream_io::open_argument(i, &mut name) {
-        Opened::File(fd, n) => {
-            let read = read_to_end(profile, fd, &name[..n], state, line, chunk, out);
-            stream_io::close(fd);
-            end_file(profile, read, line, out)
+    match stream_io::open_argument(rt, rt.stderr(), i, &mut name) {
+        Opened::File(mut file, n) => {
+            let read = read_to_end(rt, profile, &mut file, &name[..n], state, line, chunk, out);
+            stream_io::close(file);
+            end_file(rt, profile, read, line, out)
         }
         Opened::Failed => Turn::Stopped,
     }
 }
 
 // A file's end ends its last line.
-fn end_file(profile: Profile, read: Turn, line: &mut [u8], out: &mut [u8]) -> Turn {
+fn end_file(rt: &HostRuntime, profile: Profile, read: Turn, line: &mut [u8], out: &mut [u8]) -> Turn {
     let Turn::More(state) = read else {
         return Turn::Stopped;
     };
     match ledger_files::closing(state) {
         Ending::Nothing => Turn::More(state),
-        Ending::Lf => feed(profile, state, line, b"\n", out),
-        Ending::CrLf => feed(profile, state, line, b"\r\n", out),
+        Ending::Lf => feed(rt, profile, state, line, b"\n", out),
+        Ending::CrLf => feed(rt, profile, state, line, b"\r\n", out),
     }
 }
 
-// All reads of one descriptor, and the rows of the lines that end in them.
-fn read_to_end(
+// All reads of one input, and the rows of the lines that end in them.
+fn read_to_end<R: Read>(
+    rt: &HostRuntime,
     profile: Profile,
-    fd: i32,
+    from: &mut R,
     what: &[u8],
     state: SoFar,
     line: &mut [u8],
@@ -148,7 +156,7 @@ fn read_to_end(
     let mut turns: u64 = 0;
     while stream::may_go_on(turns) {
         turns += 1;
-        match read_some(profile, fd, what, state, line, chunk, out) {
+        match read_some(rt, profile, from, what, state, line, chunk, out) {
             Turn::More(next) => {
                 state = next;
             }
@@ -160,62 +168,63 @@ fn read_to_end(
             }
         }
     }
-    stop(b": too many reads\n");
+    stop(rt, b": too many reads\n");
     Turn::Stopped
 }
 
 // One read, and the rows of the lines that end in it.
-fn read_some(
+fn read_some<R: Read>(
+    rt: &HostRuntime,
     profile: Profile,
-    fd: i32,
+    from: &mut R,
     what: &[u8],
     state: SoFar,
     line: &mut [u8],
     chunk: &mut [u8],
     out: &mut [u8],
 ) -> Turn {
-    match stream_io::read(fd, chunk, what) {
-        Taken::Bytes(n) => feed(profile, state, line, &chunk[..n], out),
+    match stream_io::read(rt.stderr(), from, chunk, what) {
+        Taken::Bytes(n) => feed(rt, profile, state, line, &chunk[..n], out),
         Taken::End => Turn::End,
         Taken::Failed => Turn::Stopped,
     }
 }
 
-fn feed(profile: Profile, state: SoFar, line: &mut [u8], chunk: &[u8], out: &mut [u8]) -> Turn {
+fn feed(rt: &HostRuntime, profile: Profile, state: SoFar, line: &mut [u8], chunk: &[u8], out: &mut [u8]) -> Turn {
     match ledger_feed::feed(profile, state, line, chunk, out) {
         Fed::Rows(next, wrote) => {
-            if write(&out[..wrote]) {
+            if write(rt, &out[..wrote]) {
                 return Turn::More(next);
             }
         }
         Fed::Full => {
-            stop(b": too little room for rows\n");
+            stop(rt, b": too little room for rows\n");
         }
         Fed::Many => {
-            stop(b": more lines than 64 bits count\n");
+            stop(rt, b": more lines than 64 bits count\n");
         }
         Fed::Refused(_) => {
-            stop(b": no line buffer\n");
+            stop(rt, b": no line buffer\n");
         }
     }
     Turn::Stopped
 }
 
-fn finish(profile: Profile, state: SoFar, line: &[u8], out: &mut [u8]) -> bool {
+fn finish(rt: &HostRuntime, profile: Profile, state: SoFar, line: &[u8], out: &mut [u8]) -> bool {
     match ledger_finish::finish(profile, state, line, out) {
-        Finished::Rows(wrote) => write(&out[..wrote]),
-        Finished::Full => stop(b": too little room for the last rows\n"),
-        Finished::Many => stop(b": more lines than 64 bits count\n"),
-        Finished::Refused(_) => stop(b": no line buffer\n"),
+        Finished::Rows(wrote) => write(rt, &out[..wrote]),
+        Finished::Full => stop(rt, b": too little room for the last rows\n"),
+        Finished::Many => stop(rt, b": more lines than 64 bits count\n"),
+        Finished::Refused(_) => stop(rt, b": no line buffer\n"),
     }
 }
 
-fn write(rows: &[u8]) -> bool {
-    stream_io::write_all(libc::STDOUT_FILENO, rows, b"ledger: standard output")
+fn write(rt: &HostRuntime, rows: &[u8]) -> bool {
+    stream_io::write_all(rt.stderr(), &mut rt.stdout(), rows, b"ledger: standard output")
 }
 
 // Nothing more is written.
-fn stop(reason: &[u8]) -> bool {
-    stream_io::say(b"ledger", reason);
+fn stop(rt: &HostRuntime, reason: &[u8]) -> bool {
+    stream_io::say(rt.stderr(), b"ledger", reason);
     false
 }

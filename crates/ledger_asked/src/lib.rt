@@ -1,4 +1,6 @@
 // What a call of the ledger program asks for, by its first two arguments.
+#![tactic(auto)]
+
 ghost use Rattle.ledger_asked.specs.Called.{AsksFor};
 
 use line_profile::Profile;
@@ -10,7 +12,7 @@ const FILES: usize = 1;
 const FILES_BEHIND: usize = 3;
 
 // The profile, and the first argument that names a file, if there is one; or a profile that there is not.
-#[derive(Drop)]
+#[derive(Clone, Copy)]
 pub enum Asked {
     For(Profile, usize),
     Unknown,

@@ -1,5 +1,7 @@
 // The row of a line that ends, by a buffer that holds the line's first bytes: the line is read, judged by the profile, and what it says
 // is handed on.
+#![tactic(auto)]
+
 ghost use Rattle.ledger_close.specs.Ended.{Closes};
 
 use ledger_row::Row;

@@ -1,4 +1,6 @@
 // The ledger as a machine over bytes: any number of bytes at a time go in, whole rows come out.
+#![tactic(auto)]
+
 ghost use Rattle.ledger_feed.specs.Promises.{Starts, Countable, Feeds, MakesState, Ready, Takes};
 
 use line_cut::{Begun, LINE};
@@ -12,7 +14,7 @@ const ROW: usize = 32;
 const MOST: u64 = 0xffff_ffff_ffff_ffff;
 
 // The lines so far, and what is known of the unfinished one beside its bytes in the line buffer.
-#[derive(Drop)]
+#[derive(Clone, Copy)]
 pub struct SoFar {
     pub held: usize,
     pub cr: bool,
@@ -22,7 +24,7 @@ pub struct SoFar {
 
 // The state after a chunk, and how many bytes of rows were written; or why nothing has changed: too little room, counts that
 // would pass 64 bits, or a line buffer that has not 256 bytes.
-#[derive(Drop)]
+#[derive(Clone, Copy)]
 pub enum Fed {
     Rows(SoFar, usize),
     Full,

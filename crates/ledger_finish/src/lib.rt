@@ -1,4 +1,6 @@
 // The end of the input: the row of a last line with no LF, and the totals.
+#![tactic(auto)]
+
 ghost use Rattle.std.specs.Prelude.{[], ◌^◌, ◌≤◌, ◌<◌, length};
 ghost use Rattle.text_out.specs.Text.{Adds};
 ghost use Rattle.ledger_feed.specs.Machine.{at};
@@ -14,7 +16,7 @@ use text_out::Placed;
 const ROWS: usize = 116;
 
 // How many bytes of the last rows were written, or why none.
-#[derive(Drop)]
+#[derive(Clone, Copy)]
 pub enum Finished {
     Rows(usize),
     Full,

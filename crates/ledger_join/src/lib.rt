@@ -1,5 +1,7 @@
 // Ledgers of parts of a collection, joined: a machine over bytes. The bytes of a part go in, any number at a time, and its rows come out
 // with the numbers that they have in the whole; then the next part, and at the end of all the totals.
+#![tactic(auto)]
+
 ghost use Rattle.std.specs.Prelude.{◌≡◌, ◌+◌, ◌^◌, ◌<◌, ◌≤◌, length, [], ◌∷◌, ◌++◌};
 ghost use Rattle.text_out.specs.Text.{Adds};
 ghost use Rattle.line_cut.specs.Lines.{ends};
@@ -24,7 +26,7 @@ const MOST: u64 = 0xffff_ffff_ffff_ffff;
 
 // The part that is read, from 1; the loaded and refused rows of all parts so far, and those of this one; how many bytes of an unfinished row are
 // held; whether the part's totals are read, and whether it was found to be no ledger.
-#[derive(Drop)]
+#[derive(Clone, Copy)]
 pub struct Joining {
     pub part: u64,
     pub loads: u64,
@@ -37,7 +39,7 @@ pub struct Joining {
 }
 
 // The state after a chunk, and how many bytes of rows were written; or why nothing has changed.
-#[derive(Drop)]
+#[derive(Clone, Copy)]
 pub enum FedPart {
     Rows(Joining, usize),
     Full,
@@ -46,7 +48,7 @@ pub enum FedPart {
 }
 
 // The state before the next part; or that this part is no ledger, with its number and the row's.
-#[derive(Drop)]
+#[derive(Clone, Copy)]
 pub enum NextPart {
     Next(Joining),
     NoLedger(u64, u64),
@@ -54,7 +56,7 @@ pub enum NextPart {
 }
 
 // How many bytes the totals have that were written; or why none were.
-#[derive(Drop)]
+#[derive(Clone, Copy)]
 pub enum EndedJoin {
     Row(usize),
     NoLedger(u64, u64),
@@ -63,14 +65,14 @@ pub enum EndedJoin {
 }
 
 // The state after a byte or a row, and the place after what was written.
-#[derive(Drop)]
+#[derive(Clone, Copy)]
 pub struct ByteTaken {
     pub state: Joining,
     pub end: usize,
 }
 
 // The same after so many bytes.
-#[derive(Drop)]
+#[derive(Clone, Copy)]
 pub struct SomeTaken {
     pub state: Joining,
     pub end: usize,
@@ -426,7 +428,7 @@ fn ample(s: Joining, bytes: usize, room: usize) -> bool
 }
 
 // Whether the rows of a chunk are taken: there is room and a number for each, or not.
-#[derive(Drop)]
+#[derive(Clone, Copy)]
 enum Fit {
     Takes,
     Full,

@@ -1,4 +1,6 @@
 // A row of a ledger that is joined to others: what it is in its place, and the row with its number in the whole. No door.
+#![tactic(auto)]
+
 ghost use Rattle.std.specs.Prelude.{◌≡◌, ◌+◌, ◌-◌, ◌≤◌, length};
 ghost use Rattle.text_out.specs.Text.{Adds, decimal_of};
 ghost use Rattle.ledger_row.specs.Row.{spaced as Row·spaced};
@@ -24,7 +26,7 @@ const LONGEST: usize = 64;
 const MANY_DIGITS: u64 = 100_000;
 
 // What a row is in the place where it stands.
-#[derive(Drop)]
+#[derive(Clone, Copy)]
 pub enum Kind {
     Loaded,
     Refused,
@@ -33,7 +35,7 @@ pub enum Kind {
 }
 
 // What a row is, and the place after what was written of it, or that there was no room.
-#[derive(Drop)]
+#[derive(Clone, Copy)]
 pub struct TakenRow {
     pub kind: Kind,
     pub placed: Placed,

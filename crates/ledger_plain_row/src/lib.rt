@@ -1,4 +1,6 @@
 // The row of a loaded line with a score, at the front of a text: told in one reading, which finds its end too. No door.
+#![tactic(auto)]
+
 ghost use Rattle.std.specs.Prelude.{◌≡◌, ◌-◌};
 ghost use Rattle.line_tail.specs.Words.{is_figure, starts_with};
 ghost use Rattle.ledger_plain_row.specs.Plain.{figures_of, number_in, number_read, sign_in, is_points, score_in, is_half, half_between, is_own, no_row};
@@ -10,14 +12,14 @@ const FIGURES: usize = 18;
 const LARGEST: u64 = 32767;
 
 // A number at the front of a text: how many bytes it has, and what they come to.
-#[derive(Drop)]
+#[derive(Clone, Copy)]
 pub struct Number {
     pub size: usize,
     pub value: u64,
 }
 
 // A row at the front of a text: how many bytes its number has, and the row. No row has none.
-#[derive(Drop)]
+#[derive(Clone, Copy)]
 pub struct PlainRow {
     pub front: usize,
     pub size: usize,

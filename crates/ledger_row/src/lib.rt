@@ -1,11 +1,13 @@
 // The rows of a ledger, put into a lent buffer.
+#![tactic(auto)]
+
 use text_out::Placed;
 
 pub mod inner;
 mod words;
 
 // The place after the row, or that there was no room; and whether the line was loaded.
-#[derive(Drop)]
+#[derive(Clone, Copy)]
 pub struct Row {
     pub placed: Placed,
     pub loaded: bool,

@@ -1,5 +1,7 @@
 // The rows of totals: a ledger's last one, and that of a collection's error. Each is made whole before it is put, so that with too little
 // room nothing changes.
+#![tactic(auto)]
+
 ghost use Rattle.std.specs.Prelude.{◌++◌, ◌+◌, ◌≤◌, length};
 ghost use Rattle.text_out.specs.Text.{Adds, decimal_of};
 ghost use Rattle.ledger_totals.specs.Totals.{last_row, PutsLast};

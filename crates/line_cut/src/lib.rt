@@ -1,4 +1,6 @@
 // The lines of a collection, found in pieces of it: whoever reads lines asks for the next line's end, and does with the line what it does.
+#![tactic(auto)]
+
 ghost use Rattle.std.specs.Prelude.{◌≡◌, [], ◌∷◌};
 ghost use Rattle.line_cut.specs.Cut.{kept_byte, one_more_rule, bare_of};
 ghost use Rattle.line_cut.specs.Lines.{ends as endsOf};
@@ -11,14 +13,14 @@ pub const LINE: usize = 256;
 const COUNTED: usize = LINE + 2;
 
 // What is known of an unfinished line beside its bytes in the line buffer.
-#[derive(Drop)]
+#[derive(Clone, Copy)]
 pub struct Begun {
     pub held: usize,
     pub cr: bool,
 }
 
 // Where the reading stopped, what is known of the line that is unfinished there, and whether a line ended, of how many bytes.
-#[derive(Drop)]
+#[derive(Clone, Copy)]
 pub struct Cut {
     pub at: usize,
     pub begun: Begun,

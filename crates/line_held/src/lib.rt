@@ -1,4 +1,6 @@
 // A line that ended, read by a buffer that holds its first bytes.
+#![tactic(auto)]
+
 ghost use Rattle.line_held.specs.Held.{ReadsHeld, ReadsLong};
 
 use chess::piece::Piece;

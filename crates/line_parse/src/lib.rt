@@ -1,4 +1,6 @@
 // What one line of a collection says, read by value: the state, the half points and the board, or a refusal.
+#![tactic(auto)]
+
 ghost use Rattle.std.specs.Prelude.{◌≡◌};
 ghost use Rattle.text_in.specs.Text.{place_in};
 ghost use Rattle.line_parse.specs.Line.{sides, results, with_result, fields_say};
@@ -16,14 +18,14 @@ use refusal::Refusal;
 use text_in::inner::{find, is, is_text, skip_spaces, trim};
 
 // The part of the position that goes by value, and the half points; or why there is none.
-#[derive(Drop)]
+#[derive(Clone, Copy)]
 pub enum Read {
     Position(State, u8),
     Refused(Refusal),
 }
 
 // What the line says, and its board; nothing stands there where it is refused.
-#[derive(Drop)]
+#[derive(Clone, Copy)]
 pub struct Parsed {
     pub answer: Read,
     pub board: [u8; Square::COUNT],

@@ -1,4 +1,6 @@
 // A line of a collection under a profile: the line's own refusals, then the profile's.
+#![tactic(auto)]
+
 ghost use Rattle.line_profile.specs.Promises.{ReadsLineUnder};
 
 use chess::piece::Piece;
@@ -9,7 +11,7 @@ use refusal::Refusal;
 pub mod inner;
 
 // Which positions a collection takes: every one, or those from real play alone.
-#[derive(Drop)]
+#[derive(Clone, Copy)]
 pub enum Profile {
     Any,
     RealPlay,

@@ -11,7 +11,7 @@ use chess::square::Square;
 const FILES: usize = 8;
 
 // The 64 bytes of the board from a1 on, where the text is eight ranks; else nothing stands on it.
-#[derive(Drop)]
+#[derive(Clone, Copy)]
 pub struct Placed {
     pub ok: bool,
     pub board: [u8; Square::COUNT],
@@ -65,7 +65,7 @@ fn nothing() -> Placed
 }
 
 // What one byte of the ranks says: go to the rank below, a piece, so many empty squares, or no ranks.
-#[derive(Drop)]
+#[derive(Clone, Copy)]
 enum Next {
     Below,
     Piece(u8),

@@ -15,7 +15,7 @@ use refusal::Refusal;
 use text_in::inner::is;
 
 // The state that a position field says, or why there is none.
-#[derive(Drop)]
+#[derive(Clone, Copy)]
 pub enum Tail {
     Is(State),
     Refused(Refusal),

@@ -1,4 +1,6 @@
 // The line of a position, written at the front of a lent buffer or refused.
+#![tactic(auto)]
+
 ghost use Rattle.line_write.specs.Promises.{WritesLine, WritesText, Shows};
 
 use position::{Checked, State};
@@ -6,14 +8,14 @@ use refusal::Refusal;
 use text_out::Placed;
 
 // A result's half points, on request: `Half(2)` is `1-0`. What is not requested can't be handed over.
-#[derive(Drop)]
+#[derive(Clone, Copy)]
 pub enum Wanted {
     Nothing,
     Half(u8),
 }
 
 // How many bytes were written; or why none was.
-#[derive(Drop)]
+#[derive(Clone, Copy)]
 pub enum Written {
     Bytes(usize),
     Refused(Refusal),

@@ -7,7 +7,7 @@ use chess::kind::Kind;
 use chess::square::Square;
 
 // `of` makes no place past 767.
-#[derive(Drop)]
+#[derive(Clone, Copy)]
 pub struct Entry(usize);
 
 impl Entry {

@@ -9,11 +9,11 @@ pub const OPENING: u8 = 0;
 pub const ENDING: u8 = 1;
 
 // `new` and the constants make no number out of range.
-#[derive(Drop)]
+#[derive(Clone, Copy)]
 pub struct Phase(u8);
 
 // Any other number is refused as SHAPE.
-#[derive(Drop)]
+#[derive(Clone, Copy)]
 pub enum Made {
     Is(Phase),
     Refused(Refusal),

@@ -30,7 +30,7 @@ pub const MOB_Q: usize = 9;
 pub const T: usize = 10;
 
 // A square weight among the 768.
-#[derive(Drop)]
+#[derive(Clone, Copy)]
 pub struct SquareWeight(usize);
 
 impl SquareWeight {
@@ -54,7 +54,7 @@ impl SquareWeight {
 }
 
 // A weight among all 779.
-#[derive(Drop)]
+#[derive(Clone, Copy)]
 pub struct Weight(usize);
 
 impl Weight {

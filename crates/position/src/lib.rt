@@ -1,4 +1,6 @@
 // A position: 14 bitboards, 64 board bytes, and a state by value. The test that every call on one begins with.
+#![tactic(auto)]
+
 ghost use Rattle.position.specs.Promises.{OfSide, Checks};
 
 use chess::color::Color;
@@ -10,7 +12,7 @@ use position_further::{Passant, Rights};
 use refusal::Refusal;
 
 // The part of a position that goes by value.
-#[derive(Drop)]
+#[derive(Clone, Copy)]
 pub struct State {
     // The colour to move.
     pub side: u8,
@@ -42,7 +44,7 @@ pub fn of_side(side: u8) -> State
     }
 }
 
-#[derive(Drop)]
+#[derive(Clone, Copy)]
 pub enum Checked {
     Fit,
     Refused(Refusal),

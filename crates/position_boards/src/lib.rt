@@ -1,4 +1,6 @@
 // The 14 bitboards: the tests that they alone decide, and the one way to them from bytes.
+#![tactic(auto)]
+
 ghost use Rattle.std.specs.Prelude.{◌≡◌, ◌≤◌, ◌<◌, length};
 ghost use Rattle.position_boards.specs.PrivateTested.{shared_by, colour_squares, boards_by};
 ghost use Rattle.position_boards.specs.Promises.{TestsBoards, Overlaps, Splits, Makes};
@@ -10,7 +12,7 @@ use chess::square::Square;
 use position_planes::{ONE, OTHERS, PLACES};
 
 // The bitboards of 64 bytes; `coded` is whether each byte is 0 or a piece's code.
-#[derive(Drop)]
+#[derive(Clone, Copy)]
 pub struct Boards {
     pub bitboards: [u64; Piece::BOARDS],
     pub coded: bool,

@@ -1,33 +1,32 @@
 -- The binary digits of the codes: the four planes of a position whose boards don't overlap have, at each square, the digits of the code
--- there, and they are those of the bytes exactly where each byte is that code. Assumes nothing.
+-- there, and read file by file they say what each byte is to be. Assumes nothing.
 use mathlib.Core.Path.{◌≡◌, refl, sym, ap, ap₂, ◌∙◌, subst}
 use mathlib.Core.Logic.{⊎_elim}
-use mathlib.Core.Bool.{Bool, true, false, cond, not, ◌||◌, ◌&&◌}
+use mathlib.Core.Bool.{Bool, true, false, cond, ◌||◌, ◌&&◌, beq, and-true, and-false}
 use mathlib.Core.List.{List}
-use Prim.Native.Nat.{ℕ, zero, suc, ◌+◌, ◌-◌, ◌^◌, ◌<◌}
+use Prim.Native.Nat.{ℕ, zero, suc, ◌+◌, ◌*◌, ◌-◌, ◌/◌, ◌%◌, ◌^◌, ◌<◌}
+use native.Mathlib.Nat.{mod-lt, mod-eq_of_lt, mul-one, lt_of_le_of_lt}
 use native.Mathlib.Omega.{arith}
 use lib.Bits.{bit_or, bit_xor, and_le_l, and_le_r, or_add_and, xor_add_and, xor_self, or_zero_l}
-use lib.Dec.{T, eqb, ltb, eqb→eq}
+use lib.Dec.{T, eqb, leb}
 use lib.ListN.{get_or}
-use borrow.Author.Tests.{eqb-true, eq-eqb, leb-true, ltb-false, le-ltb}
-use Rattle.laws.specs.Tests.{all_below}
-use Rattle.laws.proofs.Tests.{all_at, all_of, all_same}
-use Rattle.laws.proofs.Truth.{true_T, T_true, T_false, and_l, and_r, and_i, not_i, not_e, iff}
+use borrow.Author.Tests.{eqb-true, eq-eqb, leb-true}
+use Rattle.laws.specs.Tests.{all_below, all_below2}
+use Rattle.laws.proofs.Tests.{all_at, all_of, all2_at}
+use Rattle.laws.proofs.Truth.{true_T, T_true, T_false, and_l, and_r, and_i, iff, is_beq}
 use Rattle.chess.specs.Codes.{is_piece}
 use Rattle.bits.specs.Bitboard.{has, those, some}
 use Rattle.bits.proofs.Counts.{one_alone}
-use Rattle.bits.proofs.Digits.{has_zero, ext}
+use Rattle.bits.proofs.Digits.{has_or, has_and, has_shr, has_shl, has_mod, has_zero, ext}
 use Rattle.bits.proofs.Some.{some_at, some_none, some_where, Somewhere}
-use Rattle.bits.proofs.Those.{has_those, those_lt, those_of, those_or, those_same, those_none, is_those}
-use Rattle.position_planes.specs.Planes.{digit_plane, beyond_of, planes_of}
-use Rattle.position_planes.specs.declared.Planes.{Planes}
+use Rattle.bits.proofs.Those.{has_those, those_lt, those_of, those_or, is_those}
 use Rattle.position_boards.specs.Sound.{on, boards_with, apart}
 use Rattle.position_consistent.specs.Consistent.{agrees}
-use Rattle.position_consistent.specs.PrivateTested.{chosen_by, digit_there, plane_of, amiss_by}
+use Rattle.position_consistent.specs.PrivateTested.{chosen_by, digit_there, plane_of, first_file, file_codes, rank_right, files_right}
 use Rattle.position_boards.proofs.Apart.{code_from, code_to, code_is, apart_one}
 use Rattle.position_consistent.proofs.Bytes.{Empty, agrees_either, vacant_agrees, occupied_agrees}
 
--- ---- none where there is none in either, and none where two are the same
+-- ---- what a loop gathers: 0 as long as all were 0, and two bytes that are the same
 or_none : (a b : ℕ) → eqb (bit_or a b) 0 ≡ (eqb a 0 && eqb b 0)
 or_none a b =
     iff (eqb (bit_or a b) 0) (eqb a 0 && eqb b 0)
@@ -47,6 +46,15 @@ xor_none a b =
     let z = eqb-true (bit_xor a b) 0 (T_true (eqb (bit_xor a b) 0) t) in
     true_T (eq-eqb a b (omega (arith, xor_add_and a b, and_le_l a b, and_le_r a b))))
     (λ t. true_T (eq-eqb (bit_xor a b) 0 (ap (bit_xor a) (sym (eqb-true a b (T_true (eqb a b) t))) ∙ xor_self a)))
+
+-- one more looked at
+pub more_amiss : (f : ℕ → Bool) (n amiss wrong : ℕ) → eqb amiss 0 ≡ all_below n f → eqb wrong 0 ≡ f n → eqb (bit_or wrong amiss) 0 ≡ all_below (suc n) f
+unfolding all_below
+more_amiss f n amiss wrong e w = or_none wrong amiss ∙ ap₂ ◌&&◌ w e
+
+pub byte_amiss : (f : ℕ → Bool) (n amiss byte code : ℕ) → eqb amiss 0 ≡ all_below n f → eqb byte code ≡ f n
+    → eqb (bit_or (bit_xor byte code) amiss) 0 ≡ all_below (suc n) f
+byte_amiss f n amiss byte code e w = more_amiss f n amiss (bit_xor byte code) e (xor_none byte code ∙ w)
 
 -- ---- a plane, one board after the other
 abbrev pub among_digit : List ℕ → ℕ → ℕ → ℕ → Bool
@@ -146,90 +154,96 @@ module _ (bbs bytes : List ℕ) (k : ℕ) (one : apart bbs k ≡ true) where
       go true e = piece_there (some_where 12 stands e)
       go false e = nothing_there (some_none 12 stands e)
 
--- ---- plane by plane is square by square
-module _ (bbs bytes : List ℕ) where
-  abbrev same_plane : ℕ → Bool
-  same_plane j = eqb (digit_plane bytes j) (plane_of bbs j)
+-- ---- the word of a file: each rank's four digits
+or_none_r : (a : Bool) → (a || false) ≡ a
+or_none_r true = refl
+or_none_r false = refl
 
-  abbrev right_code : ℕ → Bool
-  right_code k = eqb (get_or bytes k 0) (code_there bbs k)
+-- the first file, moved i squares up, has in its rank only the i-th square
+first_file_at : (i j rank : ℕ) → i < 4 → j < 4 → rank < 8 → (leb i (8 * rank + j) && has 0x0101010101010101 (8 * rank + j - i)) ≡ eqb i j
+unfolding has all_below all_below2
+first_file_at i j rank hi hj hr =
+    is_beq (leb i (8 * rank + j) && has 0x0101010101010101 (8 * rank + j - i)) (eqb i j)
+    (all2_at 4 8 (λ y r. beq (leb i (8 * r + y) && has 0x0101010101010101 (8 * r + y - i)) (eqb i y))
+    (all_at 4 (λ x. all_below2 4 8 (λ y r. beq (leb x (8 * r + y) && has 0x0101010101010101 (8 * r + y - x)) (eqb x y))) tt i hi) j rank hj hr)
 
-  plane_digit : (j : ℕ) → T (same_plane j) → (k : ℕ) → k < 64 → has (get_or bytes k 0) j ≡ digit_there bbs j k
-  unfolding digit_plane
-  plane_digit j t k h =
-      sym (has_those 64 (λ i. has (get_or bytes i 0) j) k h)
-      ∙ ap (λ (b : ℕ). has b k) (eqb→eq (digit_plane bytes j) (plane_of bbs j) t)
-      ∙ has_those 64 (digit_there bbs j) k h
-
-  digit_plane_holds : ((k : ℕ) → k < 64 → get_or bytes k 0 ≡ code_there bbs k) → (j : ℕ) → j < 4 → T (same_plane j)
-  unfolding digit_plane
-  digit_plane_holds e j l =
-      true_T (eq-eqb (digit_plane bytes j) (plane_of bbs j) (those_same (λ k. has (get_or bytes k 0) j) (digit_there bbs j)
-      (λ k h. ap (λ (b : ℕ). has b j) (e k h) ∙ has_those 4 (λ i. digit_there bbs i k) j l)))
-
-  code_from_planes : ((j : ℕ) → j < 4 → T (same_plane j)) → T (eqb (beyond_of bytes) 0) → (k : ℕ) → k < 64 → T (right_code k)
-  unfolding beyond_of
-  code_from_planes same none k h =
-      let within = ltb-false 15 (get_or bytes k 0) (not_e (ltb 15 (get_or bytes k 0))
-      (all_at 64 (λ i. not (ltb 15 (get_or bytes i 0))) (subst T (those_none (λ i. ltb 15 (get_or bytes i 0))) none) k h)) in
-      true_T (eq-eqb (get_or bytes k 0) (code_there bbs k)
-      (ext 4 (get_or bytes k 0) (code_there bbs k) (omega arith) (those_lt 4 (λ j. digit_there bbs j k))
-      (λ j l. plane_digit j (same j l) k h ∙ sym (has_those 4 (λ i. digit_there bbs i k) j l))))
-
-  none_beyond : ((k : ℕ) → k < 64 → get_or bytes k 0 ≡ code_there bbs k) → T (eqb (beyond_of bytes) 0)
-  unfolding beyond_of
-  none_beyond e =
-      subst T (sym (those_none (λ k. ltb 15 (get_or bytes k 0))))
-      (all_of 64 (λ k. not (ltb 15 (get_or bytes k 0)))
-      (λ k h. let small = those_lt 4 (λ j. digit_there bbs j k) in
-      let same = e k h in
-      not_i (ltb 15 (get_or bytes k 0)) (le-ltb 15 (get_or bytes k 0) (omega arith))))
-
-  abbrev all_same_rule : Bool
-  all_same_rule = ((same_plane 0 && same_plane 1) && (same_plane 2 && same_plane 3)) && eqb (beyond_of bytes) 0
-
-  each_plane : T all_same_rule → (j : ℕ) → j < 4 → T (same_plane j)
-  each_plane t j l =
-      let planes = and_l ((same_plane 0 && same_plane 1) && (same_plane 2 && same_plane 3)) (eqb (beyond_of bytes) 0) t in
-      let low = and_l (same_plane 0 && same_plane 1) (same_plane 2 && same_plane 3) planes in
-      let high = and_r (same_plane 0 && same_plane 1) (same_plane 2 && same_plane 3) planes in
-      go j l (and_l (same_plane 0) (same_plane 1) low) (and_r (same_plane 0) (same_plane 1) low) (and_l (same_plane 2) (same_plane 3) high)
-      (and_r (same_plane 2) (same_plane 3) high)
+module _ (p file rank : ℕ) (hf : file < 8) (hr : rank < 8) where
+  digit_term : (i j : ℕ) → i < 4 → j < 4 → has (first_file p file * 2 ^ i % 2 ^ 64) (8 * rank + j) ≡ (eqb i j && has p (8 * rank + file))
+  digit_term i j hi hj =
+      has_shl (first_file p file) i (8 * rank + j) (omega arith)
+      ∙ ap (λ (t : Bool). leb i (8 * rank + j) && t)
+      (has_and (p / 2 ^ file) 0x0101010101010101 (8 * rank + j - i) ∙ ap (λ (t : Bool). t && has 0x0101010101010101 (8 * rank + j - i))
+      (has_shr p file (8 * rank + j - i)))
+      ∙ go (leb i (8 * rank + j)) (has 0x0101010101010101 (8 * rank + j - i)) (eqb i j) refl (first_file_at i j rank hi hj hr)
     where
-      go : (j : ℕ) → j < 4 → T (same_plane 0) → T (same_plane 1) → T (same_plane 2) → T (same_plane 3) → T (same_plane j)
-      go zero l a b c d = a
-      go (suc zero) l a b c d = b
-      go (suc (suc zero)) l a b c d = c
-      go (suc (suc (suc zero))) l a b c d = d
-      go (suc (suc (suc (suc j)))) l a b c d = absurd (omega arith)
+      go : (l m t : Bool) → eqb i j ≡ t → (l && m) ≡ t → (l && (has p (file + (8 * rank + j - i)) && m)) ≡ (t && has p (8 * rank + file))
+      go true true true q e = let same : file + (8 * rank + j - i) ≡ 8 * rank + file = omega (arith, eqb-true i j q) in
+          and-true (has p (file + (8 * rank + j - i))) ∙ ap (has p) same
+      go true true false q e = absurd (subst T e tt)
+      go true false true q e = absurd (subst T (sym e) tt)
+      go true false false q e = and-false (has p (file + (8 * rank + j - i)))
+      go false m true q e = absurd (subst T (sym e) tt)
+      go false m false q e = refl
 
-  codes_right : all_same_rule ≡ all_below 64 right_code
-  codes_right =
-      iff all_same_rule (all_below 64 right_code)
-      (λ t. all_of 64 right_code (code_from_planes (each_plane t)
-      (and_r ((same_plane 0 && same_plane 1) && (same_plane 2 && same_plane 3)) (eqb (beyond_of bytes) 0) t)))
-      (λ t.
-      let code : (k : ℕ) → k < 64 → get_or bytes k 0 ≡ code_there bbs k = λ k h. eqb→eq (get_or bytes k 0) (code_there bbs k) (all_at 64 right_code t k h) in
-      and_i ((same_plane 0 && same_plane 1) && (same_plane 2 && same_plane 3)) (eqb (beyond_of bytes) 0)
-      (and_i (same_plane 0 && same_plane 1) (same_plane 2 && same_plane 3)
-      (and_i (same_plane 0) (same_plane 1) (digit_plane_holds code 0 (omega arith)) (digit_plane_holds code 1 (omega arith)))
-      (and_i (same_plane 2) (same_plane 3) (digit_plane_holds code 2 (omega arith)) (digit_plane_holds code 3 (omega arith))))
-      (none_beyond code))
+  first_term : (j : ℕ) → j < 4 → has (first_file p file) (8 * rank + j) ≡ (eqb 0 j && has p (8 * rank + file))
+  first_term j hj =
+      ap (λ (x : ℕ). has x (8 * rank + j))
+      (sym (ap (λ (x : ℕ). x % 2 ^ 64) (mul-one (first_file p file)) ∙ mod-eq_of_lt (lt_of_le_of_lt (and_le_r (p / 2 ^ file) 0x0101010101010101) (omega arith))))
+      ∙ digit_term 0 j (omega arith) hj
 
-amiss_none : (p : Planes) (a b c d : ℕ)
-    → eqb (amiss_by p a b c d) 0 ≡ (((eqb p.ones a && eqb p.twos b) && (eqb p.fours c && eqb p.eights d)) && eqb p.beyond 0)
-amiss_none p a b c d =
-    let low = bit_or (bit_xor p.ones a) (bit_xor p.twos b) in
-    let high = bit_or (bit_xor p.fours c) (bit_xor p.eights d) in
-    or_none (bit_or low high) p.beyond
-    ∙ ap (λ (t : Bool). t && eqb p.beyond 0)
-    (or_none low high
-    ∙ ap₂ ◌&&◌ (or_none (bit_xor p.ones a) (bit_xor p.twos b) ∙ ap₂ ◌&&◌ (xor_none p.ones a) (xor_none p.twos b))
-    (or_none (bit_xor p.fours c) (bit_xor p.eights d) ∙ ap₂ ◌&&◌ (xor_none p.fours c) (xor_none p.eights d)))
+module _ (plane : ℕ → ℕ) (file rank : ℕ) (hf : file < 8) (hr : rank < 8) where
+  abbrev word : ℕ
+  word = file_codes (plane 0) (plane 1) (plane 2) (plane 3) file
 
-pub planes_agree : (bbs bytes : List ℕ) → T (all_below 64 (apart bbs))
-    → eqb (amiss_by (planes_of bytes) (plane_of bbs 0) (plane_of bbs 1) (plane_of bbs 2) (plane_of bbs 3)) 0 ≡ all_below 64 (agrees bbs bytes)
-planes_agree bbs bytes one =
-    amiss_none (planes_of bytes) (plane_of bbs 0) (plane_of bbs 1) (plane_of bbs 2) (plane_of bbs 3)
-    ∙ codes_right bbs bytes
-    ∙ all_same 64 (right_code bbs bytes) (agrees bbs bytes) (λ k h. code_agrees bbs bytes k (T_true (apart bbs k) (all_at 64 (apart bbs) one k h)))
+  abbrev there : ℕ → Bool
+  there i = has (plane i) (8 * rank + file)
+
+  all_terms : (j : ℕ) → j < 4 → has word (8 * rank + j) ≡ (((eqb 0 j && there 0) || (eqb 1 j && there 1)) || ((eqb 2 j && there 2) || (eqb 3 j && there 3)))
+  unfolding file_codes
+  all_terms j h =
+      has_or (bit_or (first_file (plane 0) file) (first_file (plane 1) file * 2 ^ 1 % 2 ^ 64))
+      (bit_or (first_file (plane 2) file * 2 ^ 2 % 2 ^ 64) (first_file (plane 3) file * 2 ^ 3 % 2 ^ 64)) (8 * rank + j)
+      ∙ ap₂ ◌||◌
+      (has_or (first_file (plane 0) file) (first_file (plane 1) file * 2 ^ 1 % 2 ^ 64) (8 * rank + j)
+      ∙ ap₂ ◌||◌ (first_term (plane 0) file rank hf hr j h) (digit_term (plane 1) file rank hf hr 1 j (omega arith) h))
+      (has_or (first_file (plane 2) file * 2 ^ 2 % 2 ^ 64) (first_file (plane 3) file * 2 ^ 3 % 2 ^ 64) (8 * rank + j)
+      ∙ ap₂ ◌||◌ (digit_term (plane 2) file rank hf hr 2 j (omega arith) h) (digit_term (plane 3) file rank hf hr 3 j (omega arith) h))
+
+  digit_at : (j : ℕ) → j < 4 → has word (8 * rank + j) ≡ there j
+  digit_at zero h = all_terms 0 h ∙ or_none_r (there 0 || false) ∙ or_none_r (there 0)
+  digit_at (suc zero) h = all_terms 1 h ∙ or_none_r (there 1)
+  digit_at (suc (suc zero)) h = all_terms 2 h ∙ or_none_r (there 2)
+  digit_at (suc (suc (suc zero))) h = all_terms 3 h
+  digit_at (suc (suc (suc (suc j)))) h = absurd (omega arith)
+
+  word_code : (f : ℕ → Bool) → ((j : ℕ) → j < 4 → there j ≡ f j) → word / 2 ^ (8 * rank) % 16 ≡ those 4 f
+  word_code f e =
+      ext 4 (word / 2 ^ (8 * rank) % 16) (those 4 f) (mod-lt (word / 2 ^ (8 * rank)) (omega arith)) (those_lt 4 f)
+      (λ j l. has_mod 4 (word / 2 ^ (8 * rank)) j l ∙ has_shr word (8 * rank) j ∙ digit_at j l ∙ e j l ∙ sym (has_those 4 f j l))
+
+-- ---- file by file is square by square
+module _ (bbs bytes : List ℕ) (one : T (all_below 64 (apart bbs))) where
+  abbrev codes_on : ℕ → ℕ
+  codes_on file = file_codes (plane_of bbs 0) (plane_of bbs 1) (plane_of bbs 2) (plane_of bbs 3) file
+
+  square_agrees : (file rank : ℕ) → file < 8 → rank < 8 → rank_right bytes (codes_on file) file rank ≡ agrees bbs bytes (8 * rank + file)
+  square_agrees file rank hf hr =
+      let h : 8 * rank + file < 64 = omega arith in
+      ap (eqb (get_or bytes (8 * rank + file) 0))
+      (word_code (plane_of bbs) file rank hf hr (λ j. digit_there bbs j (8 * rank + file)) (λ j l. has_those 64 (digit_there bbs j) (8 * rank + file) h))
+      ∙ code_agrees bbs bytes (8 * rank + file) (T_true (apart bbs (8 * rank + file)) (all_at 64 (apart bbs) one (8 * rank + file) h))
+
+  pub files_agree : files_right bytes (plane_of bbs 0) (plane_of bbs 1) (plane_of bbs 2) (plane_of bbs 3) ≡ all_below 64 (agrees bbs bytes)
+  files_agree =
+      iff (all_below 8 (λ file. all_below 8 (rank_right bytes (codes_on file) file))) (all_below 64 (agrees bbs bytes))
+      (λ t. all_of 64 (agrees bbs bytes) (λ k h. by_file t k (k / 8) (k % 8) (omega arith) (omega arith) (omega arith)))
+      (λ t. all_of 8 (λ file. all_below 8 (rank_right bytes (codes_on file) file))
+      (λ file hf. all_of 8 (rank_right bytes (codes_on file) file)
+      (λ rank hr. subst T (sym (square_agrees file rank hf hr)) (all_at 64 (agrees bbs bytes) t (8 * rank + file) (omega arith)))))
+    where
+      by_file : T (all_below 8 (λ file. all_below 8 (rank_right bytes (codes_on file) file))) → (k rank file : ℕ) → rank < 8 → file < 8
+          → 8 * rank + file ≡ k → T (agrees bbs bytes k)
+      by_file t k rank file hr hf q =
+          subst (λ (n : ℕ). T (agrees bbs bytes n)) q
+          (subst T (square_agrees file rank hf hr)
+          (all_at 8 (rank_right bytes (codes_on file) file) (all_at 8 (λ f. all_below 8 (rank_right bytes (codes_on f) f)) t file hf) rank hr))

@@ -1,4 +1,4 @@
--- The definition of consistency as the code tests it: the boards by themselves, then the bytes, plane by plane. Assumes nothing.
+-- The definition of consistency as the code tests it: the boards by themselves, then the codes file by file. Assumes nothing.
 use mathlib.Core.Path.{◌≡◌, refl, sym, ap, ◌∙◌}
 use mathlib.Core.Bool.{Bool, true, false, ◌&&◌, and-false, false≢true, true≢false}
 use mathlib.Core.List.{List}
@@ -7,12 +7,11 @@ use lib.Dec.{eqb}
 use lib.ListN.{length}
 use borrow.Author.Tests.{eq-eqb, ne_eqb}
 use Rattle.laws.specs.Tests.{all_below}
-use Rattle.position_planes.specs.Planes.{planes_of}
 use Rattle.position_boards.specs.Sound.{apart, united, sound}
 use Rattle.position_boards.proofs.Tested.{sound_apart}
 use Rattle.position_consistent.specs.Consistent.{agrees, consistent}
-use Rattle.position_consistent.specs.PrivateTested.{plane_of, amiss_by}
-use Rattle.position_consistent.proofs.Planes.{planes_agree}
+use Rattle.position_consistent.specs.PrivateTested.{plane_of, files_right}
+use Rattle.position_consistent.proofs.Planes.{files_agree}
 
 -- 14 boards, 64 bytes, the boards' two tests, the bytes'
 none : (l m s r : Bool) → (l && s) ≡ false → false ≡ (l && m && (s && r))
@@ -45,6 +44,6 @@ module _ (bbs bytes : List ℕ) where
       (eq-eqb (length bytes) 64 n)
 
   pub bytes_decide : sound bbs ≡ true → length bytes ≡ 64
-      → eqb (amiss_by (planes_of bytes) (plane_of bbs 0) (plane_of bbs 1) (plane_of bbs 2) (plane_of bbs 3)) 0
+      → files_right bytes (plane_of bbs 0) (plane_of bbs 1) (plane_of bbs 2) (plane_of bbs 3)
       ≡ (eqb (length bbs) 14 && eqb (length bytes) 64 && consistent bbs bytes)
-  bytes_decide e n = planes_agree bbs bytes (sound_apart bbs e) ∙ at_last e n
+  bytes_decide e n = files_agree bbs bytes (sound_apart bbs e) ∙ at_last e n

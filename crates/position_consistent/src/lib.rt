@@ -1,12 +1,13 @@
 // Whether 14 bitboards and 64 board bytes are a consistent position.
-ghost use Rattle.std.specs.Prelude.{◌≡◌, ◌<◌, length};
-ghost use Rattle.position_consistent.specs.PrivateTested.{chosen_by, plane_of, amiss_by};
+#![tactic(auto)]
+
+ghost use Rattle.std.specs.Prelude.{◌≡◌, ◌<◌, ◌*◌, ◌/◌, ◌%◌, ◌^◌, eqb, length};
+ghost use Rattle.position_consistent.specs.PrivateTested.{chosen_by, plane_of, file_codes, file_right, files_right};
 ghost use Rattle.position_consistent.specs.Promises.{Fits};
 
 use chess::color::Color;
 use chess::piece::Piece;
 use chess::square::Square;
-use position_planes::Planes;
 
 // The first of the pieces' boards.
 const PIECES: usize = Color::COUNT;
@@ -37,13 +38,62 @@ fn plane(bitboards: &[u64], digit: usize) -> u64
     all
 }
 
-// Empty where each plane of the bytes is that of the codes, and no byte has more digits than they. No branch, so that the planes go side by side.
-fn amiss(planes: Planes, ones: u64, twos: u64, fours: u64, eights: u64) -> u64
-    ensures { result ≡ amiss_by planes ones twos fours eights }
+// A file has a square in each of the 8 ranks, and they are 8 apart.
+const FILES: usize = 8;
+
+const RANKS: usize = 8;
+
+// A file's codes are one word, a byte for each rank.
+const BITS: usize = 8;
+
+const A_FILE: u64 = 0x0101_0101_0101_0101;
+
+// The codes on a file by their four digits: a byte for each rank.
+fn file_codes(ones: u64, twos: u64, fours: u64, eights: u64, file: usize) -> u64
+    requires { file < 8 }
+    ensures { result ≡ file_codes ones twos fours eights file }
 {
-    let low = planes.ones ^ ones | planes.twos ^ twos;
-    let high = planes.fours ^ fours | planes.eights ^ eights;
-    low | high | planes.beyond
+    let low = (ones >> file) & A_FILE | ((twos >> file) & A_FILE) << 1;
+    let high = ((fours >> file) & A_FILE) << 2 | ((eights >> file) & A_FILE) << 3;
+    low | high
+}
+
+// The code of a rank among those of a file.
+fn code_at(codes: u64, rank: usize) -> u8
+    requires { rank < 8 }
+    ensures { result ≡ codes / 2 ^ (8 * rank) % 16 }
+{
+    ((codes >> (BITS * rank)) & 15) as u8
+}
+
+// 0 where each byte of a file is the code there. No branch, and no table, so that the ranks go side by side.
+fn file_amiss(codes: u64, board: &[u8], file: usize) -> u8
+    requires { (length board.now ≡ 64) × (file < 8) }
+    ensures { eqb result 0 ≡ file_right board.now codes file }
+{
+    let mut amiss: u8 = 0;
+    let mut rank: usize = 0;
+    while rank < RANKS {
+        let code = code_at(codes, rank);
+        amiss = board[FILES * rank + file] ^ code | amiss;
+        rank += 1;
+    }
+    amiss
+}
+
+// 0 where each byte is the code whose binary digits the four planes have there.
+fn bytes_amiss(board: &[u8], ones: u64, twos: u64, fours: u64, eights: u64) -> u8
+    requires { length board.now ≡ 64 }
+    ensures { eqb result 0 ≡ files_right board.now ones twos fours eights }
+{
+    let mut amiss: u8 = 0;
+    let mut file: usize = 0;
+    while file < FILES {
+        let codes = file_codes(ones, twos, fours, eights, file);
+        amiss = file_amiss(codes, board, file) | amiss;
+        file += 1;
+    }
+    amiss
 }
 
 // Whether the shape is right and the position consistent.
@@ -60,6 +110,5 @@ pub fn fits(bitboards: &[u64], board: &[u8]) -> bool
     let twos = plane(bitboards, 1);
     let fours = plane(bitboards, 2);
     let eights = plane(bitboards, 3);
-    let planes = position_planes::sliced(board);
-    amiss(planes, ones, twos, fours, eights) == 0
+    bytes_amiss(board, ones, twos, fours, eights) == 0
 }

@@ -1,8 +1,10 @@
 // What a position says beyond its pieces and its side: castling rights and the en passant square. The tests of them are inner.
+#![tactic(auto)]
+
 pub mod inner;
 
 // Who may still castle, and with which rook: the letters K, Q, k and q of a line.
-#[derive(Drop)]
+#[derive(Clone, Copy)]
 pub struct Rights {
     pub white_short: bool,
     pub white_long: bool,
@@ -11,7 +13,7 @@ pub struct Rights {
 }
 
 // The square that a pawn has just passed over, if any.
-#[derive(Drop)]
+#[derive(Clone, Copy)]
 pub enum Passant {
     Nowhere,
     On(u8),

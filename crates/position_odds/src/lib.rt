@@ -1,4 +1,6 @@
 // Which part of 14 bitboards and 64 board bytes is at odds, with the lowest square concerned: looked for only where the test has said no.
+#![tactic(auto)]
+
 ghost use Rattle.std.specs.Prelude.{◌≡◌, ◌<◌, length};
 ghost use Rattle.position_boards.specs.PrivateTested.{shared_by};
 ghost use Rattle.position_consistent.specs.Consistent.{agrees};

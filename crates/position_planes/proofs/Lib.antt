@@ -1,10 +1,4 @@
 pub mod Places
-pub mod Ranks
-pub mod Truths
-pub mod Trades
-pub mod Sources
-pub mod Turns
-pub mod Slices
-pub mod Table
+pub mod Planes
 pub mod Determined
 pub mod Examples

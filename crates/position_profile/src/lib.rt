@@ -1,4 +1,6 @@
 // Only positions from real play: the door.
+#![tactic(auto)]
+
 ghost use Rattle.position_profile.specs.Promises.{JudgesPosition};
 
 use position::{Checked, State};

@@ -1,9 +1,11 @@
 // Why a call is refused: the one table of documents 01 and 02, with the number of each and the square that some name.
+#![tactic(auto)]
+
 ghost use Rattle.refusal.specs.Refusals.{Numbers, NamesSquare};
 
 // 1 to 13 are document 01's, the others document 02's. 2 was BOARD: 14 to 16 stand in its place, and no refusal has its number again.
 // A number whose request has not landed is given by no call yet.
-#[derive(Drop)]
+#[derive(Clone, Copy)]
 pub enum Refusal {
     Shape,
     Score,
@@ -42,7 +44,7 @@ pub enum Refusal {
 }
 
 // What stands beside a refusal's number.
-#[derive(Drop)]
+#[derive(Clone, Copy)]
 pub enum Beside {
     Nothing,
     Square(u8),

@@ -1,7 +1,10 @@
 // Answers the oracle's questions of bitboards and attacks on standard input, one a line: the file stdout holds what the Rust answered (oracle/README.md).
+#![tactic(auto)]
+
 use crate::reply::Reply;
 use line_parse::Read;
 use position::State;
+use std::io;
 use text_in::inner::{past, text_before};
 
 mod attacks;
@@ -11,19 +14,20 @@ mod reply;
 // More than the recorded questions take. One that did not fit would have no answer, and the run would fail.
 const ROOM: usize = 0x20000;
 
-fn main() {
+fn main(rt: HostRuntime) -> io::Result<()> {
     let mut questions = [0u8; ROOM];
-    let n = io::read_full(libc::STDIN_FILENO, &mut questions);
-    answer_all(&questions[..n]);
+    let n = stream_io::read_full(rt.stderr(), &mut rt.stdin(), &mut questions, b"replay_bits: standard input");
+    answer_all(&rt, &questions[..n])
 }
 
-fn answer_all(questions: &[u8]) {
+fn answer_all(rt: &impl Print, questions: &[u8]) -> io::Result<()> {
     let mut rest = questions;
     while rest.len() > 0 {
-        reply::print(answer(text_before(rest, b'\n')));
+        reply::print(rt, answer(text_before(rest, b'\n')))?;
         let next = past(rest, b'\n');
         rest = &rest[next..];
     }
+    Ok(())
 }
 
 // What there is to say to a question. Its position is the empty board where it has none.

@@ -1,7 +1,8 @@
 // What there is to say to a question, and how it is written.
 use refusal::Refusal;
+use std::io;
 
-#[derive(Drop)]
+#[derive(Clone, Copy)]
 pub(crate) enum Reply {
     Nothing,
     Nobody,
@@ -38,32 +39,33 @@ pub(crate) fn byte(n: u64) -> u8 {
 }
 
 // The answer as a line of standard output.
-pub(crate) fn print(reply: Reply) {
-    match reply {
-        Reply::Nothing => write(b""),
-        Reply::Nobody => write(b"none"),
-        Reply::Natural(n) => natural(n),
-        Reply::Two(a, b) => two(a, b),
-        Reply::Refused(r) => refused(r.number()),
-    }
-    write(b"\n");
+pub(crate) fn print(rt: &impl Print, reply: Reply) -> io::Result<()> {
+    let said = match reply {
+        Reply::Nothing => write(rt, b""),
+        Reply::Nobody => write(rt, b"none"),
+        Reply::Natural(n) => natural(rt, n),
+        Reply::Two(a, b) => two(rt, a, b),
+        Reply::Refused(r) => refused(rt, r.number()),
+    };
+    said?;
+    write(rt, b"\n")
 }
 
-fn write(text: &[u8]) {
-    io::write_all(libc::STDOUT_FILENO, text);
+fn write(rt: &impl Print, text: &[u8]) -> io::Result<()> {
+    rt.write_all(text)
 }
 
-fn natural(n: u64) {
-    io::print_decimal(libc::STDOUT_FILENO, n);
+fn natural(rt: &impl Print, n: u64) -> io::Result<()> {
+    rt.print(n)
 }
 
-fn two(a: u64, b: u64) {
-    natural(a);
-    write(b" ");
-    natural(b);
+fn two(rt: &impl Print, a: u64, b: u64) -> io::Result<()> {
+    natural(rt, a)?;
+    write(rt, b" ")?;
+    natural(rt, b)
 }
 
-fn refused(number: u8) {
-    write(b"refused ");
-    natural(number as u64);
+fn refused(rt: &impl Print, number: u8) -> io::Result<()> {
+    write(rt, b"refused ")?;
+    natural(rt, number as u64)
 }

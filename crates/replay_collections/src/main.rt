@@ -1,25 +1,32 @@
 // Collections one after another on standard input, each ended by RS and fed byte by byte: the ledger of each, and the row of its error. GS
 // stands for a million spaces. So ends of input, and lines longer than a file here should hold, are tried too.
+#![tactic(auto)]
+
 use ledger_feed::{Fed, SoFar};
 use ledger_finish::Finished;
 use line_profile::Profile;
 use score_collection::{Gathered, Piece};
 use score_row::ErrorWritten;
+use std::io;
+use stream_io::Taken;
 
 const RS: u8 = 0x1e;
 
 const GS: u8 = 0x1d;
 
+// So many bytes are read at a time.
+const CHUNK: usize = 4096;
+
 // What both have of a collection so far; each has a line buffer of its own beside it.
-#[derive(Drop)]
+#[derive(Clone, Copy)]
 struct Both {
     ledger: SoFar,
     error: Gathered,
 }
 
-fn main() {
-    let mut chunk = io::buffer();
-    write_all(&mut chunk);
+fn main(rt: HostRuntime) -> io::Result<()> {
+    let mut chunk = [0u8; CHUNK];
+    write_all(&rt, &mut chunk)
 }
 
 fn start() -> Both {
@@ -30,7 +37,7 @@ fn start() -> Both {
 }
 
 // A proved loop has to end: the reads are counted, up to more than any run makes.
-fn write_all(chunk: &mut [u8]) {
+fn write_all(rt: &HostRuntime, chunk: &mut [u8]) -> io::Result<()> {
     let mut line = [0u8; line_cut::LINE];
     let mut other = [0u8; line_cut::LINE];
     let mut state = start();
@@ -38,64 +45,73 @@ fn write_all(chunk: &mut [u8]) {
     let mut reads: u32 = 0;
     while more && reads < 1000000 {
         reads += 1;
-        let got = libc::read(libc::STDIN_FILENO, chunk);
-        more = got > 0;
-        let n = io::count(got, chunk);
-        state = each(state, &mut line, &mut other, &chunk[..n]);
+        let what = b"replay_collections: standard input";
+        match stream_io::read(rt.stderr(), &mut rt.stdin(), chunk, what) {
+            Taken::Bytes(n) => {
+                state = each(rt, state, &mut line, &mut other, &chunk[..n])?;
+            }
+            Taken::End => {
+                more = false;
+            }
+            Taken::Failed => {
+                more = false;
+            }
+        }
     }
+    Ok(())
 }
 
-fn each(state: Both, line: &mut [u8], other: &mut [u8], bytes: &[u8]) -> Both {
+fn each(rt: &impl Print, state: Both, line: &mut [u8], other: &mut [u8], bytes: &[u8]) -> io::Result<Both> {
     let mut now = state;
     let mut i = 0;
     while i < bytes.len() {
-        now = one(now, line, other, bytes[i]);
+        now = one(rt, now, line, other, bytes[i])?;
         i += 1;
     }
-    now
+    Ok(now)
 }
 
-fn one(state: Both, line: &mut [u8], other: &mut [u8], byte: u8) -> Both {
+fn one(rt: &impl Print, state: Both, line: &mut [u8], other: &mut [u8], byte: u8) -> io::Result<Both> {
     if byte == RS {
-        finish(state.ledger, line);
-        write_error(state.error, other);
-        return start();
+        finish(rt, state.ledger, line)?;
+        write_error(rt, state.error, other)?;
+        return Ok(start());
     }
     if byte == GS {
-        return spaces(state, line, other);
+        return spaces(rt, state, line, other);
     }
     let chunk = [byte; 1];
-    feed(state, line, other, &chunk)
+    feed(rt, state, line, other, &chunk)
 }
 
 // A million spaces, a thousand at a time.
-fn spaces(state: Both, line: &mut [u8], other: &mut [u8]) -> Both {
+fn spaces(rt: &impl Print, state: Both, line: &mut [u8], other: &mut [u8]) -> io::Result<Both> {
     let blank = [b' '; 1000];
     let mut now = state;
     let mut k: u32 = 0;
     while k < 1000 {
-        now = feed(now, line, other, &blank);
+        now = feed(rt, now, line, other, &blank)?;
         k += 1;
     }
-    now
+    Ok(now)
 }
 
-fn feed(state: Both, line: &mut [u8], other: &mut [u8], chunk: &[u8]) -> Both {
-    let ledger = feed_ledger(state.ledger, line, chunk);
+fn feed(rt: &impl Print, state: Both, line: &mut [u8], other: &mut [u8], chunk: &[u8]) -> io::Result<Both> {
+    let ledger = feed_ledger(rt, state.ledger, line, chunk)?;
     let error = feed_error(state.error, other, chunk);
-    Both { ledger, error }
+    Ok(Both { ledger, error })
 }
 
-fn feed_ledger(state: SoFar, line: &mut [u8], chunk: &[u8]) -> SoFar {
+fn feed_ledger(rt: &impl Print, state: SoFar, line: &mut [u8], chunk: &[u8]) -> io::Result<SoFar> {
     let mut out = [0u8; 32];
     match ledger_feed::feed(Profile::Any, state, line, chunk, &mut out) {
         Fed::Rows(next, wrote) => {
-            put(&out, wrote);
-            next
+            put(rt, &out, wrote)?;
+            Ok(next)
         }
-        Fed::Full => state,
-        Fed::Many => state,
-        Fed::Refused(_) => state,
+        Fed::Full => Ok(state),
+        Fed::Many => Ok(state),
+        Fed::Refused(_) => Ok(state),
     }
 }
 
@@ -106,22 +122,25 @@ fn feed_error(gathered: Gathered, line: &mut [u8], chunk: &[u8]) -> Gathered {
     }
 }
 
-fn finish(state: SoFar, line: &[u8]) {
+fn finish(rt: &impl Print, state: SoFar, line: &[u8]) -> io::Result<()> {
     let mut out = [0u8; 116];
     if let Finished::Rows(wrote) = ledger_finish::finish(Profile::Any, state, line, &mut out) {
-        put(&out, wrote);
+        put(rt, &out, wrote)?;
     }
+    Ok(())
 }
 
-fn write_error(gathered: Gathered, line: &[u8]) {
+fn write_error(rt: &impl Print, gathered: Gathered, line: &[u8]) -> io::Result<()> {
     let mut out = [0u8; 164];
     if let ErrorWritten::Row(wrote) = score_row::write(gathered, line, &mut out) {
-        put(&out, wrote);
+        put(rt, &out, wrote)?;
     }
+    Ok(())
 }
 
-fn put(out: &[u8], n: usize) {
+fn put(rt: &impl Print, out: &[u8], n: usize) -> io::Result<()> {
     if n <= out.len() {
-        io::write_all(libc::STDOUT_FILENO, &out[..n]);
+        rt.write_all(&out[..n])?;
     }
+    Ok(())
 }

@@ -1,10 +1,13 @@
 // Answers the oracle's questions of fits on standard input, one a line: roots, and a fit whose memory goes on from question to question. The
 // file stdout holds what the Rust and the reference answered, a double as its bits (oracle/README.md).
+#![tactic(auto)]
+
 use crate::reply::Reply;
 use fit_adam::Stepped;
 use fit_coefficient::Weighed;
 use places::weight::Weight;
 use replay_question::NUMBERS;
+use std::io;
 use text_in::inner::{is, past, text_before};
 
 mod gradients;
@@ -14,40 +17,43 @@ mod reply;
 // More than the recorded questions take. One that did not fit would have no answer, and the run would fail.
 const ROOM: usize = 0x18000;
 
-fn main() {
+fn main(rt: HostRuntime) -> io::Result<()> {
     let mut questions = [0u8; ROOM];
-    let n = io::read_full(libc::STDIN_FILENO, &mut questions);
+    let n = stream_io::read_full(rt.stderr(), &mut rt.stdin(), &mut questions, b"replay_fits: standard input");
     let mut sums = [0.0f64; Weight::COUNT];
     let mut first = [0.0f64; Weight::COUNT];
     let mut second = [0.0f64; Weight::COUNT];
     let mut weights = [0.0f64; Weight::COUNT];
     answer_all(
+        &rt,
         &questions[..n],
         &mut sums,
         &mut first,
         &mut second,
         &mut weights,
-    );
+    )
 }
 
 // The fit's memory is lent: the sums of the gradient, both moments and the weights.
 fn answer_all(
+    rt: &impl Print,
     questions: &[u8],
     sums: &mut [f64],
     first: &mut [f64],
     second: &mut [f64],
     weights: &mut [f64],
-) {
+) -> io::Result<()> {
     let mut rest = questions;
     while rest.len() > 0 {
-        reply::print(answer(text_before(rest, b'\n'), sums, first, second, weights));
+        reply::print(rt, answer(text_before(rest, b'\n'), sums, first, second, weights))?;
         let next = past(rest, b'\n');
         rest = &rest[next..];
     }
+    Ok(())
 }
 
 // What a question does to the memory.
-#[derive(Drop)]
+#[derive(Clone, Copy)]
 enum Change {
     Afresh,
     Put,

@@ -1,7 +1,8 @@
 // What there is to say to a question, and how it is written.
 use refusal::Refusal;
+use std::io;
 
-#[derive(Drop)]
+#[derive(Clone, Copy)]
 pub(crate) enum Reply {
     Done,
     Refused(Refusal),
@@ -11,40 +12,41 @@ pub(crate) enum Reply {
 }
 
 // The answer as a line of standard output.
-pub(crate) fn print(reply: Reply) {
-    match reply {
-        Reply::Done => write(b"done"),
-        Reply::Refused(r) => refused(r),
-        Reply::Number(n) => natural(n),
-        Reply::Double(x) => bits(x),
-        Reply::Doubles(x, y) => both(x, y),
-    }
-    write(b"\n");
+pub(crate) fn print(rt: &impl Print, reply: Reply) -> io::Result<()> {
+    let said = match reply {
+        Reply::Done => write(rt, b"done"),
+        Reply::Refused(r) => refused(rt, r),
+        Reply::Number(n) => natural(rt, n),
+        Reply::Double(x) => bits(rt, x),
+        Reply::Doubles(x, y) => both(rt, x, y),
+    };
+    said?;
+    write(rt, b"\n")
 }
 
-fn write(text: &[u8]) {
-    io::write_all(libc::STDOUT_FILENO, text);
+fn write(rt: &impl Print, text: &[u8]) -> io::Result<()> {
+    rt.write_all(text)
 }
 
-fn natural(n: u64) {
-    io::print_decimal(libc::STDOUT_FILENO, n);
+fn natural(rt: &impl Print, n: u64) -> io::Result<()> {
+    rt.print(n)
 }
 
-fn refused(r: Refusal) {
-    write(b"refused ");
-    natural(r.number() as u64);
+fn refused(rt: &impl Print, r: Refusal) -> io::Result<()> {
+    write(rt, b"refused ")?;
+    natural(rt, r.number() as u64)
 }
 
-fn both(x: f64, y: f64) {
-    bits(x);
-    write(b" ");
-    bits(y);
+fn both(rt: &impl Print, x: f64, y: f64) -> io::Result<()> {
+    bits(rt, x)?;
+    write(rt, b" ")?;
+    bits(rt, y)
 }
 
 // The bits of a double, but a NaN has many.
-fn bits(x: f64) {
+fn bits(rt: &impl Print, x: f64) -> io::Result<()> {
     if x != x {
-        return write(b"nan");
+        return write(rt, b"nan");
     }
-    natural(f64::to_bits(x))
+    natural(rt, f64::to_bits(x))
 }

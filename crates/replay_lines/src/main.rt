@@ -1,5 +1,7 @@
 // Reads a collection on standard input and says of each line what the reader makes of it: the file stdout holds what document 01
 // makes of it (oracle/README.md, lines.answers). A line that is loaded is written, read again and compared, with no word where all is as it was.
+#![tactic(auto)]
+
 ghost use Rattle.std.specs.Prelude.{◌≤◌, length};
 
 use chess::piece::Piece;
@@ -9,26 +11,28 @@ use line_write::{Wanted, Written};
 use position::State;
 use position_further::{Passant, Rights};
 use refusal::Refusal;
+use std::io;
 use text_in::inner::{is, past, text_before};
 
 // More than the recorded lines take. One that did not fit would have no row, and the run would fail.
 const ROOM: usize = 0x40000;
 
-fn main() {
+fn main(rt: HostRuntime) -> io::Result<()> {
     let mut collection = [0u8; ROOM];
-    let n = io::read_full(libc::STDIN_FILENO, &mut collection);
-    read_all(&collection[..n]);
+    let n = stream_io::read_full(rt.stderr(), &mut rt.stdin(), &mut collection, b"replay_lines: standard input");
+    read_all(&rt, &collection[..n])
 }
 
 // A line ends before LF or the end of the input.
-fn read_all(collection: &[u8]) {
+fn read_all(rt: &impl Print, collection: &[u8]) -> io::Result<()> {
     let mut rest = collection;
     while rest.len() > 0 {
         let line = text_before(rest, b'\n');
         let next = past(rest, b'\n');
-        read(&line[..size(line, next)]);
+        read(rt, &line[..size(line, next)])?;
         rest = &rest[next..];
     }
+    Ok(())
 }
 
 // How many bytes of a line are read: one CR before an LF is dropped. The last line may end without LF, and then keeps its CR.
@@ -49,25 +53,27 @@ fn size(line: &[u8], next: usize) -> usize
 }
 
 // A refused line has no field, and one that is read has one: else the row is `field`.
-fn read(text: &[u8]) {
+fn read(rt: &impl Print, text: &[u8]) -> io::Result<()> {
     let mut bitboards = [0u64; Piece::BOARDS];
     let mut board = [0u8; Square::COUNT];
     let field = line::position_field(text).len();
     match line::read_line(text, &mut bitboards, &mut board) {
-        Read::Refused(r) => refused(r, field),
+        Read::Refused(r) => {
+            refused(rt, r, field)?;
+        }
         Read::Position(state, half) => {
             if !comes_back(&bitboards, &board, state, half) {
-                write(b"written otherwise ");
+                write(rt, b"written otherwise ")?;
             }
-            natural(state.side as u64);
-            next(half as u64);
-            next(blanks(text) as u64);
-            next(field as u64);
-            codes(board);
-            rest(state);
+            natural(rt, state.side as u64)?;
+            next(rt, half as u64)?;
+            next(rt, blanks(text) as u64)?;
+            next(rt, field as u64)?;
+            codes(rt, board)?;
+            rest(rt, state)?;
         }
     }
-    write(b"\n");
+    write(rt, b"\n")
 }
 
 // No line that is written is longer.
@@ -152,25 +158,25 @@ fn number(passant: Passant) -> u64 {
     }
 }
 
-fn refused(r: Refusal, field: usize) {
+fn refused(rt: &impl Print, r: Refusal, field: usize) -> io::Result<()> {
     if field != 0 {
-        return write(b"field");
+        return write(rt, b"field");
     }
-    write(b"refused ");
-    natural(r.number() as u64);
+    write(rt, b"refused ")?;
+    natural(rt, r.number() as u64)
 }
 
-fn write(text: &[u8]) {
-    io::write_all(libc::STDOUT_FILENO, text);
+fn write(rt: &impl Print, text: &[u8]) -> io::Result<()> {
+    rt.write_all(text)
 }
 
-fn natural(n: u64) {
-    io::print_decimal(libc::STDOUT_FILENO, n);
+fn natural(rt: &impl Print, n: u64) -> io::Result<()> {
+    rt.print(n)
 }
 
-fn next(n: u64) {
-    write(b" ");
-    natural(n);
+fn next(rt: &impl Print, n: u64) -> io::Result<()> {
+    write(rt, b" ")?;
+    natural(rt, n)
 }
 
 // How many blanks a text begins with: the position field comes after them.
@@ -190,14 +196,14 @@ fn blanks(text: &[u8]) -> usize {
 const ROW: usize = 65;
 
 // The 64 codes from a1 to h8, a hexadecimal digit each.
-fn codes(board: [u8; Square::COUNT]) {
+fn codes(rt: &impl Print, board: [u8; Square::COUNT]) -> io::Result<()> {
     let mut digits = [b' '; ROW];
     let mut k = 0;
     while k < Square::COUNT {
         digits[k + 1] = hex(board[k]);
         k += 1;
     }
-    write(&digits);
+    write(rt, &digits)
 }
 
 fn hex(code: u8) -> u8 {
@@ -211,21 +217,21 @@ fn hex(code: u8) -> u8 {
 }
 
 // The four rights, a digit each; the square's number or `none`; both counters.
-fn rest(state: State) {
+fn rest(rt: &impl Print, state: State) -> io::Result<()> {
     let rights = state.rights;
-    next(one(rights.white_short));
-    natural(one(rights.white_long));
-    natural(one(rights.black_short));
-    natural(one(rights.black_long));
+    next(rt, one(rights.white_short))?;
+    natural(rt, one(rights.white_long))?;
+    natural(rt, one(rights.black_short))?;
+    natural(rt, one(rights.black_long))?;
     let passant = state.passant;
-    passed(passant);
-    next(state.halfmoves as u64);
-    next(state.moves as u64);
+    passed(rt, passant)?;
+    next(rt, state.halfmoves as u64)?;
+    next(rt, state.moves as u64)
 }
 
-fn passed(passant: Passant) {
+fn passed(rt: &impl Print, passant: Passant) -> io::Result<()> {
     match passant {
-        Passant::Nowhere => write(b" none"),
-        Passant::On(square) => next(square as u64),
+        Passant::Nowhere => write(rt, b" none"),
+        Passant::On(square) => next(rt, square as u64),
     }
 }

@@ -1,5 +1,7 @@
 // Answers the oracle's questions with an order of the kinds on standard input, one a line: the file stdout holds what the reference answered
 // (oracle/README.md).
+#![tactic(auto)]
+
 use crate::reply::Reply;
 use chess::kind::Kind;
 use exchange::Exchanged;
@@ -8,6 +10,7 @@ use exchange_start::Mode;
 use exchange_told::Told;
 use line_parse::Read;
 use position::{Checked, State};
+use std::io;
 use text_in::inner::{is, past, text_before};
 
 mod reply;
@@ -15,22 +18,23 @@ mod reply;
 // More than the recorded questions take. One that did not fit would have no answer, and the run would fail.
 const ROOM: usize = 0x40000;
 
-fn main() {
+fn main(rt: HostRuntime) -> io::Result<()> {
     let mut questions = [0u8; ROOM];
-    let n = io::read_full(libc::STDIN_FILENO, &mut questions);
-    answer_all(&questions[..n]);
+    let n = stream_io::read_full(rt.stderr(), &mut rt.stdin(), &mut questions, b"replay_orders: standard input");
+    answer_all(&rt, &questions[..n])
 }
 
-fn answer_all(questions: &[u8]) {
+fn answer_all(rt: &impl Print, questions: &[u8]) -> io::Result<()> {
     let mut rest = questions;
     while rest.len() > 0 {
-        reply::print(answer(text_before(rest, b'\n')));
+        reply::print(rt, answer(rt, text_before(rest, b'\n'))?)?;
         let next = past(rest, b'\n');
         rest = &rest[next..];
     }
+    Ok(())
 }
 
-fn answer(question: &[u8]) -> Reply {
+fn answer(rt: &impl Print, question: &[u8]) -> io::Result<Reply> {
     let word = replay_question::word(question);
     let n = replay_question::numbers(question);
     let loaded = line::inner::read(replay_question::position(question));
@@ -40,7 +44,7 @@ fn answer(question: &[u8]) -> Reply {
     let state = state(read);
     let order = order(n[0]);
     if is(word, b"lvp_by") {
-        return least(exchange_least::lvp(
+        return Ok(least(exchange_least::lvp(
             &bitboards,
             &board,
             state,
@@ -48,9 +52,10 @@ fn answer(question: &[u8]) -> Reply {
             byte(n[1]),
             n[2],
             n[3],
-        ));
+        )));
     }
     exchanged(
+        rt,
         word,
         &bitboards,
         &board,
@@ -63,6 +68,7 @@ fn answer(question: &[u8]) -> Reply {
 
 // What there is to say of the exchange from a square to another, in the mode that the word names.
 fn exchanged(
+    rt: &impl Print,
     word: &[u8],
     bitboards: &[u64],
     board: &[u8],
@@ -70,18 +76,18 @@ fn exchanged(
     order: &[u8; Kind::COUNT],
     from: u8,
     to: u8,
-) -> Reply {
+) -> io::Result<Reply> {
     if is(word, b"see_by") {
-        return worth(exchange::see(Mode::First, bitboards, board, state, order, from, to));
+        return Ok(worth(exchange::see(Mode::First, bitboards, board, state, order, from, to)));
     }
     if is(word, b"see_second") {
-        return worth(exchange::see(Mode::Second, bitboards, board, state, order, from, to));
+        return Ok(worth(exchange::see(Mode::Second, bitboards, board, state, order, from, to)));
     }
     if is(word, b"captures") {
-        return told(exchange_told::captures(Mode::First, bitboards, board, state, order, from, to));
+        return told(rt, exchange_told::captures(Mode::First, bitboards, board, state, order, from, to));
     }
     if is(word, b"captures_second") {
-        return told(exchange_told::captures(
+        return told(rt, exchange_told::captures(
             Mode::Second,
             bitboards,
             board,
@@ -91,7 +97,7 @@ fn exchanged(
             to,
         ));
     }
-    Reply::Nothing
+    Ok(Reply::Nothing)
 }
 
 fn state(read: Read) -> State {
@@ -133,19 +139,19 @@ fn worth(worth: Exchanged) -> Reply {
 }
 
 // The captures are written here: an answer that holds lists is not to be had.
-fn told(told: Told) -> Reply {
+fn told(rt: &impl Print, told: Told) -> io::Result<Reply> {
     let checked = told.checked;
     if let Checked::Refused(r) = checked {
-        return Reply::Refused(r);
+        return Ok(Reply::Refused(r));
     }
     let listed = told.listed;
     let squares = listed.from;
     let kinds = listed.kind;
     let taken = listed.taken;
-    reply::captures(&squares, &kinds, &taken, listed.count);
+    reply::captures(rt, &squares, &kinds, &taken, listed.count)?;
     let stop = told.stop;
-    reply::stop(stop);
-    Reply::Nothing
+    reply::stop(rt, stop)?;
+    Ok(Reply::Nothing)
 }
 
 fn least(least: Least) -> Reply {

@@ -2,8 +2,9 @@
 use exchange::inner::MOST;
 use exchange_value::inner::Stopped;
 use refusal::Refusal;
+use std::io;
 
-#[derive(Drop)]
+#[derive(Clone, Copy)]
 pub(crate) enum Reply {
     Nothing,
     Score(i16),
@@ -13,38 +14,39 @@ pub(crate) enum Reply {
 }
 
 // The answer as a line of standard output.
-pub(crate) fn print(reply: Reply) {
-    match reply {
-        Reply::Nothing => write(b""),
-        Reply::Score(z) => score(z),
-        Reply::Attacker(square, kind) => attacker(square, kind),
-        Reply::Nobody => write(b"none"),
-        Reply::Refused(r) => refused(r),
-    }
-    write(b"\n");
+pub(crate) fn print(rt: &impl Print, reply: Reply) -> io::Result<()> {
+    let said = match reply {
+        Reply::Nothing => write(rt, b""),
+        Reply::Score(z) => score(rt, z),
+        Reply::Attacker(square, kind) => attacker(rt, square, kind),
+        Reply::Nobody => write(rt, b"none"),
+        Reply::Refused(r) => refused(rt, r),
+    };
+    said?;
+    write(rt, b"\n")
 }
 
-fn write(text: &[u8]) {
-    io::write_all(libc::STDOUT_FILENO, text);
+fn write(rt: &impl Print, text: &[u8]) -> io::Result<()> {
+    rt.write_all(text)
 }
 
-fn natural(n: u64) {
-    io::print_decimal(libc::STDOUT_FILENO, n);
+fn natural(rt: &impl Print, n: u64) -> io::Result<()> {
+    rt.print(n)
 }
 
-fn score(z: i16) {
+fn score(rt: &impl Print, z: i16) -> io::Result<()> {
     if z >= 0 {
-        return natural(z as u64);
+        return natural(rt, z as u64);
     }
-    write(b"-");
+    write(rt, b"-")?;
     // -1 - z never overflows, and is one less than the number without its sign
-    natural((-1 - z) as u64 + 1);
+    natural(rt, (-1 - z) as u64 + 1)
 }
 
-fn attacker(square: u8, kind: u8) {
-    natural(square as u64);
-    write(b" ");
-    natural(kind as u64);
+fn attacker(rt: &impl Print, square: u8, kind: u8) -> io::Result<()> {
+    natural(rt, square as u64)?;
+    write(rt, b" ")?;
+    natural(rt, kind as u64)
 }
 
 fn wide(n: u16) -> u64 {
@@ -53,34 +55,35 @@ fn wide(n: u16) -> u64 {
 
 // How many, then three numbers each.
 pub(crate) fn captures(
+    rt: &impl Print,
     squares: &[u8; MOST],
     kinds: &[u8; MOST],
     taken: &[u16; MOST],
     count: usize,
-) {
-    natural(count as u64);
+) -> io::Result<()> {
+    natural(rt, count as u64)?;
     let mut i: usize = 0;
     while i < MOST {
         if i < count {
-            write(b" ");
-            attacker(squares[i], kinds[i]);
-            write(b" ");
-            natural(wide(taken[i]));
+            write(rt, b" ")?;
+            attacker(rt, squares[i], kinds[i])?;
+            write(rt, b" ")?;
+            natural(rt, wide(taken[i]))?;
         }
         i += 1;
     }
-    write(b" ");
+    write(rt, b" ")
 }
 
 // Where the exchange stops.
-pub(crate) fn stop(stop: Stopped) {
+pub(crate) fn stop(rt: &impl Print, stop: Stopped) -> io::Result<()> {
     match stop {
-        Stopped::PlayedOut => write(b"out"),
-        Stopped::Before(k) => natural(k as u64),
+        Stopped::PlayedOut => write(rt, b"out"),
+        Stopped::Before(k) => natural(rt, k as u64),
     }
 }
 
-fn refused(refusal: Refusal) {
-    write(b"refused ");
-    natural(refusal.number() as u64);
+fn refused(rt: &impl Print, refusal: Refusal) -> io::Result<()> {
+    write(rt, b"refused ")?;
+    natural(rt, refusal.number() as u64)
 }

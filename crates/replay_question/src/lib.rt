@@ -1,4 +1,6 @@
 // A question of the oracle taken apart: its word, its numbers and its position (oracle/README.md). Total, and no door.
+#![tactic(auto)]
+
 ghost use Rattle.std.specs.Prelude.{◌≡◌, ◌≤◌};
 ghost use Rattle.replay_question.specs.Question.{grown, with_digit, digits, negative_bits, leading_number};
 ghost use Rattle.replay_question.specs.Promises.{GivesWord, GivesNumbers, GivesPosition};

@@ -1,10 +1,13 @@
 // Answers the oracle's questions of traces and doubles on standard input, one a line: the file stdout holds what the Rust answered,
 // a double as its bits (oracle/README.md). A word that begins with `list_` asks for the same by way of the trace's list.
+#![tactic(auto)]
+
 use line_parse::Read;
 use places::entry::Entry;
 use places::weight::SquareWeight;
 use position::State;
 use replay_question::NUMBERS;
+use std::io;
 use text_in::inner::{is, past, text_after, text_before};
 use trace_counts::{Trace, Weights};
 use trace_double::Doubled;
@@ -17,25 +20,27 @@ mod seeds;
 // More than the recorded questions take. One that did not fit would have no answer, and the run would fail.
 const ROOM: usize = 0x30000;
 
-fn main() {
+fn main(rt: HostRuntime) -> io::Result<()> {
     let mut questions = [0u8; ROOM];
-    let n = io::read_full(libc::STDIN_FILENO, &mut questions);
-    answer_all(&questions[..n]);
+    let n = stream_io::read_full(rt.stderr(), &mut rt.stdin(), &mut questions, b"replay_traces: standard input");
+    answer_all(&rt, &questions[..n])
 }
 
-fn answer_all(questions: &[u8]) {
+fn answer_all(rt: &impl Print, questions: &[u8]) -> io::Result<()> {
     let mut rest = questions;
     while rest.len() > 0 {
-        answer(text_before(rest, b'\n'));
+        answer(rt, text_before(rest, b'\n'))?;
         let next = past(rest, b'\n');
         rest = &rest[next..];
     }
+    Ok(())
 }
 
 // A word that begins with `list_` asks the same by way of the list.
-fn answer(question: &[u8]) {
+fn answer(rt: &impl Print, question: &[u8]) -> io::Result<()> {
     let word = replay_question::word(question);
     of_word(
+        rt,
         bare(word),
         replay_question::numbers(question),
         replay_question::position(question),
@@ -43,12 +48,12 @@ fn answer(question: &[u8]) {
     )
 }
 
-fn of_word(asked: &[u8], n: [u64; NUMBERS], text: &[u8], as_list: bool) {
+fn of_word(rt: &impl Print, asked: &[u8], n: [u64; NUMBERS], text: &[u8], as_list: bool) -> io::Result<()> {
     if is(asked, b"wild") {
-        return prints::doubled(of_seed(n[2], seeds::PLACES, 0, n[0], n[1], as_list));
+        return prints::doubled(rt, of_seed(n[2], seeds::PLACES, 0, n[0], n[1], as_list));
     }
     if is(asked, b"odd") {
-        return prints::doubled(of_seed(
+        return prints::doubled(rt, of_seed(
             n[4],
             n[0] as usize,
             seeds::value(n[1]),
@@ -57,7 +62,7 @@ fn of_word(asked: &[u8], n: [u64; NUMBERS], text: &[u8], as_list: bool) {
             as_list,
         ));
     }
-    of_text(asked, n[0], n[1], text, as_list)
+    of_text(rt, asked, n[0], n[1], text, as_list)
 }
 
 fn is_listed(word: &[u8]) -> bool {
@@ -71,11 +76,11 @@ fn bare(word: &[u8]) -> &[u8] {
     word
 }
 
-fn of_text(asked: &[u8], kind: u64, seed: u64, text: &[u8], as_list: bool) {
+fn of_text(rt: &impl Print, asked: &[u8], kind: u64, seed: u64, text: &[u8], as_list: bool) -> io::Result<()> {
     if as_list {
-        return by_list(asked, kind, seed, text);
+        return by_list(rt, asked, kind, seed, text);
     }
-    of_position(asked, kind, seed, text)
+    of_position(rt, asked, kind, seed, text)
 }
 
 // The double of a seed's trace, one of whose numbers is set to a value, if it has the place; as it is, or by way of its list.
@@ -110,45 +115,45 @@ fn of_trace(t: Trace, entries: &[i32], kind: u64, seed: u64, as_list: bool) -> D
 }
 
 // The trace of a position, or its double.
-fn of_position(word: &[u8], kind: u64, seed: u64, text: &[u8]) {
+fn of_position(rt: &impl Print, word: &[u8], kind: u64, seed: u64, text: &[u8]) -> io::Result<()> {
     let loaded = line::inner::read(text);
     let bitboards = loaded.bitboards;
     let board = loaded.board;
     let read = loaded.answer;
     let mut entries = [0i32; Entry::COUNT];
     let traced = trace::compute_trace(&bitboards, &board, state(read), &mut entries);
-    print(word, traced.trace, &entries, kind, seed)
+    print(rt, word, traced.trace, &entries, kind, seed)
 }
 
-fn print(word: &[u8], t: Trace, entries: &[i32], kind: u64, seed: u64) {
+fn print(rt: &impl Print, word: &[u8], t: Trace, entries: &[i32], kind: u64, seed: u64) -> io::Result<()> {
     if is(word, b"trace") {
-        return prints::trace(t, entries);
+        return prints::trace(rt, t, entries);
     }
-    prints::doubled(doubled(t, entries, kind, seed))
+    prints::doubled(rt, doubled(t, entries, kind, seed))
 }
 
 // The same by way of the position's list.
-fn by_list(word: &[u8], kind: u64, seed: u64, text: &[u8]) {
+fn by_list(rt: &impl Print, word: &[u8], kind: u64, seed: u64, text: &[u8]) -> io::Result<()> {
     let loaded = line::inner::read(text);
     let bitboards = loaded.bitboards;
     let board = loaded.board;
     let read = loaded.answer;
     let mut bytes = [0u8; BYTES];
     let computed = trace_list_computed::compute_list(&bitboards, &board, state(read), &mut bytes);
-    print_list(word, computed.trace, computed.used, &bytes, kind, seed)
+    print_list(rt, word, computed.trace, computed.used, &bytes, kind, seed)
 }
 
-fn print_list(word: &[u8], t: Trace, used: u8, bytes: &[u8; BYTES], kind: u64, seed: u64) {
+fn print_list(rt: &impl Print, word: &[u8], t: Trace, used: u8, bytes: &[u8; BYTES], kind: u64, seed: u64) -> io::Result<()> {
     if is(word, b"trace") {
-        return print_flat(t, used, bytes);
+        return print_flat(rt, t, used, bytes);
     }
-    prints::doubled(list_doubled(t, used, bytes, kind, seed))
+    prints::doubled(rt, list_doubled(t, used, bytes, kind, seed))
 }
 
-fn print_flat(t: Trace, used: u8, bytes: &[u8; BYTES]) {
+fn print_flat(rt: &impl Print, t: Trace, used: u8, bytes: &[u8; BYTES]) -> io::Result<()> {
     let mut entries = [0i32; Entry::COUNT];
     trace_list_turn::flat_of(t, used, bytes, &mut entries);
-    prints::trace(t, &entries)
+    prints::trace(rt, t, &entries)
 }
 
 // White to move where the line is refused, which no recorded position's is.

@@ -1,34 +1,36 @@
 // What is said to a question of traces, on standard output.
 use places::entry::Entry;
 use refusal::Refusal;
+use std::io;
 use trace_counts::Trace;
 use trace_double::Doubled;
 
-fn write(text: &[u8]) {
-    io::write_all(libc::STDOUT_FILENO, text);
+fn write(rt: &impl Print, text: &[u8]) -> io::Result<()> {
+    rt.write_all(text)
 }
 
-fn natural(n: u64) {
-    io::print_decimal(libc::STDOUT_FILENO, n);
+fn natural(rt: &impl Print, n: u64) -> io::Result<()> {
+    rt.print(n)
 }
 
-fn number(n: i32) {
+fn number(rt: &impl Print, n: i32) -> io::Result<()> {
     if n >= 0 {
-        return natural(n as u64);
+        return natural(rt, n as u64);
     }
-    write(b"-");
+    write(rt, b"-")?;
     // -1 - n never overflows, and is one less than the number without its sign
-    natural((-1 - n) as u64 + 1);
+    natural(rt, (-1 - n) as u64 + 1)
 }
 
 // A space after each.
-fn numbers(list: &[i32]) {
+fn numbers(rt: &impl Print, list: &[i32]) -> io::Result<()> {
     let mut i = 0;
     while i < list.len() {
-        number(list[i]);
-        write(b" ");
+        number(rt, list[i])?;
+        write(rt, b" ")?;
         i += 1;
     }
+    Ok(())
 }
 
 fn ones(entries: &[i32]) -> usize {
@@ -51,65 +53,68 @@ fn more(n: usize, entry: i32) -> usize {
 }
 
 // The place of each 1, a space before it.
-fn places(entries: &[i32]) {
+fn places(rt: &impl Print, entries: &[i32]) -> io::Result<()> {
     let mut i = 0;
     while i < entries.len() {
-        place(i, entries[i]);
+        place(rt, i, entries[i])?;
         i += 1;
     }
+    Ok(())
 }
 
-fn place(place: usize, entry: i32) {
+fn place(rt: &impl Print, place: usize, entry: i32) -> io::Result<()> {
     if entry == 1 {
-        write(b" ");
-        natural(place as u64);
+        write(rt, b" ")?;
+        natural(rt, place as u64)?;
     }
+    Ok(())
 }
 
 // The 26 numbers, how many entries are 1, and their places.
-pub(crate) fn trace(t: Trace, entries: &[i32]) {
-    counts(t);
+pub(crate) fn trace(rt: &impl Print, t: Trace, entries: &[i32]) -> io::Result<()> {
+    counts(rt, t)?;
     let bishop_pair = t.bishop_pair;
     let mobility = t.mobility;
     let last = [t.side, t.piece_count];
-    numbers(&bishop_pair);
-    numbers(&mobility);
-    numbers(&last);
-    natural(ones(entries) as u64);
-    places(entries);
-    write(b"\n");
+    numbers(rt, &bishop_pair)?;
+    numbers(rt, &mobility)?;
+    numbers(rt, &last)?;
+    natural(rt, ones(entries) as u64)?;
+    places(rt, entries)?;
+    write(rt, b"\n")
 }
 
-fn counts(t: Trace) {
+fn counts(rt: &impl Print, t: Trace) -> io::Result<()> {
     let pawns = t.pawns;
     let knights = t.knights;
     let bishops = t.bishops;
     let rooks = t.rooks;
     let queens = t.queens;
-    numbers(&pawns);
-    numbers(&knights);
-    numbers(&bishops);
-    numbers(&rooks);
-    numbers(&queens);
+    numbers(rt, &pawns)?;
+    numbers(rt, &knights)?;
+    numbers(rt, &bishops)?;
+    numbers(rt, &rooks)?;
+    numbers(rt, &queens)
 }
 
-pub(crate) fn doubled(doubled: Doubled) {
-    match doubled {
-        Doubled::Is(x) => bits(x),
-        Doubled::Refused(r) => refused(r),
-    }
-    write(b"\n");
+pub(crate) fn doubled(rt: &impl Print, doubled: Doubled) -> io::Result<()> {
+    let said = match doubled {
+        Doubled::Is(x) => bits(rt, x),
+        Doubled::Refused(r) => refused(rt, r),
+    };
+    said?;
+    write(rt, b"\n")
 }
 
 // The bits of a double, but a NaN has many.
-fn bits(x: f64) {
+fn bits(rt: &impl Print, x: f64) -> io::Result<()> {
     if x != x {
-        return write(b"nan");
+        return write(rt, b"nan");
     }
-    natural(f64::to_bits(x))
+    natural(rt, f64::to_bits(x))
 }
 
-fn refused(r: Refusal) {
-    write(b"refused ");
-    natural(r.number() as u64)
+fn refused(rt: &impl Print, r: Refusal) -> io::Result<()> {
+    write(rt, b"refused ")?;
+    natural(rt, r.number() as u64)
 }

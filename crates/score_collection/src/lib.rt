@@ -1,4 +1,6 @@
 // The sum over a collection, read piece by piece: what line_cut finds to be a line is read, scored and added.
+#![tactic(auto)]
+
 ghost use Rattle.score_collection.specs.Promises.{Begins, Gathers, EndsCollection};
 
 use line_cut::{Begun, LINE};
@@ -8,7 +10,7 @@ use score_errors::Totals;
 pub mod inner;
 
 // What lines came to: the totals, how many lines were refused, and whether a count had no room for one more.
-#[derive(Drop)]
+#[derive(Clone, Copy)]
 pub struct Sum {
     pub totals: Totals,
     pub refused: u64,
@@ -16,21 +18,21 @@ pub struct Sum {
 }
 
 // The lines so far, and what is known of the unfinished one beside its bytes in the line buffer.
-#[derive(Drop)]
+#[derive(Clone, Copy)]
 pub struct Gathered {
     pub begun: Begun,
     pub sum: Sum,
 }
 
 // What is gathered after a piece, or why nothing has changed.
-#[derive(Drop)]
+#[derive(Clone, Copy)]
 pub enum Piece {
     Lines(Gathered),
     Refused(Refusal),
 }
 
 // The totals of a whole collection and how many of its lines were refused, or why there are none.
-#[derive(Drop)]
+#[derive(Clone, Copy)]
 pub enum Ended {
     Sum(Totals, u64),
     Refused(Refusal),

@@ -1,4 +1,6 @@
 // How far a collection's results lie from what its scores let expect: the squared distances summed exactly, line by line.
+#![tactic(auto)]
+
 ghost use Rattle.score_errors.specs.Promises.{StartsTotals, AddsLine};
 
 use refusal::Refusal;
@@ -7,7 +9,7 @@ use score::Scored;
 pub mod inner;
 
 // How many lines had a score, how many a verdict or `over`, and the squared distances of the former, in millionths of millionths.
-#[derive(Drop)]
+#[derive(Clone, Copy)]
 pub struct Totals {
     pub scored: u64,
     pub apart: u64,
@@ -15,7 +17,7 @@ pub struct Totals {
 }
 
 // The totals with a line more; or why nothing has changed.
-#[derive(Drop)]
+#[derive(Clone, Copy)]
 pub enum Added {
     Line(Totals),
     Refused(Refusal),

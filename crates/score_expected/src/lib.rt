@@ -1,4 +1,5 @@
 // The expected score of a position in millionths, by its score: one table, from one rule in whole numbers.
+#![tactic(auto)]
 
 ghost use Rattle.std.specs.Prelude.{◌≡◌};
 ghost use Rattle.score_expected.specs.Promises.{Expects};

@@ -1,4 +1,6 @@
 // The sums over two parts of a collection put together: the sum over both, MANY where it would be.
+#![tactic(auto)]
+
 ghost use Rattle.std.specs.Prelude.{◌≡◌, ◌+◌, ltb};
 ghost use Rattle.score_collection.specs.Answers.{ended_paper};
 ghost use Rattle.score_joined.specs.Sums.{totals_of_both, sum_of_both};

@@ -1,4 +1,6 @@
 // What a colour's pieces are worth, as eval.rs has it: the door, and the score's numbers for it.
+#![tactic(auto)]
+
 ghost use Rattle.score_material.specs.Promises.{EvalsMaterial};
 
 use chess::color::BLACK;
@@ -10,7 +12,7 @@ use refusal::Refusal;
 pub mod inner;
 
 // A colour's material: SHAPE, OVERLAP, UNION, BYTEBOARD, SCORE.
-#[derive(Drop)]
+#[derive(Clone, Copy)]
 pub enum Material {
     Is(i16),
     Refused(Refusal),

@@ -1,4 +1,6 @@
 // The square weights, as piece_square_table.rs makes them: one constant, from the twelve printed grids.
+#![tactic(auto)]
+
 use chess::piece::Piece;
 use chess::square::Square;
 use places::phase::Phase;

@@ -1,4 +1,6 @@
 // The row of a collection's error where the input ends: the collection's totals, or why there are none.
+#![tactic(auto)]
+
 ghost use Rattle.score_row.specs.Rows.{PutsTotals, WritesError};
 
 use refusal::Refusal;
@@ -7,7 +9,7 @@ use score_errors::Totals;
 use text_out::Placed;
 
 // How many bytes of the row were written, or why none.
-#[derive(Drop)]
+#[derive(Clone, Copy)]
 pub enum ErrorWritten {
     Row(usize),
     Full,

@@ -14,7 +14,7 @@ use score_walks::inner::{bishops, kings, knights, pawns, queens, rooks};
 use score_weights::inner::{ending, opening};
 
 // A colour's six boards: their words, added, and their mobility in tenths.
-#[derive(Drop)]
+#[derive(Clone, Copy)]
 struct ColorSums {
     words: u64,
     mobility: u32,

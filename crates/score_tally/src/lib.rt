@@ -1,9 +1,11 @@
 // What both colours bring to the score, as eval.rs has it: square weights, material, mobility.
+#![tactic(auto)]
+
 use score_taper::Side;
 
 pub mod inner;
 
-#[derive(Drop)]
+#[derive(Clone, Copy)]
 pub struct Sides {
     pub white: Side,
     pub black: Side,

@@ -13,7 +13,7 @@ const LARGEST: i64 = 32767;
 const LARGEST_SUM: u32 = 32767;
 
 // A side's part, or that a step to it leaves 16 bits.
-#[derive(Drop)]
+#[derive(Clone, Copy)]
 enum Part {
     Is(i64),
     Over,

@@ -1,11 +1,13 @@
 // The score's arithmetic: what a side brings, and the sum of both. Wider than the original's 16 bits, and tested where 01 says.
+#![tactic(auto)]
+
 pub mod inner;
 
 // What the right to move is worth.
 pub const TEMPO: u32 = 11;
 
 // What a side brings to the score: its square weights of the opening and of the ending, its material, and its mobility in tenths.
-#[derive(Drop)]
+#[derive(Clone, Copy)]
 pub struct Side {
     pub opening: i32,
     pub ending: i32,
@@ -14,7 +16,7 @@ pub struct Side {
 }
 
 // A number of 16 bits, or SCORE.
-#[derive(Drop)]
+#[derive(Clone, Copy)]
 pub enum Points {
     Is(i16),
     Over,

@@ -1,4 +1,6 @@
 // Verdicts, as eval.rs has them: the door.
+#![tactic(auto)]
+
 ghost use Rattle.score_verdict.specs.Promises.{EvalsEnding};
 
 use position::{Checked, State};
@@ -7,7 +9,7 @@ use refusal::Refusal;
 pub mod inner;
 
 // How a game stands that a verdict ends; none where it is to be scored.
-#[derive(Drop)]
+#[derive(Clone, Copy)]
 pub enum Verdict {
     Lost,
     Won,
@@ -16,7 +18,7 @@ pub enum Verdict {
 }
 
 // A verdict: SHAPE, OVERLAP, UNION, BYTEBOARD.
-#[derive(Drop)]
+#[derive(Clone, Copy)]
 pub enum Ending {
     Is(Verdict),
     Refused(Refusal),

@@ -1,6 +1,10 @@
 // Whether the output of a program that leaves refused lines out stands, and whether its caller allows that.
+#![tactic(auto)]
+
 ghost use Rattle.sift_allowed.specs.Settled.{OutputStands};
 
+use std::env::FillError;
+use std::rt::Env;
 use text_in::inner::is;
 
 // Whether the output stands: no line was refused, or refused lines are allowed.
@@ -14,11 +18,11 @@ pub fn settled(refused: u64, allowed: bool) -> bool
 }
 
 // Whether the one argument there may be allows refused lines.
-pub fn allows() -> bool {
-    if os::arg_count() < 2 {
-        return false;
-    }
+pub fn allows<R: Env>(rt: &R) -> bool {
     let mut name = io::buffer();
-    let n = os::arg(1, &mut name);
-    is(&name[..n], b"allow")
+    match rt.arg(1, &mut name) {
+        Ok(n) => is(&name[..n], b"allow"),
+        Err(FillError::NotPresent) => false,
+        Err(FillError::TooLong) => false,
+    }
 }

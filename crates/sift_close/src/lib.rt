@@ -1,4 +1,6 @@
 // A line or a record that ends: what is made of it goes into one buffer, or the row of its refusal into the other.
+#![tactic(auto)]
+
 ghost use Rattle.sift_close.specs.Ended.{ClosesSifted, TellsRead};
 
 use line::inner::Loaded;
@@ -6,7 +8,7 @@ use line_parse::Read;
 use sift_form::Form;
 
 // One line, counted as loaded or as refused; and the place after what was added to each buffer.
-#[derive(Drop)]
+#[derive(Clone, Copy)]
 pub struct Closed {
     pub loaded: u64,
     pub refused: u64,

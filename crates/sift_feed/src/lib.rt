@@ -1,5 +1,7 @@
 // A collection sifted, as a machine over bytes: any number of bytes at a time go in; what is made of loaded lines comes out in one buffer, and the
 // rows of refused lines in another.
+#![tactic(auto)]
+
 ghost use Rattle.sift_feed.specs.Promises.{Sifts, ReadyToSift, TakesSifted};
 
 use ledger_feed::SoFar;
@@ -12,7 +14,7 @@ const ROW: usize = 32;
 
 // The state after a chunk, and how many bytes were made and how many bytes of rows written; or why nothing has changed: too little room, counts
 // that would pass 64 bits, or a line buffer that has not 256 bytes.
-#[derive(Drop)]
+#[derive(Clone, Copy)]
 pub enum Sifted {
     Lines(SoFar, usize, usize),
     Full,

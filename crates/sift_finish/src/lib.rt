@@ -1,4 +1,6 @@
 // The end of an input that was sifted: what a last line with no LF makes, or its row, and the ledger's last row.
+#![tactic(auto)]
+
 ghost use Rattle.sift_finish.specs.Last.{ReadyToEnd, EndsSifted, FinishesSifted};
 
 use ledger_feed::SoFar;
@@ -9,7 +11,7 @@ use sift_form::Form;
 const ROWS: usize = 116;
 
 // How many bytes were made and how many bytes of rows written, or why none.
-#[derive(Drop)]
+#[derive(Clone, Copy)]
 pub enum Finished {
     Rows(usize, usize),
     Full,

@@ -1,11 +1,13 @@
 // What is made of a loaded line, in a form that the caller chooses: one arm a form.
+#![tactic(auto)]
+
 ghost use Rattle.sift_form.specs.Promises.{TakesRoom, MakesForm};
 
 use position::State;
 use text_out::Placed;
 
 // The forms: a sample for a fit; the line written back, with LF; the record of a store.
-#[derive(Drop)]
+#[derive(Clone, Copy)]
 pub enum Form {
     Sample,
     Text,

@@ -1,4 +1,6 @@
 // A summary of a store, with one record more or one less: records, half points, and each piece on its square.
+#![tactic(auto)]
+
 ghost use Rattle.std.specs.Prelude.{◌≡◌, ◌<◌, length};
 ghost use Rattle.store_record.specs.Record.{code_in};
 ghost use Rattle.store_counts.specs.Summary.{count_place, wrapped_sum, wraps_off, marked_on, summary_moved};

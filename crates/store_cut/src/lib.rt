@@ -1,4 +1,6 @@
 // The pieces of a store, found in chunks of it: whoever reads records asks for the next piece's end, and does with the piece what it does.
+#![tactic(auto)]
+
 ghost use Rattle.std.specs.Prelude.{◌≡◌, set};
 ghost use Rattle.store_cut.specs.Promises.{EndsPieces, CutsPiece, MakesCut};
 
@@ -8,7 +10,7 @@ use store_record::inner::RECORD;
 const BEFORE_LAST: usize = RECORD - 1;
 
 // Where the reading stopped, how many bytes of an unfinished piece the buffer then holds, and whether a piece ended, which the buffer is.
-#[derive(Drop)]
+#[derive(Clone, Copy)]
 pub struct CutPiece {
     pub at: usize,
     pub held: usize,

@@ -1,4 +1,6 @@
 // The end of a store: the row of a short last piece, and the totals.
+#![tactic(auto)]
+
 ghost use Rattle.std.specs.Prelude.{◌^◌, ◌≤◌, ◌<◌, length};
 ghost use Rattle.text_out.specs.Text.{Adds};
 ghost use Rattle.store_finish.specs.Promises.{store_finished, last_pieces, FinishesStore};

@@ -1,4 +1,6 @@
 // The summary of a whole store, read in chunks: what store_cut finds to be a piece is read and counted, up to the first that can't be.
+#![tactic(auto)]
+
 ghost use Rattle.std.specs.Prelude.{◌≡◌, length};
 ghost use Rattle.store_gather.specs.Promises.{BeginsSummary, FeedsSummary, EndsSummary, CountsPiece, TakesPieces, ReadyToGather};
 
@@ -11,14 +13,14 @@ use store_record::inner::RECORD;
 const MOST: u64 = 10_000_000;
 
 // The number, from 1, of the first record that is not counted, and its refusal's; 0 where there is none.
-#[derive(Drop)]
+#[derive(Clone, Copy)]
 pub struct First {
     pub number: u64,
     pub refusal: u8,
 }
 
 // What is held of an unfinished piece, and the first record that is not counted.
-#[derive(Drop)]
+#[derive(Clone, Copy)]
 pub struct GatheredSoFar {
     pub held: usize,
     pub number: u64,
@@ -27,7 +29,7 @@ pub struct GatheredSoFar {
 
 // The state after a chunk, or why nothing has changed: a piece buffer that has not 34 bytes or would hold a whole piece, a summary that has not
 // 770 numbers.
-#[derive(Drop)]
+#[derive(Clone, Copy)]
 pub enum Gathering {
     More(GatheredSoFar),
     Refused(Refusal),

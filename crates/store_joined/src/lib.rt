@@ -1,4 +1,6 @@
 // The summaries of two stores put together: the summary of one store with the other behind it.
+#![tactic(auto)]
+
 ghost use Rattle.std.specs.Prelude.{◌≡◌, length};
 ghost use Rattle.store_joined.specs.Summaries.{summary_of_both};
 ghost use Rattle.store_joined.specs.Promises.{JoinsSummaries};

@@ -1,4 +1,6 @@
 // A store of records, 34 bytes each: a record read by its number, and one written.
+#![tactic(auto)]
+
 ghost use Rattle.store_record.specs.Promises.{ReadsRecord, WritesRecord};
 
 use line_parse::Read;
@@ -8,7 +10,7 @@ use refusal::Refusal;
 pub mod inner;
 
 // The record stands in its place, or why it doesn't.
-#[derive(Drop)]
+#[derive(Clone, Copy)]
 pub enum Stored {
     Done,
     Refused(Refusal),

@@ -1,4 +1,6 @@
 // The ledger's rows for a store, as a machine over bytes: any number of bytes at a time go in, whole rows come out.
+#![tactic(auto)]
+
 ghost use Rattle.store_rows.specs.Promises.{BeginsStore, FeedsStore, MakesStore, ReadyStore, TakesStore, RowsPiece};
 
 use ledger_row::Row;
@@ -9,7 +11,7 @@ use store_record::inner::RECORD;
 const ROW: usize = 32;
 
 // The pieces so far, and how many bytes of the unfinished one stand in the piece buffer.
-#[derive(Drop)]
+#[derive(Clone, Copy)]
 pub struct StoreSoFar {
     pub held: usize,
     pub loaded: u64,
@@ -18,7 +20,7 @@ pub struct StoreSoFar {
 
 // The state after a chunk, and how many bytes of rows were written; or why nothing has changed: too little room, counts that
 // would pass 64 bits, or a piece buffer that has not 34 bytes or would hold a whole piece.
-#[derive(Drop)]
+#[derive(Clone, Copy)]
 pub enum StoreFed {
     Rows(StoreSoFar, usize),
     Full,

@@ -1,5 +1,7 @@
 // A store sifted, as a machine over bytes: any number of bytes at a time go in; what is made of loaded records comes out in one buffer, and the
 // rows of refused ones in another.
+#![tactic(auto)]
+
 ghost use Rattle.sift_close.specs.Ended.{ClosesSaid};
 ghost use Rattle.store_record.specs.Record.{piece_says};
 ghost use Rattle.store_sift.specs.Promises.{SiftsStore, ReadyToSiftStore, TakesSiftedStore};
@@ -15,7 +17,7 @@ const ROW: usize = 32;
 
 // The state after a chunk, and how many bytes were made and how many bytes of rows written; or why nothing has changed: too little room, counts
 // that would pass 64 bits, or a piece buffer that has not 34 bytes or would hold a whole piece.
-#[derive(Drop)]
+#[derive(Clone, Copy)]
 pub enum StoreSifted {
     Records(StoreSoFar, usize, usize),
     Full,

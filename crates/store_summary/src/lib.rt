@@ -1,4 +1,6 @@
 // A store kept with its summary: a record added at the end, and a record replaced.
+#![tactic(auto)]
+
 ghost use Rattle.store_summary.specs.Promises.{AddsRecord, ReplacesRecord, Prepares, HasPlace, Keeps, TakesOff};
 
 use line_parse::Read;
@@ -31,7 +33,7 @@ fn take_off(run: &[u8], summary: &mut [u64], number: u64)
 }
 
 // A record in a place of its own, or why there is none.
-#[derive(Drop)]
+#[derive(Clone, Copy)]
 struct Prepared {
     answer: Stored,
     bytes: [u8; RECORD],

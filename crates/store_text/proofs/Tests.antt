@@ -1,5 +1,5 @@
 -- What the small functions give, test by test. Assumes nothing.
-use Rattle.std.proofs.Common.{◌≡◌, ℕ, ◌+◌, ◌-◌, ◌*◌, ◌/◌, ◌%◌, ◌^◌, ◌<◌, ◌≤◌, max, Bool, cond, eqb, ltb, List, length, take, replicate, sym, ap, ◌∙◌, subst, ap₂, add-one, arith, take_at, le-ltb, lt-ltb, eq-eqb, ne_eqb}
+use Rattle.std.proofs.Common.{◌≡◌, ℕ, zero, suc, ◌+◌, ◌-◌, ◌*◌, ◌/◌, ◌%◌, ◌^◌, ◌<◌, ◌≤◌, max, Bool, cond, eqb, ltb, List, length, take, replicate, sym, refl, ap, ◌∙◌, subst, ap₂, add-one, arith, take_at, le-ltb, lt-ltb, eq-eqb, ne_eqb}
 use lib.ListN.{length-replicate, replicate-append-replicate}
 use Rattle.laws.specs.Tests.{same}
 use Rattle.laws.specs.Sums.{sum_n}
@@ -7,7 +7,7 @@ use Rattle.laws.proofs.Sums.{sum_more}
 use Rattle.text_in.specs.Text.{text}
 use Rattle.text_out.specs.Text.{Adds}
 use Rattle.text_out.proofs.Added.{adds_then}
-use Rattle.store_text.specs.Board.{most_n}
+use Rattle.store_text.specs.Board.{most_n, piece_words}
 use Rattle.store_text.specs.Table.{in_column}
 use Rattle.store_text.specs.Picture.{darkness}
 use Rattle.store_text.specs.Promises.{store_named, call_of}
@@ -15,6 +15,22 @@ use Rattle.store_text.specs.declared.Form.{Form}
 use Rattle.store_text.specs.declared.Form.TheVariants as F
 use Rattle.store_text.specs.declared.Call.{Call}
 use Rattle.store_text.specs.declared.Call.TheVariants as C
+
+-- the last of the twelve
+pub queen : (k : ℕ) → (k ≡ 0 → ⊥) → (k ≡ 1 → ⊥) → (k ≡ 2 → ⊥) → (k ≡ 3 → ⊥) → (k ≡ 4 → ⊥) → (k ≡ 5 → ⊥) → (k ≡ 6 → ⊥) → (k ≡ 7 → ⊥) → (k ≡ 8 → ⊥) → (k ≡ 9 → ⊥)
+    → (k ≡ 10 → ⊥) → text "black queen " ≡ piece_words k
+queen zero a b c d e f g h i j l = absurd (a refl)
+queen (suc zero) a b c d e f g h i j l = absurd (b refl)
+queen (suc (suc zero)) a b c d e f g h i j l = absurd (c refl)
+queen (suc (suc (suc zero))) a b c d e f g h i j l = absurd (d refl)
+queen (suc (suc (suc (suc zero)))) a b c d e f g h i j l = absurd (e refl)
+queen (suc (suc (suc (suc (suc zero))))) a b c d e f g h i j l = absurd (f refl)
+queen (suc (suc (suc (suc (suc (suc zero)))))) a b c d e f g h i j l = absurd (g refl)
+queen (suc (suc (suc (suc (suc (suc (suc zero))))))) a b c d e f g h i j l = absurd (h refl)
+queen (suc (suc (suc (suc (suc (suc (suc (suc zero)))))))) a b c d e f g h i j l = absurd (i refl)
+queen (suc (suc (suc (suc (suc (suc (suc (suc (suc zero))))))))) a b c d e f g h i j l = absurd (j refl)
+queen (suc (suc (suc (suc (suc (suc (suc (suc (suc (suc zero)))))))))) a b c d e f g h i j l = absurd (l refl)
+queen (suc (suc (suc (suc (suc (suc (suc (suc (suc (suc (suc k))))))))))) a b c d e f g h i j l = refl
 
 -- ---- a column
 pub some_spaces : (n : ℕ) → n ≤ 21 → take {A = ℕ} n (replicate 21 32) ≡ replicate n 32

@@ -1,10 +1,12 @@
 // What a person sees of a store's summary: a table or a picture of it, or the row of the first record that is refused.
+#![tactic(auto)]
+
 ghost use Rattle.std.specs.Prelude.{◌≡◌, ◌≤◌, length};
 ghost use Rattle.text_out.specs.Text.{Adds};
 ghost use Rattle.ledger_row.specs.Row.{refused_row};
 ghost use Rattle.store_text.specs.Promises.{ShowsSummary, ReadsCall, store_named};
 
-use crate::words::filled;
+use crate::words::{number, put, spaced};
 use refusal::Refusal;
 use store_counts::SUMMARY;
 use store_gather::First;
@@ -16,14 +18,14 @@ mod table;
 mod words;
 
 // Numbers in rows and columns, or SVG.
-#[derive(Drop)]
+#[derive(Clone, Copy)]
 pub enum Form {
     Table,
     Picture,
 }
 
 // So many bytes of the summary's text, or of the row of a record that is refused; or why nothing is written.
-#[derive(Drop)]
+#[derive(Clone, Copy)]
 pub enum Shown {
     Page(usize),
     Row(usize),
@@ -31,7 +33,7 @@ pub enum Shown {
 }
 
 // The store on standard input, or in the file that an argument names; or more arguments than one store has.
-#[derive(Drop)]
+#[derive(Clone, Copy)]
 pub enum Call {
     Input(Form),
     File(Form, usize),
@@ -75,15 +77,10 @@ fn write_row(first: First, out: &mut [u8]) -> usize
     requires { 64 ≤ length out.old }
     ensures { Adds out.old 0 (refused_row first.number first.refusal) out.new result }
 {
-    filled(
-        out,
-        0,
-        b" refused \n",
-        0,
-        first.number,
-        9,
-        wide(first.refusal),
-    )
+    let a = spaced(out, 0, first.number);
+    let b = put(out, a, b"refused ");
+    let c = number(out, b, wide(first.refusal));
+    put(out, c, b"\n")
 }
 
 // SHAPE, ROOM. What is shown is written at the front of a lent buffer.

@@ -5,7 +5,7 @@ ghost use Rattle.store_text.specs.Board.{count_on, drawn_square, laid};
 ghost use Rattle.store_text.specs.Page.{page_begin, page_end, words_end, board_begin, board_end, rank_before, row_end, rank_digit, square_word, square_shown, squares_shown, board_head, board_text, page_head, page_of};
 ghost use Rattle.store_text.specs.Promises.{AddsUp, BoardRoom, OnePiece, SquareRoom};
 
-use crate::words::{filled, number, piece_words, put};
+use crate::words::{named, number, piece_words, put};
 use crate::{Form, picture, table};
 use chess::piece::Piece;
 use chess::square::Square;
@@ -15,7 +15,7 @@ use store_counts::{PIECES, POINTS, RECORDS};
 const FILES: usize = 8;
 
 // How many there are of a piece, and how many on one square at most.
-#[derive(Drop)]
+#[derive(Clone, Copy)]
 struct Sums {
     total: u64,
     most: u64,
@@ -56,7 +56,7 @@ fn page_begin(form: Form, out: &mut [u8], at: usize) -> usize
     ensures { Adds out.old at (page_begin form) out.new result }
 {
     match form {
-        Form::Table => at,
+        Form::Table => put(out, at, b""),
         Form::Picture => picture::begin(out, at),
     }
 }
@@ -65,7 +65,7 @@ fn page_end(form: Form, out: &mut [u8], at: usize) -> usize
     ensures { Adds out.old at (page_end form) out.new result }
 {
     match form {
-        Form::Table => at,
+        Form::Table => put(out, at, b""),
         Form::Picture => put(out, at, b"</svg>\n"),
     }
 }
@@ -124,19 +124,19 @@ fn rank_before(form: Form, i: usize, out: &mut [u8], at: usize) -> usize
     requires { SquareRoom 66 i out.old at }
     ensures { Adds out.old at (rank_before form i) out.new result }
 {
-    if i % FILES != 0 {
-        return at;
+    if i % FILES == 0 {
+        return rank_word(form, i, out, at);
     }
-    rank_word(form, i, out, at)
+    put(out, at, b"")
 }
 
 fn row_end(i: usize, out: &mut [u8], at: usize) -> usize
     ensures { Adds out.old at (row_end i) out.new result }
 {
-    if i % FILES != 7 {
-        return at;
+    if i % FILES == 7 {
+        return put(out, at, b"\n");
     }
-    put(out, at, b"\n")
+    put(out, at, b"")
 }
 
 fn square(form: Form, most: u64, n: u64, i: usize, out: &mut [u8], at: usize) -> usize
@@ -211,8 +211,9 @@ fn page_head(form: Form, records: u64, points: u64, out: &mut [u8]) -> usize
     ensures { Adds out.old 0 (page_head form records points) out.new result }
 {
     let a = page_begin(form, out, 0);
-    let b = filled(out, a, b"records  half points ", 8, records, 21, points);
-    words_end(form, out, b)
+    let b = named(out, a, b"records ", records);
+    let c = named(out, b, b" half points ", points);
+    words_end(form, out, c)
 }
 
 pub(crate) fn page(form: Form, summary: &[u64], out: &mut [u8]) -> usize

@@ -3,15 +3,20 @@
 //
 // A program that takes a failed or a short read for the end stops in silence, and its totals look whole. So no program decides this
 // itself: it makes the call, and asks here what came of it.
+#![tactic(auto)]
+
 ghost use Rattle.std.specs.Prelude.{◌≡◌, min};
 ghost use Rattle.stream.specs.Calls.{is_broken_off, Fails, Leaves, MayGoOn, More, ReadMeans, WriteMeans};
 
 // So many calls a loop makes at most, more than any run does: a proved loop has to end.
 pub const TURNS: u64 = 0x4000_0000_0000_0000;
 
+// The number that the system gives a call that a signal broke off.
+const EINTR: i32 = 4;
+
 // What a read came to: so many bytes at the start of the buffer; the end of the input; a signal broke it off, and it is made again; it
 // failed, and the error number says why; or it was lent no room, and so says nothing of the input.
-#[derive(Drop)]
+#[derive(Clone, Copy)]
 pub enum Read {
     Bytes(usize),
     End,
@@ -22,7 +27,7 @@ pub enum Read {
 
 // What a write came to: so many bytes are written now; it failed, and the error number says why; or it took nothing, of which the error
 // number says nothing.
-#[derive(Drop)]
+#[derive(Clone, Copy)]
 pub enum Write {
     To(usize),
     Failed,
@@ -73,7 +78,7 @@ impl Write {
 fn broken_off(error: i32) -> bool
     ensures { result ≡ is_broken_off error }
 {
-    error == libc::EINTR
+    error == EINTR
 }
 
 // How many of so many bytes are left after those that are done.

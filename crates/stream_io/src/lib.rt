@@ -1,128 +1,212 @@
-// The reads and writes that the programs share: the calls of the C library, and what crate stream decides of them.
+// The reads and writes that the programs share: what std does with a file or a standard stream, and what crate stream decides of it.
 //
 // What a call reads or writes no promise can say, so these functions are few and thin. Each reason goes to standard error, as
 // `program: what failed: why`.
-ghost use Rattle.stream_io.specs.Bounds.{OpensWithin, PutsNothing, ReadsWithin, WritesNothing};
+#![tactic(auto)]
 
-use stream::{Read, Write};
+ghost use Rattle.stream_io.specs.Bounds.{CopiesWithin, OpensWithin, PutsNothing, ReadsWithin, WritesNothing};
+
+use std::env::FillError;
+use std::fs;
+use std::fs::{OpenFile, OpenOptions};
+use std::io::{Cursor, Error, ErrorKind, Read, Result, Stderr, Stdout, Write};
+use std::os::fd::AsFd;
+use std::rt::{Env, Files};
 
 // Where a program says that all it had to write is written: a pipe of who started it. A status of its own it has none.
 const STATUS: i32 = 3;
 
+// So often it is said again where a signal breaks the call off: nobody may listen there.
+const TIMES: u32 = 64;
+
+// Standard output by its name, for what only a file can be asked.
+const OUTPUT: &str = "/proc/self/fd/1";
+
+// The numbers that the system gives: there is no such argument, the name is too long, the name is no text.
+const EINVAL: i32 = 22;
+
+const ENAMETOOLONG: i32 = 36;
+
+const EILSEQ: i32 = 84;
+
+// More than a reason takes.
+const REASON: usize = 128;
+
 // What there is to work on: so many bytes at the start of the buffer, the end of the input, or nothing more, and the reason was said.
-#[derive(Drop)]
+#[derive(Clone, Copy)]
 pub enum Taken {
     Bytes(usize),
     End,
     Failed,
 }
 
-// A file that an argument names: its descriptor, and how many bytes of the buffer are its name; or nothing, and the reason was said.
+// A file that an argument names, and how many bytes of the buffer are its name; or nothing, and the reason was said.
 #[derive(Drop)]
-pub enum Opened {
-    File(i32, usize),
+pub enum Opened<F> {
+    File(F, usize),
     Failed,
 }
 
 // What came of writing all.
-#[derive(Drop)]
+#[derive(Clone, Copy)]
 enum Put {
     Whole,
-    Failed,
+    Failed(Error),
     Nothing,
     TooMany,
 }
 
 // Reads once, and again where a signal broke it off.
-pub fn read(fd: i32, buf: &mut [u8], what: &[u8]) -> Taken
-    ensures { ReadsWithin fd buf.old what.now buf.new result }
+pub fn read<R: Read>(errors: Stderr, from: &mut R, buf: &mut [u8], what: &[u8]) -> Taken
+    ensures { ReadsWithin buf.old what.now buf.new result }
 {
     let mut turns: u64 = 0;
     while stream::may_go_on(turns) {
         turns += 1;
-        let got = libc::read(fd, buf);
-        match Read::of(got, os::errno(), buf.len()) {
-            Read::Bytes(n) => {
+        let got = from.read(buf);
+        match stream::Read::of(count(&got), number(&got), buf.len()) {
+            stream::Read::Bytes(n) => {
                 return Taken::Bytes(n);
             }
-            Read::End => {
+            stream::Read::End => {
                 return Taken::End;
             }
-            Read::Again => {}
-            Read::Failed => {
-                os::fail(what);
+            stream::Read::Again => {}
+            stream::Read::Failed => {
+                fail_call(errors, what, &got);
                 return Taken::Failed;
             }
-            Read::NoRoom => {
-                say(what, b": no room to read into\n");
+            stream::Read::NoRoom => {
+                say(errors, what, b": no room to read into\n");
                 return Taken::Failed;
             }
         }
     }
-    say(what, b": too many reads\n");
+    say(errors, what, b": too many reads\n");
     Taken::Failed
 }
 
+// Reads until the buffer is full, the input ends, or a read fails, whose reason was said: so many bytes are at the start of the buffer.
+pub fn read_full<R: Read>(errors: Stderr, from: &mut R, buf: &mut [u8], what: &[u8]) -> usize
+    ensures { CopiesWithin buf.new result }
+{
+    let mut done = 0;
+    let mut turns: u64 = 0;
+    while stream::more(buf.len(), done, turns) {
+        turns += 1;
+        match read(errors, from, &mut buf[done..], what) {
+            Taken::Bytes(n) => {
+                done += n;
+            }
+            Taken::End => {
+                return done;
+            }
+            Taken::Failed => {
+                return done;
+            }
+        }
+    }
+    done
+}
+
+// Puts an argument at the start of the buffer: its length, and 0 where there is none, or it is longer than the buffer.
+pub fn argument<R: Env>(rt: &R, i: usize, buf: &mut [u8]) -> usize
+    ensures { CopiesWithin buf.new result }
+{
+    match rt.arg(i, buf) {
+        Ok(n) => n,
+        Err(_) => 0,
+    }
+}
+
+// How many arguments there are, the program's own name among them.
+pub fn argument_count<R: Env>(rt: &R) -> usize {
+    let mut none = [0u8; 0];
+    for i in 0..usize::MAX {
+        if let Err(FillError::NotPresent) = rt.arg(i, &mut none) {
+            return i;
+        }
+    }
+    usize::MAX
+}
+
 // Opens the file that an argument names, to read it.
-pub fn open_argument(i: usize, name: &mut [u8]) -> Opened
+pub fn open_argument<R: Files + Env>(
+    rt: &R,
+    errors: Stderr,
+    i: usize,
+    name: &mut [u8],
+) -> Opened<R::File>
     ensures { OpensWithin i name.old name.new result }
 {
-    let n = os::arg(i, name);
-    if os::errno() != 0 {
-        os::fail(b"the name of a file");
-        return Opened::Failed;
+    match rt.arg(i, name) {
+        Ok(n) => match open(rt, &name[..n]) {
+            Ok(file) => Opened::File(file, n),
+            Err(error) => {
+                fail(errors, &name[..n], &error);
+                Opened::Failed
+            }
+        },
+        Err(FillError::NotPresent) => {
+            fail(errors, b"the name of a file", &Error::from_raw_os_error(EINVAL));
+            Opened::Failed
+        }
+        Err(FillError::TooLong) => {
+            fail(errors, b"the name of a file", &Error::from_raw_os_error(ENAMETOOLONG));
+            Opened::Failed
+        }
     }
-    let fd = os::open_read(&name[..n]);
-    if stream::failed(fd) {
-        os::fail(&name[..n]);
-        return Opened::Failed;
+}
+
+// To std a name is text.
+fn open<R: Files>(rt: &R, name: &[u8]) -> Result<R::File> {
+    match std::str::from_utf8(name) {
+        Ok(text) => fs::open(rt, text),
+        Err(_) => Err(Error::from_raw_os_error(EILSEQ)),
     }
-    Opened::File(fd, n)
 }
 
 // A file that was read to its end: that it can't be closed loses nothing.
-pub fn close(fd: i32) {
-    libc::close(fd);
-}
+pub fn close<F: Drop>(_file: F) {}
 
 // Writes all of it, or says why not.
-pub fn write_all(fd: i32, bytes: &[u8], what: &[u8]) -> bool
-    ensures { WritesNothing fd bytes.now what.now result }
+pub fn write_all<W: Write>(errors: Stderr, to: &mut W, bytes: &[u8], what: &[u8]) -> bool
+    ensures { WritesNothing bytes.now what.now result }
 {
-    match put_all(fd, bytes) {
+    match put_all(to, bytes) {
         Put::Whole => true,
-        Put::Failed => {
-            os::fail(what);
+        Put::Failed(error) => {
+            fail(errors, what, &error);
             false
         }
         Put::Nothing => {
-            say(what, b": a write took nothing\n");
+            say(errors, what, b": a write took nothing\n");
             false
         }
         Put::TooMany => {
-            say(what, b": too many writes\n");
+            say(errors, what, b": too many writes\n");
             false
         }
     }
 }
 
 // A write may take a part: the next goes on behind it.
-fn put_all(fd: i32, bytes: &[u8]) -> Put
+fn put_all<W: Write>(to: &mut W, bytes: &[u8]) -> Put
     ensures { PutsNothing bytes.now result }
 {
     let mut done = 0;
     let mut turns: u64 = 0;
     while stream::more(bytes.len(), done, turns) {
         turns += 1;
-        let put = libc::write(fd, &bytes[done..]);
-        match Write::of(put, os::errno(), bytes.len(), done) {
-            Write::To(next) => {
+        let put = to.write(&bytes[done..]);
+        match stream::Write::of(count(&put), number(&put), bytes.len(), done) {
+            stream::Write::To(next) => {
                 done = next;
             }
-            Write::Failed => {
-                return Put::Failed;
+            stream::Write::Failed => {
+                return failed(&put);
             }
-            Write::Nothing => {
+            stream::Write::Nothing => {
                 return Put::Nothing;
             }
         }
@@ -133,18 +217,103 @@ fn put_all(fd: i32, bytes: &[u8]) -> Put
     Put::TooMany
 }
 
-// On standard error, whether or not anyone hears it.
-pub fn say(what: &[u8], reason: &[u8]) {
-    put_all(libc::STDERR_FILENO, what);
-    put_all(libc::STDERR_FILENO, reason);
+fn failed(put: &Result<usize>) -> Put {
+    match *put {
+        Ok(_) => Put::Nothing,
+        Err(error) => Put::Failed(error),
+    }
 }
 
-// The last thing that a program does, and only where its last row was written: standard output is closed, since a disk may tell only
+// A call's answer as the system gives it: the count, and below 0 where the call failed.
+fn count(answer: &Result<usize>) -> isize {
+    match *answer {
+        Ok(n) => match isize::try_from(n) {
+            Ok(count) => count,
+            Err(_) => isize::MAX,
+        },
+        Err(_) => -1,
+    }
+}
+
+// The error number after it.
+fn number(answer: &Result<usize>) -> i32 {
+    match *answer {
+        Ok(_) => 0,
+        Err(error) => error.raw_os_error().unwrap_or(0),
+    }
+}
+
+// On standard error, whether or not anyone hears it.
+pub fn say(errors: Stderr, what: &[u8], reason: &[u8]) {
+    let mut to = errors;
+    put_all(&mut to, what);
+    put_all(&mut to, reason);
+}
+
+fn fail_call(errors: Stderr, what: &[u8], answer: &Result<usize>) {
+    if let Err(error) = answer {
+        fail(errors, what, error);
+    }
+}
+
+// What failed, and the system's own text of why.
+fn fail(errors: Stderr, what: &[u8], error: &Error) {
+    let mut text = Cursor::new([0u8; REASON]);
+    let _ = write!(text, "{error}");
+    let n = text.position();
+    let room = text.into_inner();
+    say(errors, what, b": ");
+    say(errors, reason(&room, n), b"\n");
+}
+
+// The text without the number that std puts behind it.
+fn reason(room: &[u8], n: u64) -> &[u8] {
+    let Some(told) = room.get(..n as usize) else {
+        return room;
+    };
+    let Ok(text) = std::str::from_utf8(told) else {
+        return told;
+    };
+    match text.split_once(" (os error ") {
+        Some((why, _)) => why.as_bytes(),
+        None => told,
+    }
+}
+
+// The last thing that a program does, and only where its last row was written: standard output is settled, since a disk may tell only
 // then that a write was lost, and `whole` goes to descriptor 3.
-pub fn say_whole(what: &[u8]) {
-    if stream::failed(libc::close(libc::STDOUT_FILENO)) {
-        os::fail(what);
+pub fn say_whole<R: Files>(rt: &R, output: Stdout, errors: Stderr, what: &[u8]) {
+    if let Err(error) = settle(rt, output) {
+        fail(errors, what, &error);
         return;
     }
-    put_all(STATUS, b"whole\n");
+    for _ in 0..TIMES {
+        if io::write_all(STATUS, b"whole\n") {
+            return;
+        }
+    }
+}
+
+// Whether what was written is kept, and the output still open. std tells of no close that fails, so a file is asked before.
+fn settle<R: Files>(rt: &R, output: Stdout) -> Result<()> {
+    keep(rt)?;
+    output.as_fd().try_clone_to_owned()?;
+    Ok(())
+}
+
+// A pipe and a terminal keep nothing; and what can't be opened a second time, or knows no such call, can't be asked.
+fn keep<R: Files>(rt: &R) -> Result<()> {
+    let Ok(known) = fs::metadata(rt, OUTPUT) else {
+        return Ok(());
+    };
+    if !known.is_file() {
+        return Ok(());
+    }
+    let Ok(file) = OpenOptions::new().append(true).open(rt, OUTPUT) else {
+        return Ok(());
+    };
+    match file.sync_data() {
+        Err(error) if error.kind() != ErrorKind::InvalidInput => Err(error),
+        _ => Ok(()),
+    }
 }

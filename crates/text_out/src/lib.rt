@@ -1,9 +1,11 @@
 // Text put into a lent buffer at a place: bytes, decimal numbers, and decimal numbers with a sign.
+#![tactic(auto)]
+
 ghost use Rattle.std.specs.Prelude.{◌+◌, ◌≤◌, length};
 ghost use Rattle.text_out.specs.Text.{Wrote, Puts, PutsDecimal, PutsSigned, PlaceAfter, minus};
 
 // The place after the text; or that there is too little room, and then nothing has changed.
-#[derive(Drop)]
+#[derive(Clone, Copy)]
 pub enum Placed {
     At(usize),
     Full,

@@ -1,4 +1,6 @@
 // What a trace has beside its 768 entries, the weights that have a name, and which traces are refused as TRACE.
+#![tactic(auto)]
+
 ghost use Rattle.std.specs.Prelude.{◌≡◌};
 ghost use Rattle.trace_counts.specs.Ranges.{within, all_within, is_side, counts_within};
 ghost use Rattle.trace_counts.specs.Promises.{TestsTrace, TestsEntries};
@@ -6,7 +8,7 @@ ghost use Rattle.trace_counts.specs.Promises.{TestsTrace, TestsEntries};
 use chess::piece::Piece;
 
 // The weights that have a name, in the order of their places.
-#[derive(Drop)]
+#[derive(Clone, Copy)]
 pub struct Weights {
     pub pawn: f64,
     pub knight: f64,
@@ -22,7 +24,7 @@ pub struct Weights {
 }
 
 // What a trace has beside its 768 entries: White's number, then Black's; mobility at 2·kind + colour.
-#[derive(Drop)]
+#[derive(Clone, Copy)]
 pub struct Trace {
     pub pawns: [i32; 2],
     pub knights: [i32; 2],

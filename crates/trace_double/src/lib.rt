@@ -1,4 +1,6 @@
 // The double of a trace: `Trace::eval`, worked in the source's order, one rounding for each operation.
+#![tactic(auto)]
+
 ghost use Rattle.std.specs.Prelude.{◌≡◌, true, length, ◌*◌, ◌<◌};
 ghost use Rattle.trace_counts.specs.Ranges.{are_entries};
 ghost use Rattle.trace_double.specs.Double.{between, entry_added, folded};
@@ -14,7 +16,7 @@ use refusal::Refusal;
 use trace_counts::{Trace, Weights};
 use trace_marks::GROUP;
 
-#[derive(Drop)]
+#[derive(Clone, Copy)]
 pub enum Doubled {
     Is(f64),
     Refused(Refusal),

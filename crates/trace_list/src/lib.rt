@@ -1,4 +1,6 @@
 // The trace as a short list: 64 entries of three bytes, kind, square and colour, sorted by those three, and how many of them are used.
+#![tactic(auto)]
+
 ghost use Rattle.std.specs.Prelude.{◌≡◌, ◌<◌, ◌≤◌};
 ghost use Rattle.laws.specs.Tests.{all_below};
 ghost use Rattle.places.specs.Places.{entry_place};

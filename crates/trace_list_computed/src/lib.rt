@@ -1,4 +1,6 @@
 // The trace of a position as a list, straight from the bitboards: its counts by value, its entries lent.
+#![tactic(auto)]
+
 ghost use Rattle.std.specs.Prelude.{◌≡◌, true, cond, [], ◌+◌, ◌*◌, ◌<◌, ◌≤◌, T, length};
 ghost use Rattle.bits.specs.Bitboard.{has, digit, those};
 ghost use Rattle.attack_rays.specs.PrivateMirror.{partner, paired};
@@ -18,7 +20,7 @@ use trace_counts::Trace;
 use trace_list::{BYTES, ENTRIES, PER_ENTRY};
 
 // A trace, how many entries its list has, and whether the position passed its test: beside a refusal stand a trace of zeros and none.
-#[derive(Drop)]
+#[derive(Clone, Copy)]
 pub struct ListTraced {
     pub checked: Checked,
     pub trace: Trace,

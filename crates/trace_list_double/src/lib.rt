@@ -1,4 +1,6 @@
 // The double of a trace from its list: the flat form's, bit for bit, in one pass over the entries that there are.
+#![tactic(auto)]
+
 ghost use Rattle.std.specs.Prelude.{◌≡◌, cond, T, eqb, length, ◌<◌};
 ghost use Rattle.doubles.specs.Doubles.{d1, minus1};
 ghost use Rattle.places.specs.Places.{entry_place};

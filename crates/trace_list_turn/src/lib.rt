@@ -1,4 +1,6 @@
 // A flat trace turned into a list, and a list turned flat.
+#![tactic(auto)]
+
 ghost use Rattle.std.specs.Prelude.{◌≡◌, [], T, pos, length, set, ◌+◌, ◌*◌, ◌<◌, ◌≤◌};
 ghost use Rattle.std.specs.Int.Signed.{lt_z};
 ghost use Rattle.places.specs.Places.{kind_at, square_at, colour_at};
@@ -12,13 +14,13 @@ use refusal::Refusal;
 use trace_counts::Trace;
 use trace_list::{BYTES, ENTRIES, PER_ENTRY};
 
-#[derive(Drop)]
+#[derive(Clone, Copy)]
 pub enum Listed {
     Used(u8),
     Refused(Refusal),
 }
 
-#[derive(Drop)]
+#[derive(Clone, Copy)]
 pub enum Flattened {
     Done,
     Refused(Refusal),

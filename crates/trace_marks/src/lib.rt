@@ -1,4 +1,6 @@
 // Where a trace's 768 entries are 1, found in one reading: groups of sixteen first, then the entries of a group.
+#![tactic(auto)]
+
 ghost use Rattle.std.specs.Prelude.{◌≡◌, ltb, length, ◌*◌, ◌<◌};
 ghost use Rattle.std.specs.Int.{w32};
 ghost use Rattle.std.proofs.Common.{of_z};
@@ -44,7 +46,7 @@ fn is_entry(z: i32) -> bool
 }
 
 // Whether all entries are 0 or 1, and a digit for each group that is not all 0.
-#[derive(Drop)]
+#[derive(Clone, Copy)]
 pub struct Reading {
     pub entries: bool,
     pub groups: u64,

@@ -1,4 +1,6 @@
 // The named weights' part of the double of a trace: material, mobility and the tempo, one rounding for each operation.
+#![tactic(auto)]
+
 ghost use Rattle.std.specs.Prelude.{◌≡◌, pos, get_or, ◌+◌, ◌*◌, ◌<◌};
 ghost use Rattle.trace_named.specs.Named as D;
 ghost use Rattle.trace_named.specs.Named.{count_added, moved, Sums};

@@ -1,4 +1,6 @@
 // The shipped weights, from which `Tuner::new` starts: the score's own numbers.
+#![tactic(auto)]
+
 ghost use Rattle.std.specs.Prelude.{◌≡◌, ◌<◌, length};
 ghost use Rattle.score_pst.specs.Pst.{pst_table};
 ghost use Rattle.doubles.specs.Doubles.{dbl};
@@ -13,7 +15,7 @@ use score_tally::{BISHOP_MOBILITY, KNIGHT_MOBILITY, QUEEN_MOBILITY, ROOK_MOBILIT
 use score_taper::TEMPO;
 use trace_counts::Weights;
 
-#[derive(Drop)]
+#[derive(Clone, Copy)]
 pub enum Written {
     Done,
     Refused(Refusal),

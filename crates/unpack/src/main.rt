@@ -3,6 +3,8 @@
 // What a read, a write and an error number mean stands in crate stream, what a record's line is in line_spell, which records are loaded and the
 // rows of the others in store_sift. The rows and the ledger's last row go to standard error. Where a read or a write fails, or a loop comes to its
 // bound, no last row follows and the reason is said; that all is as it should be is said on descriptor 3, last of all.
+#![tactic(auto)]
+
 ghost use Rattle.std.specs.Prelude.{◌≡◌, ◌+◌};
 ghost use Rattle.ledger_finish.specs.Promises.{unfinished};
 ghost use Rattle.sift_allowed.specs.Settled.{output_stands};
@@ -20,19 +22,19 @@ const LINES: usize = 16384;
 const ROWS: usize = 8192;
 
 // What follows a read: another one, the end of the input, or nothing more.
-#[derive(Drop)]
+#[derive(Clone, Copy)]
 enum Turn {
     More(StoreSoFar),
     End,
     Stopped,
 }
 
-fn main() {
+fn main(rt: HostRuntime) {
     let mut chunk = io::buffer();
     let mut lines = [0u8; LINES];
     let mut rows = [0u8; ROWS];
-    if unpack(&mut chunk, &mut lines, &mut rows) {
-        stream_io::say_whole(b"unpack: standard output");
+    if unpack(&rt, &mut chunk, &mut lines, &mut rows) {
+        stream_io::say_whole(&rt, rt.stdout(), rt.stderr(), b"unpack: standard output");
     }
 }
 
@@ -47,25 +49,25 @@ fn settled(state: StoreSoFar, allowed: bool) -> bool
 }
 
 // All reads, and then the last rows: whether all is written, and as it should be.
-fn unpack(chunk: &mut [u8], lines: &mut [u8], rows: &mut [u8]) -> bool {
+fn unpack(rt: &HostRuntime, chunk: &mut [u8], lines: &mut [u8], rows: &mut [u8]) -> bool {
     let mut piece = [0u8; RECORD];
-    let read = read_to_end(&mut piece, chunk, lines, rows);
+    let read = read_to_end(rt, &mut piece, chunk, lines, rows);
     let Turn::More(state) = read else {
         return false;
     };
-    if !finish(state, rows) {
+    if !finish(rt, state, rows) {
         return false;
     }
-    settled(state, sift_allowed::allows())
+    settled(state, sift_allowed::allows(rt))
 }
 
 // All reads, and the lines of the records that end in them.
-fn read_to_end(piece: &mut [u8], chunk: &mut [u8], lines: &mut [u8], rows: &mut [u8]) -> Turn {
+fn read_to_end(rt: &HostRuntime, piece: &mut [u8], chunk: &mut [u8], lines: &mut [u8], rows: &mut [u8]) -> Turn {
     let mut state = store_rows::start();
     let mut turns: u64 = 0;
     while stream::may_go_on(turns) {
         turns += 1;
-        match read_some(state, piece, chunk, lines, rows) {
+        match read_some(rt, state, piece, chunk, lines, rows) {
             Turn::More(next) => {
                 state = next;
             }
@@ -77,26 +79,28 @@ fn read_to_end(piece: &mut [u8], chunk: &mut [u8], lines: &mut [u8], rows: &mut 
             }
         }
     }
-    stop(b": too many reads\n");
+    stop(rt, b": too many reads\n");
     Turn::Stopped
 }
 
 // One read, and the lines of the records that end in it.
 fn read_some(
+    rt: &HostRuntime,
     state: StoreSoFar,
     piece: &mut [u8],
     chunk: &mut [u8],
     lines: &mut [u8],
     rows: &mut [u8],
 ) -> Turn {
-    match stream_io::read(libc::STDIN_FILENO, chunk, b"unpack: standard input") {
-        Taken::Bytes(n) => feed(state, piece, &chunk[..n], lines, rows),
+    match stream_io::read(rt.stderr(), &mut rt.stdin(), chunk, b"unpack: standard input") {
+        Taken::Bytes(n) => feed(rt, state, piece, &chunk[..n], lines, rows),
         Taken::End => Turn::End,
         Taken::Failed => Turn::Stopped,
     }
 }
 
 fn feed(
+    rt: &HostRuntime,
     state: StoreSoFar,
     piece: &mut [u8],
     chunk: &[u8],
@@ -105,47 +109,47 @@ fn feed(
 ) -> Turn {
     match store_sift::feed(state, Form::Text, piece, chunk, lines, rows) {
         StoreSifted::Records(next, written, told) => {
-            if write(&lines[..written], &rows[..told]) {
+            if write(rt, &lines[..written], &rows[..told]) {
                 return Turn::More(next);
             }
         }
         StoreSifted::Full => {
-            stop(b": too little room for lines\n");
+            stop(rt, b": too little room for lines\n");
         }
         StoreSifted::Many => {
-            stop(b": more records than 64 bits count\n");
+            stop(rt, b": more records than 64 bits count\n");
         }
         StoreSifted::Refused(_) => {
-            stop(b": no piece buffer\n");
+            stop(rt, b": no piece buffer\n");
         }
     }
     Turn::Stopped
 }
 
 // The row of bytes that are left over, and the ledger's last row.
-fn finish(state: StoreSoFar, rows: &mut [u8]) -> bool {
+fn finish(rt: &HostRuntime, state: StoreSoFar, rows: &mut [u8]) -> bool {
     match store_finish::finish(state, rows) {
-        Finished::Rows(told) => tell(&rows[..told]),
-        Finished::Full => stop(b": too little room for the last rows\n"),
-        Finished::Many => stop(b": more records than 64 bits count\n"),
-        Finished::Refused(_) => stop(b": no piece buffer\n"),
+        Finished::Rows(told) => tell(rt, &rows[..told]),
+        Finished::Full => stop(rt, b": too little room for the last rows\n"),
+        Finished::Many => stop(rt, b": more records than 64 bits count\n"),
+        Finished::Refused(_) => stop(rt, b": no piece buffer\n"),
     }
 }
 
 // The lines on standard output, and then the rows on standard error.
-fn write(lines: &[u8], rows: &[u8]) -> bool {
-    if !stream_io::write_all(libc::STDOUT_FILENO, lines, b"unpack: standard output") {
+fn write(rt: &HostRuntime, lines: &[u8], rows: &[u8]) -> bool {
+    if !stream_io::write_all(rt.stderr(), &mut rt.stdout(), lines, b"unpack: standard output") {
         return false;
     }
-    tell(rows)
+    tell(rt, rows)
 }
 
-fn tell(rows: &[u8]) -> bool {
-    stream_io::write_all(libc::STDERR_FILENO, rows, b"unpack: standard error")
+fn tell(rt: &HostRuntime, rows: &[u8]) -> bool {
+    stream_io::write_all(rt.stderr(), &mut rt.stderr(), rows, b"unpack: standard error")
 }
 
 // Nothing more is written.
-fn stop(reason: &[u8]) -> bool {
-    stream_io::say(b"unpack", reason);
+fn stop(rt: &HostRuntime, reason: &[u8]) -> bool {
+    stream_io::say(rt.stderr(), b"unpack", reason);
     false
 }

@@ -1,0 +1,12 @@
+-- `bits::reset` meets its contract. Assumes nothing.
+use borrow.Author.Rules.{rules}
+use borrow.Author.Tests.{lt-ltb, le-ltb}
+use native.Mathlib.Omega.{arith}
+use Rattle.bits.proofs.Machine.{take_away}
+use Rattle.bits.proofs.reset.Goals as goal
+
+pub returns : goal.returns
+returns c = simp (
+  lt-ltb c.args.square 64 (omega arith),
+  take_away c.args.b c.args.square c.ranges.b.fits (omega arith),
+)

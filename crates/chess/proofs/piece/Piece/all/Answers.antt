@@ -1,0 +1,8 @@
+-- `chess::piece::Piece::all` meets its contract: the named constants are compared with their numbers, once. Assumes nothing.
+use mathlib.Core.Path.{refl}
+use Rattle.laws.specs.Tables.{tabulate}
+use Rattle.chess.proofs.piece.Piece.all.Goals as goal
+
+pub returns : goal.returns
+unfolding tabulate
+returns c = refl

@@ -1,0 +1,34 @@
+-- `exchange_value::inner::settle` meets its contract. The loop's invariant: `next` is what the captures from k on are worth, if the first need not be made.
+-- Assumes nothing.
+use mathlib.Core.Path.{◌≡◌, refl, ap, ◌∙◌}
+use Prim.Native.Nat.{◌-◌, ◌≤◌}
+use native.Mathlib.Omega.{arith}
+use lib.ListN.{length, get_or}
+use Rattle.exchange_value.proofs.Backward.{gain, no_gain, back, in_32, whole, settled_none}
+use borrow.Author.Rules.{rules}
+use Rattle.exchange_value.proofs.inner.settle.Goals as goal
+
+pub returns-then-values-eq0 : goal.returns-then-values-eq0
+returns-then-values-eq0 c = settled_none c.args.values.now c.if-values-eq0.true
+
+pub loop-k-init : goal.loop-k-init
+loop-k-init c = (omega arith, omega arith, no_gain c.args.values.now, omega arith)
+
+pub loop-k-preserved : goal.loop-k-preserved
+loop-k-preserved c =
+    let l = c.loop-k in
+    let values = c.args.values.now in
+    let f = c.shared_slice_known-in-loop-k-1.given (l.k - 1) in (
+      omega arith,
+      omega arith,
+      c.less-next.ensures ∙ back values l.k l.invariant.0 l.invariant.1 _ l.next refl l.invariant.2,
+      omega (arith, c.less-next.ensures, f),
+    )
+
+pub returns : goal.returns
+returns c =
+    let l = c.loop-k in
+    let values = c.args.values.now in
+    let f = c.shared_slice_known-2-1.given 0 in
+    let e : l.k ≡ 1 = omega arith in
+    whole values (get_or values 0 0) l.next (omega arith) (omega (arith, f)) l.invariant.3 refl (l.invariant.2 ∙ ap (gain values) e)

@@ -1,0 +1,15 @@
+use mathlib.Core.Path.{◌≡◌, refl, ap}
+use Prim.Native.Nat.{ℕ, ◌+◌, ◌-◌, ◌≤◌}
+use native.Mathlib.Numerals.{add-one}
+use native.Mathlib.Omega.{arith}
+use borrow.Author.Rules.{rules}
+use lib.Ieee.{Float}
+use Rattle.doubles.specs.Doubles.{◌⊗◌}
+use Rattle.fit_adam.specs.Adam.{beta1, beta2, power}
+use Rattle.fit_adam.proofs.inner.powers_of.Given as goal
+
+abbrev pub invariant-loop-i : goal.invariant-loop-i
+invariant-loop-i l = (l.i ≤ l.iteration) × (l.first ≡ power beta1 l.i) × (l.second ≡ power beta2 l.i)
+
+abbrev pub decreases-loop-i : goal.decreases-loop-i
+decreases-loop-i l = l.iteration - l.i

@@ -1,0 +1,37 @@
+-- `fit_adam::inner::walk` meets its contract. The loop's invariant: all three lists are turned up to i. Assumes nothing.
+use mathlib.Core.Path.{◌≡◌}
+use borrow.Author.Rules.{rules}
+use Prim.Native.Nat.{◌≤◌, ◌<◌, ◌-◌}
+use native.Mathlib.Omega.{arith}
+use lib.ListN.{length}
+use Rattle.fit_adam.specs.Adam.{first_at, second_at, weight_stepped}
+use Rattle.fit_adam.specs.Promises.{fit_from}
+use Rattle.fit_adam.proofs.Places.{Turned, none, one_more, here, all}
+use Rattle.fit_adam.proofs.inner.walk.Goals as goal
+
+pub loop-i-preserved : goal.loop-i-preserved
+loop-i-preserved c =
+    let l = c.loop-i in
+    let f = c.first_moment-first in
+    let s = c.second_moment-second in
+    let a = here l.invariant.3 in
+    let b = here l.invariant.4 in
+    let d = here l.invariant.5 in
+    let first = rw a at f.ensures in
+    let second = rw b at s.ensures in (
+      omega arith,
+      omega arith,
+      l.invariant.2,
+      one_more l.invariant.3 (omega arith) (omega arith) first,
+      one_more l.invariant.4 (omega arith) (omega arith) second,
+      one_more l.invariant.5 (omega arith) (omega arith) (rw (first, second, d) at c.moved_weight-weight.ensures),
+    )
+
+pub returns : goal.returns
+returns c =
+    let l = c.loop-i in
+    let i : l.i ≡ 779 = omega arith in
+    let m = all l.invariant.3 i in
+    let v = all l.invariant.4 i in
+    let w = all l.invariant.5 i in
+    cc

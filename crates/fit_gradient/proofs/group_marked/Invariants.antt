@@ -1,0 +1,23 @@
+use mathlib.Core.Path.{◌≡◌, sym, ap, ◌∙◌}
+use mathlib.Core.List.{◌∷◌}
+use Prim.Native.Nat.{◌+◌, ◌*◌, ◌<◌}
+use native.Mathlib.Omega.{arith}
+use borrow.Author.Rules.{rules}
+use lib.ListN.{length}
+use Rattle.bits.specs.Bitboard.{squares}
+use Rattle.bits.specs.Answers.{lowest}
+use Rattle.bits.proofs.Each.{next_at, next_done}
+use Rattle.trace_marks.specs.Marks.{odd_at, fold_from}
+use Rattle.trace_marks.proofs.Tested.{ones_of_holds, odd_small, odd_none}
+use Rattle.trace_marks.proofs.Walk as walk
+use Rattle.trace_marks.proofs.Folds as folds
+use Rattle.fit_gradient.specs.Marks.{entry_by}
+use Rattle.fit_gradient.proofs.Marks.{one_read, nothing}
+use Rattle.fit_gradient.proofs.group_marked.Given as goal
+
+abbrev pub invariant-loop-j : goal.invariant-loop-j
+invariant-loop-j l = (length l.gradient ≡ 779)
+    × walk.Walk (fold_from (entry_by l.parts l.entries) l.initial.gradient (16 * l.group)) 16 l.gradient l.rest
+
+abbrev pub decreases-loop-j : goal.decreases-loop-j
+decreases-loop-j l = length (squares l.rest)

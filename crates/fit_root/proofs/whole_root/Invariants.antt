@@ -1,0 +1,18 @@
+use Rattle.std.proofs.Common.{◌≡◌, ℕ, ◌+◌, ◌-◌, ◌*◌, ◌/◌, ◌%◌, ◌^◌, ◌<◌, ◌≤◌, sym, ⊎_elim, lt_of_lt_of_le, mul_assoc, pow-suc, add-one, arith, pow_mono}
+use Rattle.fit_root.specs.Whole.{IsRoot}
+use Rattle.fit_root.proofs.Whole.{even, square, next_square}
+use Rattle.fit_root.proofs.whole_root.Given as goal
+
+-- k pairs of digits are done: root and rem are the root and the remainder of the digits so far, and m holds the others, from the top
+pub record Done (x m root rem k : ℕ) : Type 0 where
+  pub some : k ≤ 54
+  pub short : root < 2 ^ k
+  pub rest : rem ≤ root * 2
+  pub left : m < 2 ^ 54
+  pub is : (root * root + rem) * 2 ^ 54 + m ≡ x * 4 ^ k
+
+abbrev pub invariant-loop-k : goal.invariant-loop-k
+invariant-loop-k l = Done l.x l.m l.root l.rem l.k
+
+abbrev pub decreases-loop-k : goal.decreases-loop-k
+decreases-loop-k l = 54 - l.k

@@ -1,0 +1,19 @@
+-- `ledger_totals::error` meets its contract: the row is made, and then put. Assumes nothing.
+use mathlib.Core.Path.{sym, subst}
+use mathlib.Core.List.{List}
+use Prim.Native.Nat.{ℕ}
+use native.Mathlib.Omega.{arith}
+use lib.Seq.{length-take-le}
+use Rattle.text_out.specs.Text.{Puts}
+use Rattle.text_out.proofs.Added.{adds_to, adds_front, adds_length}
+use Rattle.ledger_totals.proofs.Point.{fits_error}
+use borrow.Author.Rules.{rules}
+use Rattle.ledger_totals.proofs.error.Goals as goal
+
+pub returns : goal.returns
+returns c =
+    let p = c.put in
+    let w = c.write_error-end in
+    let a = c.args in
+    subst (λ (t : List ℕ). Puts a.out.now p.new.out a.at t p.result)
+    (adds_front w.ensures (fits_error a.scored a.apart a.refused a.sum)) p.ensures

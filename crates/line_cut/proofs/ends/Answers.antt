@@ -1,0 +1,27 @@
+-- `line_cut::ends` meets its contract: the loop has counted what ended so far. Assumes nothing.
+use mathlib.Core.Path.{◌≡◌}
+use mathlib.Core.List.{[], ◌∷◌}
+use Prim.Native.Nat.{◌≤◌, ◌+◌, ◌-◌}
+use native.Mathlib.Omega.{arith}
+use borrow.Author.Rules.{rules}
+use lib.ListN.{length, drop, get_or}
+use Rattle.line_cut.specs.Lines.{ends}
+use Rattle.line_cut.proofs.Counted.{ends_turn, ends_last, ends_le}
+use Rattle.line_cut.proofs.ends.Goals as goal
+
+pub overflow_add-n : goal.overflow_add-n
+overflow_add-n c =
+    let one = ends_le (get_or c.args.chunk.now c.loop-i.i 0 ∷ []) in
+    record { fits = omega (arith, c.is_end-n.ensures, c.loop-i.invariant) }
+
+pub loop-i-preserved : goal.loop-i-preserved
+loop-i-preserved c =
+    let s = c.args.chunk.now in
+    let l = c.loop-i in
+    let one = ends_le (get_or s l.i 0 ∷ []) in
+    (omega arith, omega (arith, c.is_end-n.ensures), ends_turn s l.i (omega arith) l.n c.is_end-n.result l.invariant.2 c.is_end-n.ensures)
+
+pub returns : goal.returns
+returns c =
+    let l = c.loop-i in
+    ends_last c.args.chunk.now l.n l.i (omega arith) l.invariant.2

@@ -1,0 +1,11 @@
+use mathlib.Core.Path.{◌∙◌}
+use native.Mathlib.Omega.{arith}
+use borrow.Author.Rules.{rules}
+use Rattle.line_spell.proofs.Joined.{Down, down_first, down_room, down_again, down_last}
+use Rattle.line_spell.proofs.spell.put_ranks.Given as goal
+
+abbrev pub invariant-loop-rank : goal.invariant-loop-rank
+invariant-loop-rank l = Down l.board l.initial.line l.line l.end l.rank
+
+abbrev pub decreases-loop-rank : goal.decreases-loop-rank
+decreases-loop-rank l = l.rank

@@ -1,0 +1,8 @@
+-- `places::weight::Weight::all_named` meets its contract: the named constants are compared with their numbers, once. Assumes nothing.
+use mathlib.Core.Path.{refl}
+use Rattle.laws.specs.Tables.{tabulate}
+use Rattle.places.proofs.weight.Weight.all_named.Goals as goal
+
+pub returns : goal.returns
+unfolding tabulate
+returns c = refl

@@ -1,0 +1,16 @@
+use mathlib.Core.Path.{◌≡◌, ◌∙◌}
+use Prim.Native.Nat.{◌≤◌, ◌-◌, ◌+◌}
+use native.Mathlib.Numerals.{add-one}
+use native.Mathlib.Omega.{arith}
+use borrow.Author.Rules.{rules}
+use lib.Dec.{leb}
+use Rattle.bits.specs.Bitboard.{those}
+use Rattle.position_boards.proofs.Crowded.{among, none_yet, once_more, twice_more, all_twelve}
+use Rattle.position_boards.proofs.shared.Given as goal
+
+abbrev pub invariant-loop-n : goal.invariant-loop-n
+invariant-loop-n l =
+    (l.n ≤ 12) × (l.once ≡ those 64 (λ k. leb 1 (among l.bitboards l.n k))) × (l.twice ≡ those 64 (λ k. leb 2 (among l.bitboards l.n k)))
+
+abbrev pub decreases-loop-n : goal.decreases-loop-n
+decreases-loop-n l = 12 - l.n

@@ -1,0 +1,25 @@
+-- `position_boards::unite` meets its contract: after n kinds, `all` is the squares of the colour's n boards. Assumes nothing.
+use mathlib.Core.Path.{◌≡◌, ◌∙◌}
+use Prim.Native.Nat.{◌≤◌, ◌-◌, ◌+◌, ◌*◌}
+use native.Mathlib.Numerals.{add-one}
+use native.Mathlib.Omega.{arith}
+use borrow.Author.Rules.{rules}
+use Rattle.bits.specs.Bitboard.{those}
+use Rattle.position_boards.proofs.Crowded.{among_colour, none_of_colour, colour_more, all_six}
+use Rattle.position_boards.proofs.unite.Goals as goal
+
+pub loop-n-init : goal.loop-n-init
+loop-n-init c = (omega arith, none_of_colour c.args.bitboards.now c.args.color)
+
+pub loop-n-preserved : goal.loop-n-preserved
+loop-n-preserved c =
+    let l = c.loop-n in
+    let a = c.args in
+    let f = c.shared_slice_known-1.given (2 + 2 * l.n + a.color) in
+    (omega arith, rw (l.invariant.1, add-one) (colour_more a.bitboards.now a.color l.n f.fits))
+
+pub returns : goal.returns
+returns c =
+    let l = c.loop-n in
+    let a = c.args in
+    l.invariant.1 ∙ all_six a.bitboards.now a.color l.n (omega arith)

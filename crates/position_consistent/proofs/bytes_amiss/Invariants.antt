@@ -1,0 +1,21 @@
+use mathlib.Core.Path.{◌≡◌, refl, ap, ◌∙◌}
+use mathlib.Core.Bool.{Bool}
+use mathlib.Core.List.{List}
+use Prim.Native.Nat.{ℕ, ◌≤◌, ◌-◌}
+use native.Mathlib.Numerals.{add-one}
+use native.Mathlib.Omega.{arith}
+use lib.Dec.{eqb}
+use borrow.Author.Rules.{rules}
+use Rattle.laws.specs.Tests.{all_below}
+use Rattle.position_consistent.specs.PrivateTested.{file_codes, file_right}
+use Rattle.position_consistent.proofs.Planes.{more_amiss}
+use Rattle.position_consistent.proofs.bytes_amiss.Given as goal
+
+abbrev pub right-on : List ℕ → ℕ → ℕ → ℕ → ℕ → ℕ → Bool
+right-on board ones twos fours eights file = file_right board (file_codes ones twos fours eights file) file
+
+abbrev pub invariant-loop-file : goal.invariant-loop-file
+invariant-loop-file l = (l.file ≤ 8) × (eqb l.amiss 0 ≡ all_below l.file (right-on l.board l.ones l.twos l.fours l.eights))
+
+abbrev pub decreases-loop-file : goal.decreases-loop-file
+decreases-loop-file l = 8 - l.file

@@ -1,0 +1,17 @@
+use mathlib.Core.Path.{◌≡◌, refl, ap, ◌∙◌}
+use Prim.Native.Nat.{ℕ, ◌≤◌, ◌-◌, ◌+◌, ◌*◌}
+use native.Mathlib.Numerals.{add-one}
+use native.Mathlib.Omega.{arith}
+use lib.Dec.{eqb}
+use lib.ListN.{get_or}
+use borrow.Author.Rules.{rules}
+use Rattle.laws.specs.Tests.{all_below}
+use Rattle.position_consistent.specs.PrivateTested.{rank_right}
+use Rattle.position_consistent.proofs.Planes.{byte_amiss}
+use Rattle.position_consistent.proofs.file_amiss.Given as goal
+
+abbrev pub invariant-loop-rank : goal.invariant-loop-rank
+invariant-loop-rank l = (l.rank ≤ 8) × (eqb l.amiss 0 ≡ all_below l.rank (rank_right l.board l.codes l.file))
+
+abbrev pub decreases-loop-rank : goal.decreases-loop-rank
+decreases-loop-rank l = 8 - l.rank

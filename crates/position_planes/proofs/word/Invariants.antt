@@ -1,0 +1,14 @@
+use mathlib.Core.Path.{◌≡◌, ap, subst, ◌∙◌}
+use Prim.Native.Nat.{◌+◌, ◌*◌, ◌-◌, ◌≤◌}
+use native.Mathlib.Omega.{arith}
+use borrow.Author.Rules.{rules}
+use lib.ListN.{get_or}
+use Rattle.position_planes.specs.PrivatePlanes.{Row, stack}
+use Rattle.position_planes.proofs.Planes.{stack_none, stack_next, row_none, row_next}
+use Rattle.position_planes.proofs.word.Given as goal
+
+abbrev pub invariant-loop-file : goal.invariant-loop-file
+invariant-loop-file l = (l.file ≤ 8) × (l.word ≡ stack (λ j. get_or l.board (8 * l.rank + j) 0) l.file) × Row l.board l.rank l.file
+
+abbrev pub decreases-loop-file : goal.decreases-loop-file
+decreases-loop-file l = 8 - l.file

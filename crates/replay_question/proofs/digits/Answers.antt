@@ -1,0 +1,21 @@
+-- `replay_question::digits` meets its contract. Assumes nothing.
+use mathlib.Core.Path.{◌≡◌, refl}
+use Prim.Native.Nat.{◌-◌, ◌≤◌}
+use native.Mathlib.Omega.{arith}
+use lib.ListN.{length, drop}
+use Rattle.replay_question.specs.Question.{digits}
+use Rattle.replay_question.proofs.Folds.{digits_more, digits_end}
+use borrow.Author.Rules.{rules}
+use Rattle.replay_question.proofs.digits.Goals as goal
+
+pub loop-i-preserved : goal.loop-i-preserved
+loop-i-preserved c =
+    let l = c.loop-i in
+    let s = c.args.s.now in
+    (omega arith, digits_more s (digits 0 s) l.i l.n l.invariant.1 (omega arith) c.with_digit-n.result c.with_digit-n.ensures)
+
+pub returns : goal.returns
+returns c =
+    let l = c.loop-i in
+    let s = c.args.s.now in
+    digits_end s (digits 0 s) l.i l.n l.invariant.1 (omega arith)

@@ -1,0 +1,29 @@
+-- `replay_question::position` meets its contract. Assumes nothing.
+use mathlib.Core.Path.{◌≡◌, refl}
+use Prim.Native.Nat.{◌-◌, ◌≤◌}
+use native.Mathlib.Omega.{arith}
+use borrow.Author.Rules.{rules}
+use lib.ListN.{length, drop}
+use Rattle.replay_question.specs.Question.{slashed, position_of}
+use Rattle.replay_question.proofs.Folds.{slashed_stop, slashed_space, slashed_more, slashed_end}
+use Rattle.replay_question.proofs.position.Goals as goal
+
+pub returns-then-b-eq47 : goal.returns-then-b-eq47
+returns-then-b-eq47 c = let l = c.loop-i in
+    let q = c.args.question.now in
+    slashed_stop q (position_of q) l.part.now l.i l.invariant.1 (omega arith) c.if-b-eq47.true
+
+pub loop-i-preserved-then-b-eq32 : goal.loop-i-preserved-then-b-eq32
+loop-i-preserved-then-b-eq32 c = let l = c.loop-i in
+    let q = c.args.question.now in
+    (omega arith, slashed_space q (position_of q) l.part.now l.i l.invariant.1 (omega arith) c.if-b-eq32.true)
+
+pub loop-i-preserved : goal.loop-i-preserved
+loop-i-preserved c = let l = c.loop-i in
+    let q = c.args.question.now in
+    (omega arith, slashed_more q (position_of q) l.part.now l.i l.invariant.1 (omega arith) c.if-b-eq47.false c.if-b-eq32.false)
+
+pub returns : goal.returns
+returns c = let l = c.loop-i in
+    let q = c.args.question.now in
+    slashed_end q (position_of q) l.part.now l.i l.invariant.1 (omega arith)

@@ -1,0 +1,14 @@
+use mathlib.Core.Path.{◌≡◌, refl}
+use Prim.Native.Nat.{◌-◌, ◌≤◌}
+use native.Mathlib.Omega.{arith}
+use borrow.Author.Rules.{rules}
+use lib.ListN.{length, drop}
+use Rattle.replay_question.specs.Question.{slashed, position_of}
+use Rattle.replay_question.proofs.Folds.{slashed_stop, slashed_space, slashed_more, slashed_end}
+use Rattle.replay_question.proofs.position.Given as goal
+
+abbrev pub invariant-loop-i : goal.invariant-loop-i
+invariant-loop-i l = (l.i ≤ length l.question) × (position_of l.question ≡ slashed l.part (drop l.i l.question))
+
+abbrev pub decreases-loop-i : goal.decreases-loop-i
+decreases-loop-i l = length l.question - l.i

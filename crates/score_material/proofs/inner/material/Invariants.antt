@@ -1,0 +1,16 @@
+use mathlib.Core.Path.{◌≡◌, sym, ap, ap₂, ◌∙◌}
+use Prim.Native.Nat.{ℕ, ◌+◌, ◌*◌, ◌-◌, ◌≤◌}
+use native.Mathlib.Omega.{arith}
+use borrow.Author.Rules.{rules}
+use Rattle.laws.specs.Sums.{sum_n}
+use Rattle.laws.proofs.Sums.{sum_none, sum_more}
+use Rattle.score_material.specs.Pieces.{count}
+use Rattle.chess.specs.Values.{value_of}
+use Rattle.score_material.proofs.Pieces.{count_le, worth_of_holds}
+use Rattle.score_material.proofs.inner.material.Given as goal
+
+abbrev pub invariant-loop-kind : goal.invariant-loop-kind
+invariant-loop-kind l = (l.kind ≤ 6) × (l.sum ≡ sum_n l.kind (λ k. count l.bitboards k l.color * value_of k)) × (l.sum ≤ 640000 * l.kind)
+
+abbrev pub decreases-loop-kind : goal.decreases-loop-kind
+decreases-loop-kind l = 6 - l.kind

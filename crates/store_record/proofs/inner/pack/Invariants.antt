@@ -1,0 +1,18 @@
+use mathlib.Core.Path.{◌≡◌, sym, ap₂, ◌∙◌}
+use mathlib.Core.List.{List}
+use Prim.Native.Nat.{ℕ, ◌≤◌, ◌-◌}
+use native.Mathlib.Numerals.{add-one}
+use native.Mathlib.Omega.{arith}
+use borrow.Author.Rules.{rules}
+use Rattle.laws.specs.Tables.{tabulate}
+use Rattle.position.specs.Checked.{of_side}
+use Rattle.line_parse.specs.Line.{Line}
+use Rattle.store_record.specs.Record.{two_squares}
+use Rattle.store_record.proofs.Records.{bytes_to, bytes_none, bytes_more, bytes_all, record_pair}
+use Rattle.store_record.proofs.inner.pack.Given as goal
+
+abbrev pub invariant-loop-i : goal.invariant-loop-i
+invariant-loop-i l = (l.i ≤ 32) × («record» ≡ bytes_to (packed l.board l.side l.half) l.i)
+
+abbrev pub decreases-loop-i : goal.decreases-loop-i
+decreases-loop-i l = 32 - l.i

@@ -1,0 +1,18 @@
+use mathlib.Core.Path.{sym, ◌∙◌}
+use Prim.Native.Nat.{◌-◌}
+use native.Mathlib.Omega.{arith}
+use lib.ListN.{length}
+use borrow.Author.Rules.{rules}
+use Rattle.store_rows.proofs.Turn.{store_in}
+use Rattle.sift_form.specs.Forms.{made_of}
+use Rattle.store_sift.specs.Promises.{sift_store}
+use Rattle.store_sift.proofs.Turn.{Turn, turn_none, turn_less, turn_counts, turn_on, turn_close, turn_fits, turn_end}
+use Rattle.store_sift.proofs.take.Given as goal
+
+abbrev pub invariant-loop-at : goal.invariant-loop-at
+invariant-loop-at l =
+    Turn l.form (sift_store (made_of l.form) (store_in l.initial.held l.initial.loaded l.initial.refused) l.initial.piece l.chunk) l.chunk l.initial.made l.initial.rows l.piece l.made l.rows l.held l.loaded l.refused made-end rows-end l.at
+
+abbrev pub decreases-loop-at : goal.decreases-loop-at
+decreases-loop-at l =
+    length l.chunk - l.at

@@ -1,0 +1,12 @@
+use Rattle.std.proofs.Common.{◌≡◌, ℕ, ◌-◌, length, ap, ◌∙◌, arith, rules}
+use Rattle.store_text.specs.Board.{count_on}
+use Rattle.store_text.specs.Page.{square_shown, squares_shown}
+use Rattle.store_text.proofs.Laid.{by_text, Laying, laying_none, laying_room, laying_more, laying_all}
+use Rattle.store_text.proofs.Fits.{length_squares}
+use Rattle.store_text.proofs.page.squares.Given as goal
+
+abbrev pub invariant-loop-i : goal.invariant-loop-i
+invariant-loop-i l = Laying 64 (squares_shown l.form l.summary l.piece l.most) l.initial.out l.at l.out l.end l.i × (length l.out ≡ length l.initial.out)
+
+abbrev pub decreases-loop-i : goal.decreases-loop-i
+decreases-loop-i l = 64 - l.i

@@ -1,0 +1,13 @@
+use mathlib.Core.Path.{◌≡◌, refl, sym, ◌∙◌}
+use borrow.Author.Rules.{rules}
+use borrow.Author.Tests.{not-true, not-false}
+use lib.ListN.{length}
+use Rattle.text_in.specs.Text.{is_blank, without}
+use Rattle.text_in.proofs.Texts.{front_shorter, without_more, without_stop, without_none}
+use Rattle.text_in.proofs.inner.skip_blanks.Given as goal
+
+abbrev pub invariant-loop-t : goal.invariant-loop-t
+invariant-loop-t l = without is_blank l.s ≡ without is_blank l.t
+
+abbrev pub decreases-loop-t : goal.decreases-loop-t
+decreases-loop-t l = length l.t

@@ -1,0 +1,26 @@
+use mathlib.Core.Path.{◌≡◌, sym, ap, ◌∙◌}
+use mathlib.Core.List.{◌∷◌}
+use Prim.Native.Nat.{ℕ, ◌+◌, ◌*◌, ◌<◌}
+use native.Mathlib.Omega.{arith}
+use borrow.Author.Rules.{rules}
+use lib.IntN.{ℤ}
+use lib.Ieee.{Float}
+use lib.ListN.{length}
+use mathlib.Core.List.{List}
+use Rattle.bits.specs.Bitboard.{squares}
+use Rattle.bits.specs.Answers.{lowest}
+use Rattle.bits.proofs.Each.{next_at, next_done}
+use Rattle.trace_marks.specs.Marks.{group_of, mark_of}
+use Rattle.trace_marks.proofs.Marks.{mark_small, mark_none}
+use Rattle.trace_marks.proofs.Tested.{group_none}
+use Rattle.trace_marks.proofs.Walk as walk
+use Rattle.trace_double.specs.PrivateFrom.{entry_step, entries_from}
+use Rattle.trace_marks.proofs.Folds as folds
+use Rattle.trace_double.proofs.Folds.{nothing, from_0}
+use Rattle.trace_double.proofs.entries_added.Given as goal
+
+abbrev pub invariant-loop-group : goal.invariant-loop-group
+invariant-loop-group l = walk.Walk (after l.squares l.x l.entries l.start) 48 l.score l.rest
+
+abbrev pub decreases-loop-group : goal.decreases-loop-group
+decreases-loop-group l = length (squares l.rest)

@@ -1,0 +1,14 @@
+use mathlib.Core.Path.{◌≡◌, refl, ◌∙◌, ap}
+use Prim.Native.Nat.{ℕ, ◌≤◌, ◌*◌, ◌-◌}
+use native.Mathlib.Omega.{arith}
+use borrow.Author.Rules.{rules}
+use Rattle.laws.specs.Tests.{all_below}
+use Rattle.trace_list.specs.Form.{is_unused}
+use Rattle.trace_list.proofs.Tests.{padded_none, padded_more}
+use Rattle.trace_list.proofs.is_padded.Given as goal
+
+abbrev pub invariant-loop-j : goal.invariant-loop-j
+invariant-loop-j l = (3 * l.used ≤ l.j) × (l.j ≤ 192) × (l.good ≡ all_below l.j (is_unused l.used l.bytes))
+
+abbrev pub decreases-loop-j : goal.decreases-loop-j
+decreases-loop-j l = 192 - l.j

@@ -1,0 +1,13 @@
+use mathlib.Core.Path.{◌≡◌, ◌∙◌, ap}
+use Prim.Native.Nat.{ℕ, ◌≤◌, ◌-◌}
+use native.Mathlib.Omega.{arith}
+use Rattle.laws.specs.Tests.{all_below}
+use Rattle.trace_list.specs.Form.{least_at, comes_after}
+use Rattle.trace_list.proofs.Tests.{least_none, least_more, sorted_none, sorted_more}
+use Rattle.trace_list.proofs.is_sorted.Given as goal
+
+abbrev pub invariant-loop-i : goal.invariant-loop-i
+invariant-loop-i l = (l.i ≤ l.used) × (l.least ≡ least_at l.bytes l.i) × (l.good ≡ all_below l.i (comes_after l.bytes))
+
+abbrev pub decreases-loop-i : goal.decreases-loop-i
+decreases-loop-i l = l.used - l.i

@@ -1,0 +1,16 @@
+use mathlib.Core.Path.{◌≡◌, refl, ap, ◌∙◌}
+use Prim.Native.Nat.{ℕ, ◌≤◌, ◌-◌, ◌*◌}
+use native.Mathlib.Omega.{arith}
+use Rattle.trace_list.specs.Ones.{over}
+use Rattle.trace_list.specs.Form.{list_places}
+use Rattle.trace_list.proofs.Tests.{place_is}
+use Rattle.trace_list.proofs.There.{is_listed}
+use Rattle.trace_list.proofs.Folds.{fold_none, fold_more}
+use Rattle.trace_list_double.specs.Promises.{weighed}
+use Rattle.trace_list_double.proofs.all_weighed.Given as goal
+
+abbrev pub invariant-loop-i : goal.invariant-loop-i
+invariant-loop-i l = (l.i ≤ l.used) × (l.score ≡ over (weighed l.squares l.x) l.start (list_places l.bytes l.i))
+
+abbrev pub decreases-loop-i : goal.decreases-loop-i
+decreases-loop-i l = l.used - l.i

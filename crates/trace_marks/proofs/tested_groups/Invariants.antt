@@ -1,0 +1,20 @@
+use mathlib.Core.Path.{◌≡◌, sym, ap, subst, ◌∙◌}
+use Prim.Native.Nat.{ℕ, ◌*◌, ◌-◌, ◌^◌, ◌≤◌, ◌<◌}
+use native.Mathlib.Omega.{arith}
+use borrow.Author.Rules.{rules}
+use lib.Bits.{or_lt}
+use lib.Dec.{ltb}
+use mir.Syntax.{w32}
+use mir.Val.{of_z}
+use mir.ValLaws.{of_z-to_z}
+use Rattle.trace_marks.specs.Marks.{Held, together, group_of, mark_of, groups_of}
+use Rattle.trace_marks.proofs.Marks.{together_none, together_next, row_none, row_next}
+use Rattle.trace_marks.proofs.Tested.{tested, held_begin, held_more, group_lt}
+use Rattle.trace_marks.proofs.tested_groups.Given as goal
+
+abbrev pub invariant-loop-g : goal.invariant-loop-g
+invariant-loop-g l = (l.g ≤ 48) × (of_z w32 l.union ≡ together (group_of l.entries) l.g) × (l.groups ≡ groups_of l.entries l.g)
+    × Held l.entries 0 (16 * l.g) × (of_z w32 l.union < 2 ^ 32)
+
+abbrev pub decreases-loop-g : goal.decreases-loop-g
+decreases-loop-g l = 48 - l.g

@@ -1,0 +1,25 @@
+use mathlib.Core.Path.{◌≡◌, refl, sym, ap, ◌∙◌}
+use mathlib.Core.List.{[], ◌∷◌}
+use Prim.Native.Nat.{ℕ, suc, ◌+◌, ◌*◌, ◌^◌, ◌<◌, ◌≤◌}
+use native.Mathlib.Omega.{arith}
+use borrow.Author.Rules.{rules}
+use lib.ListN.{length}
+use Rattle.laws.specs.Sums.{counted}
+use Rattle.laws.proofs.Sums.{counted_none, counted_one}
+use Rattle.bits.specs.Bitboard.{has, how_many, squares}
+use Rattle.bits.specs.Answers.{lowest}
+use Rattle.bits.proofs.Counts.{many_le}
+use Rattle.bits.proofs.Squares.{squares_le}
+use Rattle.bits.proofs.Each.{next_at, next_done}
+use Rattle.attack.specs.Attacks.{attacks}
+use Rattle.trace_mobility.proofs.Sums.{attacked_counted}
+use Rattle.trace_mobility.proofs.inner.one_by_one.Given as goal
+
+abbrev pub invariant-loop-s : goal.invariant-loop-s
+invariant-loop-s l =
+    (l.rest < 2 ^ 64)
+    × (counted (reach l.kind l.color l.occupied) l.sum (squares l.rest) ≡ counted (reach l.kind l.color l.occupied) 0 (squares l.pieces))
+    × (l.sum + 64 * length (squares l.rest) ≤ 4096)
+
+abbrev pub decreases-loop-s : goal.decreases-loop-s
+decreases-loop-s l = length (squares l.rest)

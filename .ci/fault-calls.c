@@ -6,9 +6,9 @@ typedef unsigned long size;
 typedef long count;
 
 #if defined(__aarch64__)
-enum { READ = 63, WRITE = 64, CLOSE = 57 };
+enum { READ = 63, WRITE = 64, CLOSE = 57, FSYNC = 82, FDATASYNC = 83 };
 #else
-enum { READ = 0, WRITE = 1, CLOSE = 3 };
+enum { READ = 0, WRITE = 1, CLOSE = 3, FSYNC = 74, FDATASYNC = 75 };
 #endif
 enum { EINTR = 4, EIO = 5, ENOSPC = 28 };
 
@@ -73,3 +73,21 @@ int close(int fd)
     if (is("late") && fd == 1) return (int)fails(EIO);
     return (int)asked(CLOSE, fd, 0, 0);
 }
+
+/* A program that asks, before it ends, whether what it wrote is kept. */
+int fdatasync(int fd)
+{
+    if (is("late")) return (int)fails(EIO);
+    return (int)asked(FDATASYNC, fd, 0, 0);
+}
+
+int fsync(int fd)
+{
+    if (is("late")) return (int)fails(EIO);
+    return (int)asked(FSYNC, fd, 0, 0);
+}
+
+/* The names by which the C library's own headers may have them called. */
+count __read(int fd, void *to, size room) { return read(fd, to, room); }
+count __write(int fd, const void *from, size handed) { return write(fd, from, handed); }
+int __close(int fd) { return close(fd); }

@@ -58,7 +58,7 @@ function judge_links(line,    target, folder) {
     }
 }
 
-# ---- definitions: bits/specs/Answers, Promises: `gotOf`, `Gets`; the names go on to the next semicolon or cell
+# ---- definitions: bits/specs/Answers, Promises: `got_of`, `Gets`; the names go on to the next semicolon or cell
 
 function judge_definitions(line,    head, rest, i) {
     while (match(line, /[a-z_]+\/(specs|proofs)\/[A-Za-z\/]+(, [A-Z][A-Za-z\/]*)*: /)) {

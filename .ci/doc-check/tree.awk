@@ -7,10 +7,10 @@ function note_path(path) {
     while (sub(/\/[^\/]*$/, "", path)) there[path] = 1
 }
 
-function read_crates(    line) {
+function read_crates(    line, word) {
     while ((getline line < "crates.txt") > 0) {
         sub(/#.*/, "", line)
-        if (sub(/[ \t]*:.*/, "", line)) { gsub(/[ \t]/, "", line); is_crate[line] = 1 }
+        if (sub(/:.*/, "", line) && split(line, word, " ")) is_crate[word[1]] = 1
     }
     close("crates.txt")
     split("std check libc io os bytes", kit, " ")

@@ -190,10 +190,10 @@ function note_quoted(text,    word, n, i) {
     }
 }
 
-function read_crates(    line) {
+function read_crates(    line, word) {
     while ((getline line < "crates.txt") > 0) {
         sub(/#.*/, "", line)
-        if (sub(/[ \t]*:.*/, "", line)) { gsub(/[ \t]/, "", line); is_listed[line] = 1 }
+        if (sub(/:.*/, "", line) && split(line, word, " ")) is_listed[word[1]] = 1
     }
     close("crates.txt")
 }

@@ -147,8 +147,18 @@ function not_one(f) { return "its ensures is not one promise, a pub definition w
 
 function promise_named(in_crate, in_path, word,    item, m, j) {
     m = split(cited(in_crate, in_path, word), item, " ")
+    if (!m && in_crate in is_static) m = split(cited_below(in_path, word), item, " ")
     for (j = 1; j <= m; j++) if (is_promise(item[j])) return item[j]
     return 0
+}
+
+# The definition of another crate that an imported word stands for.
+function cited_below(in_path, word,    file) {
+    file = imported_from_module[in_path, word]
+    if (!sub(/^Rattle\./, "", file)) return ""
+    gsub(/\./, "/", file)
+    called = imported_as[in_path, word]
+    return defined["crates/" file ".antt", called]
 }
 
 # ---- a promise's definition: an equation for each thing that the function gives
@@ -247,8 +257,8 @@ function note_law(proof,    part, n, i, first_at, one, other, m, key, free, boun
 
 # ≡ is the library's, by one of the modules that hand it on, and × the language's.
 function has_library_symbols(file) {
-    return imported_from_module[file, "≡"] ~ /^(mathlib\.Core\.Path|Rattle\.std\.specs\.Prelude|Rattle\.std\.proofs\.Common)$/ && imported_as[file, "≡"] == "◌≡◌" &&
-        !((file, "×") in imported_as) && !((file, "◌≡◌") in declared) && !((file, "◌×◌") in declared)
+    return imported_from_module[file, "≡"] ~ /^(mathlib\.Core\.Path|Rattle\.std\.specs\.Prelude|Rattle\.std\.proofs\.Common)$/ &&
+        imported_as[file, "≡"] == "◌≡◌" && !((file, "×") in imported_as) && !((file, "◌≡◌") in declared) && !((file, "◌×◌") in declared)
 }
 
 function past_colon(text) { return substr(text, index(text, " : ") + 3) }

@@ -118,9 +118,33 @@ function judge(f,    name, short, promise) {
     short = short_name(f)
     if ((f, "requires") in has_clause) fault(name, short, 1, "has a requires clause")
     if (!((f, "ensures") in has_clause)) fault(name, short, 2, "has no ensures clause")
+    else if (crate_of[f] in is_static && hands_on(f, name, short)) return
     else promise = judge_promise(f, name, short)
     judge_row(f, name, short, promise, outputs)
     if (!is_tried(f, "")) fault(name, short, 6, "no must-fail edit touches it, or a definition that its promise cites")
+}
+
+# A function that a static library exports may be the one of its name in a crate below, for C: it promises what that one does, and what a promise
+# determines is told, tried and listed there.
+function hands_on(f, name, short,    other, n, i, wrong, from) {
+    wrong = read_ensures(f)
+    if (wrong != "" || crate_of[promise_item] == crate_of[f]) return 0
+    from = crate_of[promise_item]
+    n = split(named[from, "function", name_of[f]], other, " ")
+    if ((mentions[f] " ") ~ (" function/[^/ ]+/" name_of[f] " "))
+        for (i = 1; i <= n; i++) if (is_public(other[i]) && promise_of(other[i]) == promise_item) return 1
+    fault(name, short, 4, "it is not the function of its name in crate " from ", with the same promise")
+    return 1
+}
+
+function promise_of(f,    item, places) {
+    places = outputs
+    item = promise_item
+    if (read_ensures(f) != "") promise_item = 0
+    f = promise_item
+    promise_item = item
+    outputs = places
+    return f
 }
 
 # The promise, or 0: without one there is nothing to look for in Determined.antt.
@@ -144,10 +168,13 @@ function judge_rows(    r) {
     }
 }
 
-function read_crates(    line) {
+function read_crates(    line, word, n, i) {
     while ((getline line < "crates.txt") > 0) {
         sub(/#.*/, "", line)
-        if (sub(/[ \t]*:.*/, "", line)) { gsub(/[ \t]/, "", line); is_listed[line] = 1 }
+        if (!sub(/:.*/, "", line)) continue
+        n = split(line, word, " ")
+        is_listed[word[1]] = 1
+        for (i = 2; i <= n; i++) if (word[i] == "staticlib") is_static[word[1]] = 1
     }
     close("crates.txt")
 }

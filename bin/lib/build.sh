@@ -170,7 +170,7 @@ build() { # CRATE RESULT COMMAND..
         writable
         proved=0
         if [ "${taking:-no}" = no ] || ! is_marked "$result" "$file" "$made"; then
-            forget "$crate" "$result"
+            case ${taking:-no}$result in yestarget/*) ;; *) forget "$crate" "$result" ;; esac
             prove "$crate" "$@" || proved=1
         fi
         if [ "$made" != "$(made_of "$crate")" ]; then

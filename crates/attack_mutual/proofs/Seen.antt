@@ -32,7 +32,7 @@ sees k occ (q ∷ l) = go (eqb k q) (sees k occ l)
   where
     on : (o : Bool) → is_in k (through occ l) ≡ (is_in k l && clear occ (before k l))
         → is_in k (cond o [] (through occ l)) ≡ (is_in k l && (not o && clear occ (before k l)))
-    on true h = sym (Bool.and_false (is_in k l))
+    on true h = sym (Bool.and-false (is_in k l))
     on false h = h
 
     go : (t : Bool) → is_in k (through occ l) ≡ (is_in k l && clear occ (before k l))

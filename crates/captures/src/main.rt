@@ -57,7 +57,13 @@ fn write_answers(rt: &HostRuntime, mode: Mode, chunk: &mut [u8], out: &mut [u8])
 }
 
 // All reads, and the rows of the questions that end in them.
-fn read_to_end(rt: &HostRuntime, mode: Mode, line: &mut [u8], chunk: &mut [u8], out: &mut [u8]) -> Turn {
+fn read_to_end(
+    rt: &HostRuntime,
+    mode: Mode,
+    line: &mut [u8],
+    chunk: &mut [u8],
+    out: &mut [u8],
+) -> Turn {
     let mut state = ledger_feed::start();
     let mut turns: u64 = 0;
     while stream::may_go_on(turns) {
@@ -79,15 +85,34 @@ fn read_to_end(rt: &HostRuntime, mode: Mode, line: &mut [u8], chunk: &mut [u8], 
 }
 
 // One read, and the rows of the questions that end in it.
-fn read_some(rt: &HostRuntime, mode: Mode, state: SoFar, line: &mut [u8], chunk: &mut [u8], out: &mut [u8]) -> Turn {
-    match stream_io::read(rt.stderr(), &mut rt.stdin(), chunk, b"captures: standard input") {
+fn read_some(
+    rt: &HostRuntime,
+    mode: Mode,
+    state: SoFar,
+    line: &mut [u8],
+    chunk: &mut [u8],
+    out: &mut [u8],
+) -> Turn {
+    match stream_io::read(
+        rt.stderr(),
+        &mut rt.stdin(),
+        chunk,
+        b"captures: standard input",
+    ) {
         Taken::Bytes(n) => feed(rt, mode, state, line, &chunk[..n], out),
         Taken::End => Turn::End,
         Taken::Failed => Turn::Stopped,
     }
 }
 
-fn feed(rt: &HostRuntime, mode: Mode, state: SoFar, line: &mut [u8], chunk: &[u8], out: &mut [u8]) -> Turn {
+fn feed(
+    rt: &HostRuntime,
+    mode: Mode,
+    state: SoFar,
+    line: &mut [u8],
+    chunk: &[u8],
+    out: &mut [u8],
+) -> Turn {
     match captures_feed::feed(mode, state, line, chunk, out) {
         Fed::Rows(next, wrote) => {
             if write(rt, &out[..wrote]) {
@@ -117,7 +142,12 @@ fn finish(rt: &HostRuntime, mode: Mode, state: SoFar, line: &[u8], out: &mut [u8
 }
 
 fn write(rt: &HostRuntime, rows: &[u8]) -> bool {
-    stream_io::write_all(rt.stderr(), &mut rt.stdout(), rows, b"captures: standard output")
+    stream_io::write_all(
+        rt.stderr(),
+        &mut rt.stdout(),
+        rows,
+        b"captures: standard output",
+    )
 }
 
 // Nothing more is written.

@@ -62,7 +62,12 @@ fn read_to_end(rt: &HostRuntime, line: &mut [u8], chunk: &mut [u8]) -> Turn {
 
 // One read, and the lines that end in it.
 fn read_some(rt: &HostRuntime, gathered: Gathered, line: &mut [u8], chunk: &mut [u8]) -> Turn {
-    match stream_io::read(rt.stderr(), &mut rt.stdin(), chunk, b"error: standard input") {
+    match stream_io::read(
+        rt.stderr(),
+        &mut rt.stdin(),
+        chunk,
+        b"error: standard input",
+    ) {
         Taken::Bytes(n) => feed(rt, gathered, line, &chunk[..n]),
         Taken::End => Turn::End,
         Taken::Failed => Turn::Stopped,
@@ -96,7 +101,12 @@ fn stop_refused(rt: &HostRuntime, refusal: Refusal) -> bool {
 }
 
 fn write(rt: &HostRuntime, row: &[u8]) -> bool {
-    stream_io::write_all(rt.stderr(), &mut rt.stdout(), row, b"error: standard output")
+    stream_io::write_all(
+        rt.stderr(),
+        &mut rt.stdout(),
+        row,
+        b"error: standard output",
+    )
 }
 
 // Nothing more is written.

@@ -36,7 +36,13 @@ fn write_join(rt: &HostRuntime, chunk: &mut [u8], out: &mut [u8]) -> bool {
     finish(rt, state, out)
 }
 
-fn read_parts(rt: &HostRuntime, count: usize, row: &mut [u8], chunk: &mut [u8], out: &mut [u8]) -> Turn {
+fn read_parts(
+    rt: &HostRuntime,
+    count: usize,
+    row: &mut [u8],
+    chunk: &mut [u8],
+    out: &mut [u8],
+) -> Turn {
     let mut state = ledger_join::start();
     let mut i = 1;
     while i < count {
@@ -56,7 +62,14 @@ fn read_parts(rt: &HostRuntime, count: usize, row: &mut [u8], chunk: &mut [u8], 
     Turn::More(state)
 }
 
-fn read_part(rt: &HostRuntime, i: usize, state: Joining, row: &mut [u8], chunk: &mut [u8], out: &mut [u8]) -> Turn {
+fn read_part(
+    rt: &HostRuntime,
+    i: usize,
+    state: Joining,
+    row: &mut [u8],
+    chunk: &mut [u8],
+    out: &mut [u8],
+) -> Turn {
     let mut name = io::buffer();
     match stream_io::open_argument(rt, rt.stderr(), i, &mut name) {
         Opened::File(mut file, n) => {
@@ -167,7 +180,12 @@ fn finish(rt: &HostRuntime, state: Joining, out: &mut [u8]) -> bool {
 }
 
 fn write(rt: &HostRuntime, rows: &[u8]) -> bool {
-    stream_io::write_all(rt.stderr(), &mut rt.stdout(), rows, b"join: standard output")
+    stream_io::write_all(
+        rt.stderr(),
+        &mut rt.stdout(),
+        rows,
+        b"join: standard output",
+    )
 }
 
 // Which row of which part is none.

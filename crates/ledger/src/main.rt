@@ -45,7 +45,13 @@ fn write_ledger(rt: &HostRuntime, chunk: &mut [u8], out: &mut [u8]) -> bool {
 }
 
 // All reads, and then the last rows: whether all of them are written.
-fn write_rows(rt: &HostRuntime, profile: Profile, files: usize, chunk: &mut [u8], out: &mut [u8]) -> bool {
+fn write_rows(
+    rt: &HostRuntime,
+    profile: Profile,
+    files: usize,
+    chunk: &mut [u8],
+    out: &mut [u8],
+) -> bool {
     let mut line = [0u8; line_cut::LINE];
     let read = read_all(rt, profile, files, &mut line, chunk, out);
     let Turn::More(state) = read else {
@@ -130,7 +136,13 @@ fn read_file(
 }
 
 // A file's end ends its last line.
-fn end_file(rt: &HostRuntime, profile: Profile, read: Turn, line: &mut [u8], out: &mut [u8]) -> Turn {
+fn end_file(
+    rt: &HostRuntime,
+    profile: Profile,
+    read: Turn,
+    line: &mut [u8],
+    out: &mut [u8],
+) -> Turn {
     let Turn::More(state) = read else {
         return Turn::Stopped;
     };
@@ -190,7 +202,14 @@ fn read_some<R: Read>(
     }
 }
 
-fn feed(rt: &HostRuntime, profile: Profile, state: SoFar, line: &mut [u8], chunk: &[u8], out: &mut [u8]) -> Turn {
+fn feed(
+    rt: &HostRuntime,
+    profile: Profile,
+    state: SoFar,
+    line: &mut [u8],
+    chunk: &[u8],
+    out: &mut [u8],
+) -> Turn {
     match ledger_feed::feed(profile, state, line, chunk, out) {
         Fed::Rows(next, wrote) => {
             if write(rt, &out[..wrote]) {
@@ -220,7 +239,12 @@ fn finish(rt: &HostRuntime, profile: Profile, state: SoFar, line: &[u8], out: &m
 }
 
 fn write(rt: &HostRuntime, rows: &[u8]) -> bool {
-    stream_io::write_all(rt.stderr(), &mut rt.stdout(), rows, b"ledger: standard output")
+    stream_io::write_all(
+        rt.stderr(),
+        &mut rt.stdout(),
+        rows,
+        b"ledger: standard output",
+    )
 }
 
 // Nothing more is written.

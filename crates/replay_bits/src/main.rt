@@ -16,10 +16,16 @@ const ROOM: usize = 0x20000;
 
 fn main(rt: HostRuntime) -> io::Result<()> {
     let mut questions = [0u8; ROOM];
-    let n = stream_io::read_full(rt.stderr(), &mut rt.stdin(), &mut questions, b"replay_bits: standard input");
+    let n = stream_io::read_full(
+        rt.stderr(),
+        &mut rt.stdin(),
+        &mut questions,
+        b"replay_bits: standard input",
+    );
     answer_all(&rt, &questions[..n])
 }
 
+#[tactic(auto, using(text_in::proofs::Parts::past_found, text_in::proofs::Parts::left_shorter))]
 fn answer_all(rt: &impl Print, questions: &[u8]) -> io::Result<()> {
     let mut rest = questions;
     while rest.len() > 0 {

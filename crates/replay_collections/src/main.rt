@@ -61,7 +61,13 @@ fn write_all(rt: &HostRuntime, chunk: &mut [u8]) -> io::Result<()> {
     Ok(())
 }
 
-fn each(rt: &impl Print, state: Both, line: &mut [u8], other: &mut [u8], bytes: &[u8]) -> io::Result<Both> {
+fn each(
+    rt: &impl Print,
+    state: Both,
+    line: &mut [u8],
+    other: &mut [u8],
+    bytes: &[u8],
+) -> io::Result<Both> {
     let mut now = state;
     let mut i = 0;
     while i < bytes.len() {
@@ -71,7 +77,13 @@ fn each(rt: &impl Print, state: Both, line: &mut [u8], other: &mut [u8], bytes: 
     Ok(now)
 }
 
-fn one(rt: &impl Print, state: Both, line: &mut [u8], other: &mut [u8], byte: u8) -> io::Result<Both> {
+fn one(
+    rt: &impl Print,
+    state: Both,
+    line: &mut [u8],
+    other: &mut [u8],
+    byte: u8,
+) -> io::Result<Both> {
     if byte == RS {
         finish(rt, state.ledger, line)?;
         write_error(rt, state.error, other)?;
@@ -96,7 +108,13 @@ fn spaces(rt: &impl Print, state: Both, line: &mut [u8], other: &mut [u8]) -> io
     Ok(now)
 }
 
-fn feed(rt: &impl Print, state: Both, line: &mut [u8], other: &mut [u8], chunk: &[u8]) -> io::Result<Both> {
+fn feed(
+    rt: &impl Print,
+    state: Both,
+    line: &mut [u8],
+    other: &mut [u8],
+    chunk: &[u8],
+) -> io::Result<Both> {
     let ledger = feed_ledger(rt, state.ledger, line, chunk)?;
     let error = feed_error(state.error, other, chunk);
     Ok(Both { ledger, error })

@@ -19,7 +19,12 @@ const ROOM: usize = 0x18000;
 
 fn main(rt: HostRuntime) -> io::Result<()> {
     let mut questions = [0u8; ROOM];
-    let n = stream_io::read_full(rt.stderr(), &mut rt.stdin(), &mut questions, b"replay_fits: standard input");
+    let n = stream_io::read_full(
+        rt.stderr(),
+        &mut rt.stdin(),
+        &mut questions,
+        b"replay_fits: standard input",
+    );
     let mut sums = [0.0f64; Weight::COUNT];
     let mut first = [0.0f64; Weight::COUNT];
     let mut second = [0.0f64; Weight::COUNT];
@@ -35,6 +40,7 @@ fn main(rt: HostRuntime) -> io::Result<()> {
 }
 
 // The fit's memory is lent: the sums of the gradient, both moments and the weights.
+#[tactic(auto, using(text_in::proofs::Parts::past_found, text_in::proofs::Parts::left_shorter))]
 fn answer_all(
     rt: &impl Print,
     questions: &[u8],
@@ -45,7 +51,10 @@ fn answer_all(
 ) -> io::Result<()> {
     let mut rest = questions;
     while rest.len() > 0 {
-        reply::print(rt, answer(text_before(rest, b'\n'), sums, first, second, weights))?;
+        reply::print(
+            rt,
+            answer(text_before(rest, b'\n'), sums, first, second, weights),
+        )?;
         let next = past(rest, b'\n');
         rest = &rest[next..];
     }

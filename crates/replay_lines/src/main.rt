@@ -19,11 +19,17 @@ const ROOM: usize = 0x40000;
 
 fn main(rt: HostRuntime) -> io::Result<()> {
     let mut collection = [0u8; ROOM];
-    let n = stream_io::read_full(rt.stderr(), &mut rt.stdin(), &mut collection, b"replay_lines: standard input");
+    let n = stream_io::read_full(
+        rt.stderr(),
+        &mut rt.stdin(),
+        &mut collection,
+        b"replay_lines: standard input",
+    );
     read_all(&rt, &collection[..n])
 }
 
 // A line ends before LF or the end of the input.
+#[tactic(auto, using(text_in::proofs::Parts::past_found, text_in::proofs::Parts::left_shorter))]
 fn read_all(rt: &impl Print, collection: &[u8]) -> io::Result<()> {
     let mut rest = collection;
     while rest.len() > 0 {

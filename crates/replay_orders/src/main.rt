@@ -20,10 +20,16 @@ const ROOM: usize = 0x40000;
 
 fn main(rt: HostRuntime) -> io::Result<()> {
     let mut questions = [0u8; ROOM];
-    let n = stream_io::read_full(rt.stderr(), &mut rt.stdin(), &mut questions, b"replay_orders: standard input");
+    let n = stream_io::read_full(
+        rt.stderr(),
+        &mut rt.stdin(),
+        &mut questions,
+        b"replay_orders: standard input",
+    );
     answer_all(&rt, &questions[..n])
 }
 
+#[tactic(auto, using(text_in::proofs::Parts::past_found, text_in::proofs::Parts::left_shorter))]
 fn answer_all(rt: &impl Print, questions: &[u8]) -> io::Result<()> {
     let mut rest = questions;
     while rest.len() > 0 {
@@ -84,18 +90,16 @@ fn exchanged(
         return Ok(worth(exchange::see(Mode::Second, bitboards, board, state, order, from, to)));
     }
     if is(word, b"captures") {
-        return told(rt, exchange_told::captures(Mode::First, bitboards, board, state, order, from, to));
+        return told(
+            rt,
+            exchange_told::captures(Mode::First, bitboards, board, state, order, from, to),
+        );
     }
     if is(word, b"captures_second") {
-        return told(rt, exchange_told::captures(
-            Mode::Second,
-            bitboards,
-            board,
-            state,
-            order,
-            from,
-            to,
-        ));
+        return told(
+            rt,
+            exchange_told::captures(Mode::Second, bitboards, board, state, order, from, to),
+        );
     }
     Ok(Reply::Nothing)
 }

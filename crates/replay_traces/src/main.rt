@@ -22,10 +22,16 @@ const ROOM: usize = 0x30000;
 
 fn main(rt: HostRuntime) -> io::Result<()> {
     let mut questions = [0u8; ROOM];
-    let n = stream_io::read_full(rt.stderr(), &mut rt.stdin(), &mut questions, b"replay_traces: standard input");
+    let n = stream_io::read_full(
+        rt.stderr(),
+        &mut rt.stdin(),
+        &mut questions,
+        b"replay_traces: standard input",
+    );
     answer_all(&rt, &questions[..n])
 }
 
+#[tactic(auto, using(text_in::proofs::Parts::past_found, text_in::proofs::Parts::left_shorter))]
 fn answer_all(rt: &impl Print, questions: &[u8]) -> io::Result<()> {
     let mut rest = questions;
     while rest.len() > 0 {
@@ -48,19 +54,21 @@ fn answer(rt: &impl Print, question: &[u8]) -> io::Result<()> {
     )
 }
 
-fn of_word(rt: &impl Print, asked: &[u8], n: [u64; NUMBERS], text: &[u8], as_list: bool) -> io::Result<()> {
+fn of_word(
+    rt: &impl Print,
+    asked: &[u8],
+    n: [u64; NUMBERS],
+    text: &[u8],
+    as_list: bool,
+) -> io::Result<()> {
     if is(asked, b"wild") {
         return prints::doubled(rt, of_seed(n[2], seeds::PLACES, 0, n[0], n[1], as_list));
     }
     if is(asked, b"odd") {
-        return prints::doubled(rt, of_seed(
-            n[4],
-            n[0] as usize,
-            seeds::value(n[1]),
-            n[2],
-            n[3],
-            as_list,
-        ));
+        return prints::doubled(
+            rt,
+            of_seed(n[4], n[0] as usize, seeds::value(n[1]), n[2], n[3], as_list),
+        );
     }
     of_text(rt, asked, n[0], n[1], text, as_list)
 }
@@ -76,7 +84,14 @@ fn bare(word: &[u8]) -> &[u8] {
     word
 }
 
-fn of_text(rt: &impl Print, asked: &[u8], kind: u64, seed: u64, text: &[u8], as_list: bool) -> io::Result<()> {
+fn of_text(
+    rt: &impl Print,
+    asked: &[u8],
+    kind: u64,
+    seed: u64,
+    text: &[u8],
+    as_list: bool,
+) -> io::Result<()> {
     if as_list {
         return by_list(rt, asked, kind, seed, text);
     }
@@ -125,7 +140,14 @@ fn of_position(rt: &impl Print, word: &[u8], kind: u64, seed: u64, text: &[u8]) 
     print(rt, word, traced.trace, &entries, kind, seed)
 }
 
-fn print(rt: &impl Print, word: &[u8], t: Trace, entries: &[i32], kind: u64, seed: u64) -> io::Result<()> {
+fn print(
+    rt: &impl Print,
+    word: &[u8],
+    t: Trace,
+    entries: &[i32],
+    kind: u64,
+    seed: u64,
+) -> io::Result<()> {
     if is(word, b"trace") {
         return prints::trace(rt, t, entries);
     }
@@ -143,7 +165,15 @@ fn by_list(rt: &impl Print, word: &[u8], kind: u64, seed: u64, text: &[u8]) -> i
     print_list(rt, word, computed.trace, computed.used, &bytes, kind, seed)
 }
 
-fn print_list(rt: &impl Print, word: &[u8], t: Trace, used: u8, bytes: &[u8; BYTES], kind: u64, seed: u64) -> io::Result<()> {
+fn print_list(
+    rt: &impl Print,
+    word: &[u8],
+    t: Trace,
+    used: u8,
+    bytes: &[u8; BYTES],
+    kind: u64,
+    seed: u64,
+) -> io::Result<()> {
     if is(word, b"trace") {
         return print_flat(rt, t, used, bytes);
     }

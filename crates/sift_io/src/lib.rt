@@ -50,7 +50,9 @@ fn sift(
     errors: &[u8],
 ) -> bool {
     let mut line = [0u8; line_cut::LINE];
-    let read = read_all(rt, form, &mut line, chunk, made, rows, input, output, errors);
+    let read = read_all(
+        rt, form, &mut line, chunk, made, rows, input, output, errors,
+    );
     let Turn::More(state) = read else {
         return false;
     };
@@ -113,7 +115,9 @@ fn read_to_end(
     let mut turns: u64 = 0;
     while stream::may_go_on(turns) {
         turns += 1;
-        match read_some(rt, state, form, line, chunk, made, rows, input, output, errors) {
+        match read_some(
+            rt, state, form, line, chunk, made, rows, input, output, errors,
+        ) {
             Turn::More(next) => {
                 state = next;
             }
@@ -143,7 +147,17 @@ fn read_some(
     errors: &[u8],
 ) -> Turn {
     match stream_io::read(rt.stderr(), &mut rt.stdin(), chunk, input) {
-        Taken::Bytes(n) => feed(rt, state, form, line, &chunk[..n], made, rows, output, errors),
+        Taken::Bytes(n) => feed(
+            rt,
+            state,
+            form,
+            line,
+            &chunk[..n],
+            made,
+            rows,
+            output,
+            errors,
+        ),
         Taken::End => Turn::End,
         Taken::Failed => Turn::Stopped,
     }

@@ -59,15 +59,32 @@ fn read_to_end(rt: &HostRuntime, piece: &mut [u8], chunk: &mut [u8], out: &mut [
 }
 
 // One read, and the rows of the pieces that end in it.
-fn read_some(rt: &HostRuntime, state: StoreSoFar, piece: &mut [u8], chunk: &mut [u8], out: &mut [u8]) -> Turn {
-    match stream_io::read(rt.stderr(), &mut rt.stdin(), chunk, b"store: standard input") {
+fn read_some(
+    rt: &HostRuntime,
+    state: StoreSoFar,
+    piece: &mut [u8],
+    chunk: &mut [u8],
+    out: &mut [u8],
+) -> Turn {
+    match stream_io::read(
+        rt.stderr(),
+        &mut rt.stdin(),
+        chunk,
+        b"store: standard input",
+    ) {
         Taken::Bytes(n) => feed(rt, state, piece, &chunk[..n], out),
         Taken::End => Turn::End,
         Taken::Failed => Turn::Stopped,
     }
 }
 
-fn feed(rt: &HostRuntime, state: StoreSoFar, piece: &mut [u8], chunk: &[u8], out: &mut [u8]) -> Turn {
+fn feed(
+    rt: &HostRuntime,
+    state: StoreSoFar,
+    piece: &mut [u8],
+    chunk: &[u8],
+    out: &mut [u8],
+) -> Turn {
     match store_rows::feed(state, piece, chunk, out) {
         StoreFed::Rows(next, wrote) => {
             if write(rt, &out[..wrote]) {
@@ -97,7 +114,12 @@ fn finish(rt: &HostRuntime, state: StoreSoFar, out: &mut [u8]) -> bool {
 }
 
 fn write(rt: &HostRuntime, rows: &[u8]) -> bool {
-    stream_io::write_all(rt.stderr(), &mut rt.stdout(), rows, b"store: standard output")
+    stream_io::write_all(
+        rt.stderr(),
+        &mut rt.stdout(),
+        rows,
+        b"store: standard output",
+    )
 }
 
 // Nothing more is written.

@@ -1,10 +1,13 @@
 // The reads and writes that the programs share: what std does with a file or a standard stream, and what crate stream decides of it.
 //
-// What a call reads or writes no promise can say, so these functions are few and thin. Each reason goes to standard error, as
-// `program: what failed: why`.
+// Which bytes the system gives and keeps no promise can say, so these functions are few and thin; of a reader and a writer whose bytes are
+// known, as a buffer's, the promises do. Each reason goes to standard error, as `program: what failed: why`.
 #![tactic(auto)]
 
+ghost use Rattle.std.specs.Prelude.{◌≡◌, ◌^◌, ◌<◌, ◌≤◌, length, take};
+ghost use Rattle.std.specs.Io.KnownBytes.{Consumes};
 ghost use Rattle.stream_io.specs.Bounds.{CopiesWithin, OpensWithin, PutsNothing, ReadsWithin, WritesNothing};
+ghost use Rattle.stream_io.specs.Known.{count_said, IsBroken, Puts, ReadCame, Takes, WentWithin, WriteCame, Writes};
 
 use std::env::FillError;
 use std::fs;
@@ -58,13 +61,14 @@ enum Put {
 
 // Reads once, and again where a signal broke it off.
 pub fn read<R: Read>(errors: Stderr, from: &mut R, buf: &mut [u8], what: &[u8]) -> Taken
-    ensures { ReadsWithin buf.old what.now buf.new result }
+    ensures within { ReadsWithin buf.old what.now buf.new result }
+    ensures bytes { length buf.old < 2 ^ 63 → Takes (R.remaining from.old) (R.remaining from.new) buf.new result }
 {
     let mut turns: u64 = 0;
     while stream::may_go_on(turns) {
         turns += 1;
         let got = from.read(buf);
-        match stream::Read::of(count(&got), number(&got), buf.len()) {
+        match came(&got, buf.len()) {
             stream::Read::Bytes(n) => {
                 return Taken::Bytes(n);
             }
@@ -87,8 +91,10 @@ pub fn read<R: Read>(errors: Stderr, from: &mut R, buf: &mut [u8], what: &[u8]) 
 }
 
 // Reads until the buffer is full, the input ends, or a read fails, whose reason was said: so many bytes are at the start of the buffer.
+#[tactic(auto, using(crate::proofs::Written::filled))]
 pub fn read_full<R: Read>(errors: Stderr, from: &mut R, buf: &mut [u8], what: &[u8]) -> usize
-    ensures { CopiesWithin buf.new result }
+    ensures within { CopiesWithin buf.new result }
+    ensures bytes { length buf.old < 2 ^ 63 → Consumes (R.remaining from.old) (R.remaining from.new) (take result buf.new) }
 {
     let mut done = 0;
     let mut turns: u64 = 0;
@@ -148,11 +154,19 @@ pub fn open_argument<R: Files + Env>(
             }
         },
         Err(FillError::NotPresent) => {
-            fail(errors, b"the name of a file", &Error::from_raw_os_error(EINVAL));
+            fail(
+                errors,
+                b"the name of a file",
+                &Error::from_raw_os_error(EINVAL),
+            );
             Opened::Failed
         }
         Err(FillError::TooLong) => {
-            fail(errors, b"the name of a file", &Error::from_raw_os_error(ENAMETOOLONG));
+            fail(
+                errors,
+                b"the name of a file",
+                &Error::from_raw_os_error(ENAMETOOLONG),
+            );
             Opened::Failed
         }
     }
@@ -171,7 +185,8 @@ pub fn close<F: Drop>(_file: F) {}
 
 // Writes all of it, or says why not.
 pub fn write_all<W: Write>(errors: Stderr, to: &mut W, bytes: &[u8], what: &[u8]) -> bool
-    ensures { WritesNothing bytes.now what.now result }
+    ensures empty { WritesNothing bytes.now what.now result }
+    ensures bytes { length bytes.now < 2 ^ 63 → Writes (W.contents to.old) (W.contents to.new) bytes.now result }
 {
     match put_all(to, bytes) {
         Put::Whole => true,
@@ -191,15 +206,17 @@ pub fn write_all<W: Write>(errors: Stderr, to: &mut W, bytes: &[u8], what: &[u8]
 }
 
 // A write may take a part: the next goes on behind it.
+#[tactic(auto, using(crate::proofs::Written::written))]
 fn put_all<W: Write>(to: &mut W, bytes: &[u8]) -> Put
-    ensures { PutsNothing bytes.now result }
+    ensures empty { PutsNothing bytes.now result }
+    ensures bytes { length bytes.now < 2 ^ 63 → Puts (W.contents to.old) (W.contents to.new) bytes.now result }
 {
     let mut done = 0;
     let mut turns: u64 = 0;
     while stream::more(bytes.len(), done, turns) {
         turns += 1;
         let put = to.write(&bytes[done..]);
-        match stream::Write::of(count(&put), number(&put), bytes.len(), done) {
+        match went(&put, bytes.len(), done) {
             stream::Write::To(next) => {
                 done = next;
             }
@@ -217,15 +234,33 @@ fn put_all<W: Write>(to: &mut W, bytes: &[u8]) -> Put
     Put::TooMany
 }
 
-fn failed(put: &Result<usize>) -> Put {
+fn failed(put: &Result<usize>) -> Put
+    ensures { IsBroken result }
+{
     match *put {
         Ok(_) => Put::Nothing,
         Err(error) => Put::Failed(error),
     }
 }
 
+// What a read came to, and what a write, by what std answers.
+fn came(got: &Result<usize>, room: usize) -> stream::Read
+    ensures { ReadCame got.now room result }
+{
+    stream::Read::of(count(got), number(got), room)
+}
+
+fn went(put: &Result<usize>, size: usize, done: usize) -> stream::Write
+    ensures came { WriteCame put.now size done result }
+    ensures within { done ≤ size → WentWithin size result }
+{
+    stream::Write::of(count(put), number(put), size, done)
+}
+
 // A call's answer as the system gives it: the count, and below 0 where the call failed.
-fn count(answer: &Result<usize>) -> isize {
+fn count(answer: &Result<usize>) -> isize
+    ensures { result ≡ count_said answer.now }
+{
     match *answer {
         Ok(n) => match isize::try_from(n) {
             Ok(count) => count,
@@ -243,6 +278,14 @@ fn number(answer: &Result<usize>) -> i32 {
     }
 }
 
+// A call that gives no count, as the system answers it.
+fn status(answer: &Result<()>) -> i32 {
+    match *answer {
+        Ok(()) => 0,
+        Err(_) => -1,
+    }
+}
+
 // On standard error, whether or not anyone hears it.
 pub fn say(errors: Stderr, what: &[u8], reason: &[u8]) {
     let mut to = errors;
@@ -250,7 +293,7 @@ pub fn say(errors: Stderr, what: &[u8], reason: &[u8]) {
     put_all(&mut to, reason);
 }
 
-fn fail_call(errors: Stderr, what: &[u8], answer: &Result<usize>) {
+fn fail_call<T>(errors: Stderr, what: &[u8], answer: &Result<T>) {
     if let Err(error) = answer {
         fail(errors, what, error);
     }
@@ -283,8 +326,9 @@ fn reason(room: &[u8], n: u64) -> &[u8] {
 // The last thing that a program does, and only where its last row was written: standard output is settled, since a disk may tell only
 // then that a write was lost, and `whole` goes to descriptor 3.
 pub fn say_whole<R: Files>(rt: &R, output: Stdout, errors: Stderr, what: &[u8]) {
-    if let Err(error) = settle(rt, output) {
-        fail(errors, what, &error);
+    let settled = settle(rt, output);
+    if stream::failed(status(&settled)) {
+        fail_call(errors, what, &settled);
         return;
     }
     for _ in 0..TIMES {

@@ -63,7 +63,14 @@ fn show_file(rt: &HostRuntime, form: Form, i: usize, chunk: &mut [u8], out: &mut
 }
 
 // All reads, and then the text.
-fn show_store<R: Read>(rt: &HostRuntime, form: Form, from: &mut R, what: &[u8], chunk: &mut [u8], out: &mut [u8]) -> bool {
+fn show_store<R: Read>(
+    rt: &HostRuntime,
+    form: Form,
+    from: &mut R,
+    what: &[u8],
+    chunk: &mut [u8],
+    out: &mut [u8],
+) -> bool {
     let mut piece = [0u8; RECORD];
     let mut summary = [0u64; SUMMARY];
     let read = read_to_end(rt, from, what, &mut piece, chunk, &mut summary);
@@ -120,7 +127,13 @@ fn read_some<R: Read>(
     }
 }
 
-fn feed(rt: &HostRuntime, state: GatheredSoFar, piece: &mut [u8], chunk: &[u8], summary: &mut [u64]) -> Turn {
+fn feed(
+    rt: &HostRuntime,
+    state: GatheredSoFar,
+    piece: &mut [u8],
+    chunk: &[u8],
+    summary: &mut [u64],
+) -> Turn {
     match store_gather::feed(state, piece, chunk, summary) {
         Gathering::More(next) => Turn::More(next),
         Gathering::Refused(_) => {
@@ -134,10 +147,20 @@ fn feed(rt: &HostRuntime, state: GatheredSoFar, piece: &mut [u8], chunk: &[u8], 
 fn show(rt: &HostRuntime, form: Form, first: First, summary: &[u64], out: &mut [u8]) -> bool {
     match store_text::show(form, first, summary, out) {
         Shown::Page(n) => {
-            stream_io::write_all(rt.stderr(), &mut rt.stdout(), &out[..n], b"summary: standard output")
+            stream_io::write_all(
+                rt.stderr(),
+                &mut rt.stdout(),
+                &out[..n],
+                b"summary: standard output",
+            )
         }
         Shown::Row(n) => {
-            stream_io::write_all(rt.stderr(), &mut rt.stderr(), &out[..n], b"summary: standard error");
+            stream_io::write_all(
+                rt.stderr(),
+                &mut rt.stderr(),
+                &out[..n],
+                b"summary: standard error",
+            );
             false
         }
         Shown::Refused(_) => stop(rt, b": too little room for the text\n"),

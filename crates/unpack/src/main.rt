@@ -62,7 +62,13 @@ fn unpack(rt: &HostRuntime, chunk: &mut [u8], lines: &mut [u8], rows: &mut [u8])
 }
 
 // All reads, and the lines of the records that end in them.
-fn read_to_end(rt: &HostRuntime, piece: &mut [u8], chunk: &mut [u8], lines: &mut [u8], rows: &mut [u8]) -> Turn {
+fn read_to_end(
+    rt: &HostRuntime,
+    piece: &mut [u8],
+    chunk: &mut [u8],
+    lines: &mut [u8],
+    rows: &mut [u8],
+) -> Turn {
     let mut state = store_rows::start();
     let mut turns: u64 = 0;
     while stream::may_go_on(turns) {
@@ -92,7 +98,12 @@ fn read_some(
     lines: &mut [u8],
     rows: &mut [u8],
 ) -> Turn {
-    match stream_io::read(rt.stderr(), &mut rt.stdin(), chunk, b"unpack: standard input") {
+    match stream_io::read(
+        rt.stderr(),
+        &mut rt.stdin(),
+        chunk,
+        b"unpack: standard input",
+    ) {
         Taken::Bytes(n) => feed(rt, state, piece, &chunk[..n], lines, rows),
         Taken::End => Turn::End,
         Taken::Failed => Turn::Stopped,
@@ -138,14 +149,24 @@ fn finish(rt: &HostRuntime, state: StoreSoFar, rows: &mut [u8]) -> bool {
 
 // The lines on standard output, and then the rows on standard error.
 fn write(rt: &HostRuntime, lines: &[u8], rows: &[u8]) -> bool {
-    if !stream_io::write_all(rt.stderr(), &mut rt.stdout(), lines, b"unpack: standard output") {
+    if !stream_io::write_all(
+        rt.stderr(),
+        &mut rt.stdout(),
+        lines,
+        b"unpack: standard output",
+    ) {
         return false;
     }
     tell(rt, rows)
 }
 
 fn tell(rt: &HostRuntime, rows: &[u8]) -> bool {
-    stream_io::write_all(rt.stderr(), &mut rt.stderr(), rows, b"unpack: standard error")
+    stream_io::write_all(
+        rt.stderr(),
+        &mut rt.stderr(),
+        rows,
+        b"unpack: standard error",
+    )
 }
 
 // Nothing more is written.

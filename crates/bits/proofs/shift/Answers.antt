@@ -22,7 +22,6 @@ down_is b n hb h = simp (lt-ltb (suc n) 64 h, shifted_down b (suc n) hb)
 pub returns-else-n-gt-FARTHEST : goal.returns-else-n-gt-FARTHEST
 returns-else-n-gt-FARTHEST c =
     let upOf : Up w8 c.args.s = up w8 c.args.s c.ranges.s c.if-s-ge0.true in
-   
     let u = upOf in
     let b = c.args.b in
     ap (λ (y : ℤ). given (b * 2 ^ nat_abs y % 2 ^ 64)) u.read
@@ -31,7 +30,6 @@ returns-else-n-gt-FARTHEST c =
 pub returns-else-n-gt62 : goal.returns-else-n-gt62
 returns-else-n-gt62 c =
     let downOf : Down w8 c.args.s = down w8 c.args.s c.ranges.s c.if-s-ge0.false in
-   
     let u = downOf in
     let b = c.args.b in
     ap (λ (y : ℤ). given (b / 2 ^ (nat_abs y + 1))) u.read ∙ ap (λ (m : ℕ). given (b / 2 ^ m)) (add-one u.n)

@@ -19,6 +19,10 @@ use Rattle.fit_gradient.specs.declared.Parts.{Parts}
 use Rattle.fit_gradient.proofs.Marks.{nothing, from_0}
 use Rattle.fit_gradient.proofs.squares_added.Given as goal
 
+-- the sums after so many groups
+abbrev pub after : Parts → List ℤ → List Float → ℕ → List Float
+after parts entries start g = fold_from (entry_by parts entries) start 0 (16 * g)
+
 abbrev pub invariant-loop-group : goal.invariant-loop-group
 invariant-loop-group l = (length l.gradient ≡ 779) × walk.Walk (after l.parts l.entries l.initial.gradient) 48 l.gradient l.rest
 

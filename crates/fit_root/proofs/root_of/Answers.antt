@@ -19,7 +19,6 @@ float_from_bits-result c =
 pub returns : goal.returns
 returns c =
     let most : c.scale-s.result.m * (1 + (c.scale-s.result.e + c.args.k) % 2) < 2 ^ 54 - 1 = doubled_or_not _ _ c.scale-s.ensures.2 (omega arith) in
-   
     let sc = c.scale-s in
     let n = sc.result.m in
     let e = sc.result.e in

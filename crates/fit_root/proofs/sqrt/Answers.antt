@@ -33,14 +33,12 @@ pub returns-then-field-eq0 : goal.returns-then-field-eq0
 returns-then-field-eq0 c =
     let positive : Above c.args.x = above _ c.if-x.false c.if-x-2.false c.if-x-3.false in
     let fitting : T (fits binary64 c.args.x) = subst T (sym c.well_formed.0.1) tt in
-   
     root_small _ (positive) (fitting) _ _ refl c.if-field-eq0.true c.root_of.ensures
 
 pub root_of-requires-2 : goal.root_of-requires-2
 root_of-requires-2 c =
     let positive : Above c.args.x = above _ c.if-x.false c.if-x-2.false c.if-x-3.false in
     let fitting : T (fits binary64 c.args.x) = subst T (sym c.well_formed.0.1) tt in
-   
     let h = field_below _ (positive) (fitting) c.if-field-eq-ENDLESS.false in
     (omega arith, omega arith, omega arith)
 
@@ -48,7 +46,6 @@ pub returns : goal.returns
 returns c =
     let positive : Above c.args.x = above _ c.if-x.false c.if-x-2.false c.if-x-3.false in
     let fitting : T (fits binary64 c.args.x) = subst T (sym c.well_formed.0.1) tt in
-   
     let h = field_below _ (positive) (fitting) c.if-field-eq-ENDLESS.false in
     let z : (b : ℕ) → (b / 2 ^ 52 ≡ 0 → ⊥) → b / 2 ^ 52 ≡ suc (b / 2 ^ 52 - 1) = λ b n. omega (arith, n) in
     root_large _ (positive) (fitting) _ _ _ refl (z _ c.if-field-eq0.false) (omega (arith, c.if-field-eq0.false)) c.root_of-2.ensures

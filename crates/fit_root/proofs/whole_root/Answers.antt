@@ -51,6 +51,6 @@ pub loop-k-preserved : goal.loop-k-preserved
 loop-k-preserved c =
     let l = c.loop-k in
     elim c.if-trial-all.branch [
-      then-trial-all w ↦ rw (w.rem-is, w.root-is) (taken _ _ _ _ _ l.invariant c.loop-k-test.true w.if-trial-all.true)
-    | else-trial-all w ↦ rw (w.rem-is, w.root-is) (passed _ _ _ _ _ l.invariant c.loop-k-test.true w.if-trial-all.false)
+      | then-trial-all w ↦ rw (w.rem-is, w.root-is) (taken _ _ _ _ _ l.invariant c.loop-k-test.true w.if-trial-all.true)
+      | else-trial-all w ↦ rw (w.rem-is, w.root-is) (passed _ _ _ _ _ l.invariant c.loop-k-test.true w.if-trial-all.false)
     ]

@@ -18,14 +18,12 @@ pub returns-then-is : goal.returns-then-is
 returns-then-is c =
     let word : take c.find-end.result c.skip_spaces-rest.result.now ≡ word_of c.args.s.now = word_is c.args.s.now c.skip_spaces-rest.result.now c.find-end.result c.skip_spaces-rest.ensures
     c.find-end.ensures in
-   
     c.index.ensures ∙ is_white c.args.s.now _ (word) c.is.result c.is.ensures c.if-is.true
 
 pub returns-then-is-2 : goal.returns-then-is-2
 returns-then-is-2 c =
     let word : take c.find-end.result c.skip_spaces-rest.result.now ≡ word_of c.args.s.now = word_is c.args.s.now c.skip_spaces-rest.result.now c.find-end.result c.skip_spaces-rest.ensures
     c.find-end.ensures in
-   
     c.index-then-is-2.ensures
     ∙ is_black c.args.s.now _ (word) c.is.result c.is.ensures c.if-is.false c.is-2.result
     c.is-2.ensures c.if-is-2.true
@@ -34,6 +32,5 @@ pub returns : goal.returns
 returns c =
     let word : take c.find-end.result c.skip_spaces-rest.result.now ≡ word_of c.args.s.now = word_is c.args.s.now c.skip_spaces-rest.result.now c.find-end.result c.skip_spaces-rest.ensures
     c.find-end.ensures in
-   
     no_side c.args.s.now _ (word) c.is.result c.is.ensures c.if-is.false c.is-2.result
     c.is-2.ensures c.if-is-2.false

@@ -23,7 +23,6 @@ returns c =
     let r = c.sliced-digits.result in
     sliced_same (λ i. get_or c.words-words.result i 0) (rank_word bytes) r.a r.b r.c r.d r.all
     (λ i h. ap (λ (l : List ℕ). get_or l i 0) c.words-words.ensures.0 ∙ entry 8 (rank_word bytes) 0 i h) c.sliced-digits.ensures in
-   
     let v = c.sliced-digits in
     let bytes = c.args.board.now in
     let t = planes in

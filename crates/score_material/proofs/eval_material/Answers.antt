@@ -31,6 +31,9 @@ within n w e h =
     ap given (to_z_pos w16 {n = n} (omega arith) ∙ ap pos e)
     ∙ sym (ap (λ (t : Bool). or_refuse t R.Score (given (pos w))) (ap (λ (x : ℕ). leb x 32767) (sym e) ∙ le-leb n 32767 h))
 
+below_two : (n : ℕ) → n ≤ 1 → n < 2
+below_two n h = omega arith
+
 pub returns-then-color-gt-BLACK : goal.returns-then-color-gt-BLACK
 unfolding material_of
 returns-then-color-gt-BLACK c =
@@ -51,7 +54,7 @@ returns-then-total-gt-LARGEST c =
     let passed : total c.args.bitboards.now c.args.color ≡ material_of c.args.bitboards.now c.args.board.now c.args.state c.args.color = let a = c.args in
     fit_rest a.bitboards.now a.board.now a.state c.check.result c.check.ensures (total a.bitboards.now a.color)
     c.in_default.is
-    ∙ a_colour a.color (checked a.bitboards.now a.board.now a.state (total a.bitboards.now a.color)) (omega arith) in
+    ∙ a_colour a.color (checked a.bitboards.now a.board.now a.state (total a.bitboards.now a.color)) (below_two a.color c.if-color-gt-BLACK.false) in
     over c.material-total.result _ c.material-total.ensures c.if-total-gt-LARGEST.true ∙ passed
 
 pub returns : goal.returns
@@ -60,5 +63,5 @@ returns c =
     let passed : total c.args.bitboards.now c.args.color ≡ material_of c.args.bitboards.now c.args.board.now c.args.state c.args.color = let a = c.args in
     fit_rest a.bitboards.now a.board.now a.state c.check.result c.check.ensures (total a.bitboards.now a.color)
     c.in_default.is
-    ∙ a_colour a.color (checked a.bitboards.now a.board.now a.state (total a.bitboards.now a.color)) (omega arith) in
+    ∙ a_colour a.color (checked a.bitboards.now a.board.now a.state (total a.bitboards.now a.color)) (below_two a.color c.if-color-gt-BLACK.false) in
     within c.material-total.result _ c.material-total.ensures c.if-total-gt-LARGEST.false ∙ passed

@@ -19,6 +19,10 @@ use Rattle.trace_marks.proofs.Folds as folds
 use Rattle.trace_double.proofs.Folds.{nothing, from_0}
 use Rattle.trace_double.proofs.entries_added.Given as goal
 
+-- the score after so many groups
+abbrev pub after : List Float → Float → List ℤ → Float → ℕ → Float
+after weights x entries start g = entries_from weights x entries start 0 (16 * g)
+
 abbrev pub invariant-loop-group : goal.invariant-loop-group
 invariant-loop-group l = walk.Walk (after l.squares l.x l.entries l.start) 48 l.score l.rest
 

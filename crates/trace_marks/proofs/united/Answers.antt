@@ -30,5 +30,5 @@ loop-j-preserved c =
     let u : Fits w32 l.union-bits = search rules in
     let more : bit_or l.union-bits (of_z w32 z) < 2 ^ 32 = or_lt 32 l.union-bits (of_z w32 z) u.fits (Fits-of_z f).fits in
     let is : bit_or l.union-bits (of_z w32 z) ≡ together (λ i. bits_at e (k + i)) (l.j + 1) =
-      together_next (λ i. bits_at e (k + i)) l.j (sym (of_z-to_z w32 l.union-bits u) ∙ l.invariant.1) refl in
+    together_next (λ i. bits_at e (k + i)) l.j (sym (of_z-to_z w32 l.union-bits u) ∙ l.invariant.1) refl in
     (omega arith, of_z-to_z w32 (bit_or l.union-bits (of_z w32 z)) (record { fits = more }) ∙ is, held_next e k l.j l.invariant.2 f.sfits)

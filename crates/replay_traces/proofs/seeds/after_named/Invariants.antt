@@ -1,5 +1,4 @@
-use Prim.Native.Nat.{◌≤◌, ◌-◌}
-use borrow.Author.Rules.{rules}
+use Rattle.std.proofs.Common.{◌-◌, ◌≤◌}
 use Rattle.replay_traces.proofs.seeds.after_named.Given as goal
 
 abbrev pub invariant-loop-n : goal.invariant-loop-n

@@ -19,7 +19,6 @@ returns c =
     let ending_is : held w64 c.product-ending.result ≡ ending_product c.args.side.ending c.args.x = let a = c.args in
     let f : SFits w32 a.side.ending = record { sfits = c.struct_told-2-1.given.1.0.1 } in
     held_is {w = w64} (sfits_of c.product-ending.type_inv) (c.product-ending.ensures ∙ ap (λ (y : ℤ). ending_product y a.x) (to_z-of_z {w = w32} f)) in
-   
     let s = c in
     c.divided.ensures ∙ ap₂ divided_of (opening_is) (ending_is)
     ∙ simp (le-leb _ _ s.if-side-gt-LARGEST_SUM.false, le-leb _ _ s.if-side-gt-LARGEST_SUM-2.false)

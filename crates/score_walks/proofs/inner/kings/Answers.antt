@@ -32,7 +32,6 @@ overflow_add-words c =
     let came : (squares c.loop-square.rest ≡ c.in-At.square ∷ squares c.in-At.r) × (c.in-At.square < 64) = next_at c.loop-square.rest c.in-At.square c.in-At.r c.loop-square.invariant.fits
     (sym (ap lowest c.in-At.is) ∙ c.next-n.ensures) in
     let little : c.king_word-words.result ≤ 1099768529141 = subst (λ (n : ℕ). n ≤ 1099768529141) (sym c.king_word-words.ensures) (packed_le _ _) in
-   
     let l = c.loop-square in
     let a = c.args in
     let h = kept.has_room 1099768529141 (word_of a.color) a.pieces l.words l.rest l.invariant c.in-At.square
@@ -50,7 +49,6 @@ loop-square-preserved c =
     let came : (squares c.loop-square.rest ≡ c.in-At.square ∷ squares c.in-At.r) × (c.in-At.square < 64) = next_at c.loop-square.rest c.in-At.square c.in-At.r c.loop-square.invariant.fits
     (sym (ap lowest c.in-At.is) ∙ c.next-n.ensures) in
     let little : c.king_word-words.result ≤ 1099768529141 = subst (λ (n : ℕ). n ≤ 1099768529141) (sym c.king_word-words.ensures) (packed_le _ _) in
-   
     let l = c.loop-square in
     let a = c.args in
     kept.more 1099768529141 (word_of a.color) a.pieces l.words l.rest l.invariant c.in-At.square c.in-At.r

@@ -47,7 +47,6 @@ overflow_add-attacked c =
     let came : (squares c.loop-square.rest ≡ c.in-At.square ∷ squares c.in-At.r) × (c.in-At.square < 64) = next_at c.loop-square.rest c.in-At.square c.in-At.r c.loop-square.invariant.0.fits
     (sym (ap lowest c.in-At.is) ∙ c.next-n.ensures) in
     let count_le : c.count-attacked.result ≤ 64 = subst (λ (n : ℕ). n ≤ 64) (sym c.count-attacked.ensures) (many_le 64 (has c.reached.result)) in
-   
     let l = c.loop-square in
     let a = c.args in
     let h = kept.has_room 64 (reach a.color 0) a.pieces l.attacked l.rest l.invariant.0 c.in-At.square
@@ -59,7 +58,6 @@ overflow_add-words c =
     let came : (squares c.loop-square.rest ≡ c.in-At.square ∷ squares c.in-At.r) × (c.in-At.square < 64) = next_at c.loop-square.rest c.in-At.square c.in-At.r c.loop-square.invariant.0.fits
     (sym (ap lowest c.in-At.is) ∙ c.next-n.ensures) in
     let little : c.knight_word-words.result ≤ 1099768529141 = subst (λ (n : ℕ). n ≤ 1099768529141) (sym c.knight_word-words.ensures) (packed_le _ _) in
-   
     let l = c.loop-square in
     let a = c.args in
     let h = kept.has_room 1099768529141 (word_of a.color) a.pieces l.words l.rest l.invariant.1 c.in-At.square
@@ -78,7 +76,6 @@ loop-square-preserved c =
     (sym (ap lowest c.in-At.is) ∙ c.next-n.ensures) in
     let count_le : c.count-attacked.result ≤ 64 = subst (λ (n : ℕ). n ≤ 64) (sym c.count-attacked.ensures) (many_le 64 (has c.reached.result)) in
     let little : c.knight_word-words.result ≤ 1099768529141 = subst (λ (n : ℕ). n ≤ 1099768529141) (sym c.knight_word-words.ensures) (packed_le _ _) in
-   
     let l = c.loop-square in
     let a = c.args in
     let s = c.in-At.square in

@@ -11,8 +11,11 @@ use Rattle.store_record.specs.Record.{two_squares}
 use Rattle.store_record.proofs.Records.{bytes_to, bytes_none, bytes_more, bytes_all, record_pair}
 use Rattle.store_record.proofs.inner.pack.Given as goal
 
+abbrev pub packed : List ℕ → ℕ → ℕ → Line
+packed board side half = record { state = of_side side; half = half; board = board }
+
 abbrev pub invariant-loop-i : goal.invariant-loop-i
-invariant-loop-i l = (l.i ≤ 32) × («record» ≡ bytes_to (packed l.board l.side l.half) l.i)
+invariant-loop-i l = (l.i ≤ 32) × (l.«record» ≡ bytes_to (packed l.board l.side l.half) l.i)
 
 abbrev pub decreases-loop-i : goal.decreases-loop-i
 decreases-loop-i l = 32 - l.i

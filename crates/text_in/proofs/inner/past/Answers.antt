@@ -23,7 +23,6 @@ pub returns : goal.returns
 returns c =
     let found : c.find-end.result ≤ length c.args.s.now = let args = c.args in
     before_found args.mark args.s.now c.find-end.ensures in
-   
     let f = c in
     let s = f.args.s.now in
     ap (λ (k : ℕ). k + 1) f.find-end.ensures ∙ past_there f.args.mark s (omega (arith, found, f.find-end.ensures))

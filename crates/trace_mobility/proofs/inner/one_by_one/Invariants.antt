@@ -15,6 +15,10 @@ use Rattle.attack.specs.Attacks.{attacks}
 use Rattle.trace_mobility.proofs.Sums.{attacked_counted}
 use Rattle.trace_mobility.proofs.inner.one_by_one.Given as goal
 
+-- how many squares a piece on s attacks
+abbrev pub reach : ℕ → ℕ → ℕ → ℕ → ℕ
+reach kind colour occ s = how_many 64 (has (attacks kind colour s occ))
+
 abbrev pub invariant-loop-s : goal.invariant-loop-s
 invariant-loop-s l =
     (l.rest < 2 ^ 64)

@@ -1,0 +1,19 @@
+-- `captures_row::inner::counts` meets its contract: the row is made, and then put. Assumes nothing.
+use mathlib.Core.Path.{sym, subst}
+use mathlib.Core.List.{List}
+use Prim.Native.Nat.{ℕ}
+use native.Mathlib.Omega.{arith}
+use lib.Seq.{length-take-le}
+use Rattle.text_out.specs.Text.{Puts}
+use Rattle.text_out.proofs.Added.{adds_to, adds_front, adds_length}
+use Rattle.captures_row.proofs.Fits.{fits_counts}
+use borrow.Author.Rules.{rules}
+use Rattle.captures_row.proofs.inner.counts.Goals as goal
+
+pub returns : goal.returns
+returns c =
+    let p = c.put in
+    let w = c.write_counts-end in
+    let a = c.args in
+    let h = fits_counts a.lines a.told a.refused in
+    subst (λ (t : List ℕ). Puts a.out.now p.new.out a.at t p.result) (adds_front w.ensures (omega arith)) p.ensures

@@ -1,0 +1,23 @@
+-- `fit_sample::inner::put_words` meets its contract: so far the words of the numbers before the place stand there. Assumes nothing.
+use mathlib.Core.Path.{ap, ◌∙◌}
+use Prim.Native.Nat.{◌-◌}
+use lib.ListN.{length, take}
+use borrow.Author.Rules.{rules}
+use Rattle.text_out.specs.Text.{Adds}
+use Rattle.fit_sample.specs.Sample.{lowest_first, words_of}
+use Rattle.fit_sample.proofs.Parts.{words_none, words_kept, words_more, words_all}
+use Rattle.fit_sample.proofs.inner.put_words.Goals as goal
+
+pub loop-i-init : goal.loop-i-init
+loop-i-init c = let a = c.args in words_none a.out.now a.at a.numbers.now
+
+pub loop-i-preserved : goal.loop-i-preserved
+loop-i-preserved c = let bytes_of = c.bytes_of-bytes in
+    let a = c.args in
+    let l = c.loop-i in
+    let p = c.put in
+    words_more a.out.now l.out p.new.out a.at l.end c.or-end.result l.i a.numbers.now bytes_of.result p.result
+    c.requires
+    c.loop-i-test.true l.invariant
+    c.bits-arg-1.given
+    (bytes_of.ensures ∙ ap lowest_first c.bits.ensures) p.ensures c.or-end.ensures

@@ -1,0 +1,28 @@
+-- `ledger_finish::finish` meets its contract: the last rows are made, and then put. Assumes nothing.
+use mathlib.Core.Path.{sym, ap, ◌∙◌}
+use Prim.Native.Nat.{ℕ, ◌+◌, ◌^◌}
+use native.Mathlib.Omega.{arith}
+use lib.Dec.{ltb}
+use lib.ListN.{take}
+use lib.Seq.{length-take-le}
+use borrow.Author.Rules.{rules}
+use borrow.Author.Tests.{not-true, not-false, ltb-true}
+use Rattle.text_out.proofs.Added.{adds_to, adds_length, adds_front}
+use Rattle.ledger_finish.specs.Promises.{last_lines}
+use Rattle.ledger_finish.proofs.Doors.{finish_shape, finish_many, finish_full, finish_rows, finished_116}
+use Rattle.ledger_finish.proofs.finish.Goals as goal
+
+pub returns-in-At : goal.returns-in-At
+returns-in-At c =
+    let a = c.args in
+    let w = c.last_rows-end in
+    let p = c.put-placed in
+    finish_rows a.profile a.state a.line.now a.out.now
+    c.if-line-ne-LINE.false
+    (ap (λ (k : ℕ). ltb (a.state.loaded + a.state.refused + k) (2 ^ 64))
+    (sym c.unfinished.ensures)
+    ∙ sym c.countable.ensures
+    ∙ not-false _ c.if-not-countable.false-raw)
+    (take w.result w.new.out) (adds_front w.ensures (finished_116 a.profile a.state a.line.now)) p.new.out p.result
+    p.ensures
+    c.in-At.wrote c.in-At.is

@@ -1,0 +1,20 @@
+-- `line_spell::inner::ended` meets its contract. Assumes nothing.
+use mathlib.Core.Path.{subst}
+use mathlib.Core.List.{List}
+use Prim.Native.Nat.{ℕ}
+use native.Mathlib.Omega.{arith}
+use Rattle.text_out.specs.Text.{Puts}
+use Rattle.text_out.proofs.Added.{adds_then}
+use Rattle.line_text.proofs.Lengths.{line_text_length, ended_length}
+use Rattle.line_spell.proofs.Joined.{made_within_holds, made_long, made_text}
+use borrow.Author.Rules.{rules}
+use Rattle.line_spell.proofs.inner.ended.Goals as goal
+
+pub returns : goal.returns
+returns c =
+    let a = c.args in
+    let p = c.put in
+    subst (λ (t : List ℕ). Puts a.out.now p.new.out a.at t p.result)
+    (made_text (adds_then c.line-end.ensures
+    c.put-past.ensures (omega (arith, line_text_length a.board.now a.state a.half)))
+    (ended_length a.board.now a.state a.half)) p.ensures

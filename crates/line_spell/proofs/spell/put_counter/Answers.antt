@@ -1,0 +1,15 @@
+-- `line_spell::spell::put_counter` meets its contract. Assumes nothing.
+use Rattle.text_out.proofs.Added.{adds_or}
+use Rattle.text_out.specs.Text.{decimal_of}
+use Rattle.line_spell.proofs.Behind.{no_counter, counter_put}
+use borrow.Author.Rules.{rules}
+use Rattle.line_spell.proofs.spell.put_counter.Goals as goal
+
+pub returns : goal.returns
+returns c =
+    let a = c.args in
+    let p = c.put-begin in
+    let d = c.decimal in
+    counter_put a.n p.ensures c.if-n-gt-MOST.false
+    c.requires
+    (adds_or p.new.out p.result (decimal_of a.n) d.new.out d.result c.or.result d.ensures c.or.ensures)

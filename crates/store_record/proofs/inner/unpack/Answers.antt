@@ -1,0 +1,20 @@
+-- `store_record::inner::unpack` meets its contract: after i bytes the first 2i squares are the record's. Assumes nothing.
+use mathlib.Core.Path.{◌≡◌}
+use Prim.Native.Nat.{◌*◌, ◌≤◌, ◌-◌}
+use native.Mathlib.Omega.{arith}
+use borrow.Author.Rules.{rules}
+use Rattle.laws.specs.Tables.{tabulate}
+use Rattle.store_record.proofs.Records.{squares_to, squares_none, squares_more, squares_all}
+use Rattle.store_record.proofs.inner.unpack.Goals as goal
+
+pub loop-i-init : goal.loop-i-init
+unfolding tabulate
+loop-i-init c = (omega arith, squares_none c.args.piece.now)
+
+pub loop-i-preserved : goal.loop-i-preserved
+loop-i-preserved c =
+    let l = c.loop-i in
+    (omega arith, squares_more c.args.piece.now l.board l.i l.invariant.1 (omega arith))
+
+pub returns : goal.returns
+returns c = let l = c.loop-i in squares_all c.args.piece.now l.board l.i (omega arith) l.invariant.1

@@ -1,3 +1,0 @@
-pub mod LineRead
-pub mod Least
-pub mod Determined

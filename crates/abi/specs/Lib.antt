@@ -1,2 +1,0 @@
-pub mod Doors
-pub mod Promises

@@ -1,3 +1,0 @@
-pub mod Traced
-pub mod Fitted
-pub mod Determined

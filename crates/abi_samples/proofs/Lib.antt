@@ -1,2 +1,0 @@
-pub mod Sampled
-pub mod Determined

@@ -1,3 +1,0 @@
-pub mod Turn
-pub mod Doors
-pub mod Determined

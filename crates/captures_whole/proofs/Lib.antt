@@ -1,3 +1,0 @@
-pub mod Machines
-pub mod Cut
-pub mod Examples

@@ -1,3 +1,0 @@
-pub mod Join
-pub mod Machine
-pub mod Promises

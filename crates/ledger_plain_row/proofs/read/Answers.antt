@@ -1,8 +1,0 @@
--- `ledger_plain_row::read` meets its contract. Assumes nothing.
-use mathlib.Core.Path.{sym, ◌∙◌}
-use Rattle.ledger_plain_row.proofs.Laws.{read_zero, read_other}
-use borrow.Author.Rules.{rules}
-use Rattle.ledger_plain_row.proofs.read.Goals as goal
-
-pub returns-then-starts : goal.returns-then-starts
-returns-then-starts c = read_zero c.args.s.now (sym c.starts.ensures ∙ c.if-starts.true)

@@ -1,3 +1,0 @@
-pub mod Sums
-pub mod Promises
-pub mod Parts

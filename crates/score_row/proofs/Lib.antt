@@ -1,4 +1,0 @@
-pub mod Answered
-pub mod Whole
-pub mod Examples
-pub mod Determined

@@ -1,2 +1,0 @@
-pub mod Sifting
-pub mod Promises

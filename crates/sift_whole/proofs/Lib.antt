@@ -1,4 +1,0 @@
-pub mod Machine
-pub mod Cut
-pub mod Samples
-pub mod Examples

@@ -1,2 +1,0 @@
-pub mod Sifted
-pub mod Calls

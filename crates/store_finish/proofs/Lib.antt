@@ -1,3 +1,0 @@
-pub mod Within
-pub mod Doors
-pub mod Determined

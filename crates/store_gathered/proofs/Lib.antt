@@ -1,4 +1,0 @@
-pub mod Pieces
-pub mod Read
-pub mod Gathered
-pub mod Examples

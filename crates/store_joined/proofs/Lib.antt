@@ -1,9 +1,0 @@
-pub mod Added
-pub mod Doors
-pub mod Determined
-pub mod Pieces
-pub mod Firsts
-pub mod Read
-pub mod Counted
-pub mod Parts
-pub mod Examples

@@ -1,9 +1,0 @@
-use Rattle.std.proofs.Common.{◌-◌, ◌≤◌, sym, ◌∙◌, arith, rules}
-use Rattle.store_joined.proofs.Added.{AddedTo, none_added, one_added, all_added}
-use Rattle.store_joined.proofs.add.Given as goal
-
-abbrev pub invariant-loop-place : goal.invariant-loop-place
-invariant-loop-place l = (l.place ≤ 770) × AddedTo l.initial.summary l.more l.place l.summary
-
-abbrev pub decreases-loop-place : goal.decreases-loop-place
-decreases-loop-place l = 770 - l.place

@@ -1,3 +1,0 @@
-pub mod Summaries
-pub mod Promises
-pub mod Parts

@@ -24,7 +24,7 @@ use Rattle.fit_gradient.specs.Gradient.{raised, place_at, opening_part, ending_p
 use Rattle.fit_gradient.specs.Marks.{parts_of, both_raised, colour_part, marked_by, entry_by, squares_by}
 use Rattle.trace_marks.specs.Marks.{fold_from}
 use Rattle.trace_marks.proofs.Folds as folds
-use Rattle.trace_list.proofs.Flat.{Mark, no, yes, mark_of}
+use Rattle.trace_list.proofs.Flat.{Mark, no, yes, mark_of_holds}
 use Rattle.fit_gradient.specs.declared.Parts.{Parts}
 
 -- ---- a test of its bits says whether an entry is 0
@@ -87,7 +87,7 @@ unfolding squares_raised squares_by
 all_by_parts c x es g t zero h = refl
 all_by_parts c x es g t (suc n) h =
     ap (λ (y : List Float). entry_raised c x y n (get_or es n (pos 0))) (all_by_parts c x es g t n (omega arith))
-    ∙ by_parts c x (squares_by (parts_of c x) es g n) n (mark_of (get_or es n (pos 0)) (all_at (length es) (λ k. within (pos 1) (get_or es k (pos 0))) t n h))
+    ∙ by_parts c x (squares_by (parts_of c x) es g n) n (mark_of_holds (get_or es n (pos 0)) (all_at (length es) (λ k. within (pos 1) (get_or es k (pos 0))) t n h))
 
 -- ---- the named weights, one on
 pub one_more : (parts start g : List Float) (i : ℕ) → g ≡ first_raised parts start i → raised g i (get_or parts i nan) ≡ first_raised parts start (i + 1)

@@ -41,10 +41,10 @@ WentWithin size W.Failed = ⊤
 WentWithin size W.Nothing = ⊤
 
 -- what is in the buffer came next; at the end no byte is left; and where nothing came, none is gone
-abbrev pub Takes : Option (List ℕ) → Option (List ℕ) → List ℕ → Taken → Type 0
-Takes old new buf (T.Bytes n) = Consumes old new (take n buf)
-Takes old new buf T.End = Keeps old new × IsAtEnd new
-Takes old new buf T.Failed = Keeps old new
+abbrev pub BytesTaken : Option (List ℕ) → Option (List ℕ) → List ℕ → Taken → Type 0
+BytesTaken old new buf (T.Bytes n) = Consumes old new (take n buf)
+BytesTaken old new buf T.End = Keeps old new × IsAtEnd new
+BytesTaken old new buf T.Failed = Keeps old new
 
 -- the bytes up to a place of them are written, behind what was there
 pub record Begun (old new : Option (List ℕ)) (bytes : List ℕ) : Type 0 where
@@ -52,16 +52,16 @@ pub record Begun (old new : Option (List ℕ)) (bytes : List ℕ) : Type 0 where
   pub within : done ≤ length bytes
   pub written : Appends old new (take done bytes)
 
-abbrev pub Puts : Option (List ℕ) → Option (List ℕ) → List ℕ → Put → Type 0
-Puts old new bytes P.Whole = Appends old new bytes
-Puts old new bytes (P.Failed e) = Begun old new bytes
-Puts old new bytes P.Nothing = Begun old new bytes
-Puts old new bytes P.TooMany = Begun old new bytes
+abbrev pub BytesPut : Option (List ℕ) → Option (List ℕ) → List ℕ → Put → Type 0
+BytesPut old new bytes P.Whole = Appends old new bytes
+BytesPut old new bytes (P.Failed e) = Begun old new bytes
+BytesPut old new bytes P.Nothing = Begun old new bytes
+BytesPut old new bytes P.TooMany = Begun old new bytes
 
 -- all is written, or it was not said to be
-abbrev pub Writes : Option (List ℕ) → Option (List ℕ) → List ℕ → Bool → Type 0
-Writes old new bytes true = Appends old new bytes
-Writes old new bytes false = Begun old new bytes
+abbrev pub AllPut : Option (List ℕ) → Option (List ℕ) → List ℕ → Bool → Type 0
+AllPut old new bytes true = Appends old new bytes
+AllPut old new bytes false = Begun old new bytes
 
 -- less than all is written
 abbrev pub IsBroken : Put → Type 0

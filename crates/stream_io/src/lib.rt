@@ -7,7 +7,7 @@
 ghost use Rattle.std.specs.Prelude.{◌≡◌, ◌^◌, ◌<◌, ◌≤◌, length, take};
 ghost use Rattle.std.specs.Io.KnownBytes.{Consumes};
 ghost use Rattle.stream_io.specs.Bounds.{CopiesWithin, OpensWithin, PutsNothing, ReadsWithin, WritesNothing};
-ghost use Rattle.stream_io.specs.Known.{count_said, IsBroken, Puts, ReadCame, Takes, WentWithin, WriteCame, Writes};
+ghost use Rattle.stream_io.specs.Known.{AllPut, BytesPut, BytesTaken, count_said, IsBroken, ReadCame, WentWithin, WriteCame};
 
 use std::env::FillError;
 use std::fs;
@@ -62,7 +62,7 @@ enum Put {
 // Reads once, and again where a signal broke it off.
 pub fn read<R: Read>(errors: Stderr, from: &mut R, buf: &mut [u8], what: &[u8]) -> Taken
     ensures within { ReadsWithin buf.old what.now buf.new result }
-    ensures bytes { length buf.old < 2 ^ 63 → Takes (R.remaining from.old) (R.remaining from.new) buf.new result }
+    ensures bytes { length buf.old < 2 ^ 63 → BytesTaken (R.remaining from.old) (R.remaining from.new) buf.new result }
 {
     let mut turns: u64 = 0;
     while stream::may_go_on(turns) {
@@ -186,7 +186,7 @@ pub fn close<F: Drop>(_file: F) {}
 // Writes all of it, or says why not.
 pub fn write_all<W: Write>(errors: Stderr, to: &mut W, bytes: &[u8], what: &[u8]) -> bool
     ensures empty { WritesNothing bytes.now what.now result }
-    ensures bytes { length bytes.now < 2 ^ 63 → Writes (W.contents to.old) (W.contents to.new) bytes.now result }
+    ensures bytes { length bytes.now < 2 ^ 63 → AllPut (W.contents to.old) (W.contents to.new) bytes.now result }
 {
     match put_all(to, bytes) {
         Put::Whole => true,
@@ -209,7 +209,7 @@ pub fn write_all<W: Write>(errors: Stderr, to: &mut W, bytes: &[u8], what: &[u8]
 #[tactic(auto, using(crate::proofs::Written::written))]
 fn put_all<W: Write>(to: &mut W, bytes: &[u8]) -> Put
     ensures empty { PutsNothing bytes.now result }
-    ensures bytes { length bytes.now < 2 ^ 63 → Puts (W.contents to.old) (W.contents to.new) bytes.now result }
+    ensures bytes { length bytes.now < 2 ^ 63 → BytesPut (W.contents to.old) (W.contents to.new) bytes.now result }
 {
     let mut done = 0;
     let mut turns: u64 = 0;

@@ -37,11 +37,11 @@ pub data Mark : ℤ → Type 0 where
   no : Mark (pos 0)
   yes : Mark (pos 1)
 
-pub mark_of : (z : ℤ) → T (within (pos 1) z) → Mark z
-mark_of (pos zero) t = no
-mark_of (pos (suc zero)) t = yes
-mark_of (pos (suc (suc n))) t = absurd (omega (arith, leb→le (suc (suc n)) 1 (and_r (le_z (pos 0) (pos (suc (suc n)))) (le_z (pos (suc (suc n))) (pos 1)) t)))
-mark_of (negsuc n) t = absurd t
+pub mark_of_holds : (z : ℤ) → T (within (pos 1) z) → Mark z
+mark_of_holds (pos zero) t = no
+mark_of_holds (pos (suc zero)) t = yes
+mark_of_holds (pos (suc (suc n))) t = absurd (omega (arith, leb→le (suc (suc n)) 1 (and_r (le_z (pos 0) (pos (suc (suc n)))) (le_z (pos (suc (suc n))) (pos 1)) t)))
+mark_of_holds (negsuc n) t = absurd t
 
 pub mark_at : (entries : List ℤ) → T (are_entries entries) → (k : ℕ) → k < length entries → Mark (get_or entries k (pos 0))
-mark_at entries t k h = mark_of (get_or entries k (pos 0)) (all_at (length entries) (λ k. within (pos 1) (get_or entries k (pos 0))) t k h)
+mark_at entries t k h = mark_of_holds (get_or entries k (pos 0)) (all_at (length entries) (λ k. within (pos 1) (get_or entries k (pos 0))) t k h)

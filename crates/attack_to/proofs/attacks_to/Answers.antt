@@ -5,7 +5,6 @@ use Rattle.bits.specs.Answers.{on_board}
 use Rattle.position.proofs.Doors.{pass_on, fit_rest}
 use Rattle.attack_to.specs.Attackers.{attackers}
 use Rattle.attack.proofs.Doors.{off_board, on_board_holds}
-use borrow.Author.Rules.{rules}
 use Rattle.attack_to.proofs.attacks_to.Goals as goal
 
 pub returns-in-Refused : goal.returns-in-Refused

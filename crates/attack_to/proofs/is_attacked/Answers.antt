@@ -5,8 +5,7 @@ use Rattle.bits.specs.Answers.{on_board}
 use Rattle.position.specs.Checked.{checked}
 use Rattle.position.proofs.Doors.{pass_on, fit_rest}
 use Rattle.attack_to.specs.Attackers.{is_attacked}
-use Rattle.attack.proofs.Doors.{off_board, on_board_holds, no_colour, a_colour}
-use borrow.Author.Rules.{rules}
+use Rattle.attack.proofs.Doors.{off_board, on_board_holds, a_colour}
 use Rattle.attack_to.proofs.is_attacked.Goals as goal
 
 pub returns-in-Refused : goal.returns-in-Refused

@@ -5,8 +5,7 @@ use Rattle.refusal.specs.Answer.{given}
 use Rattle.position.specs.Checked.{checked}
 use Rattle.position.proofs.Doors.{pass_on, fit_rest}
 use Rattle.attack_to.specs.Attackers.{is_check}
-use Rattle.attack.proofs.Doors.{no_colour, a_colour}
-use borrow.Author.Rules.{rules}
+use Rattle.attack.proofs.Doors.{a_colour}
 use Rattle.attack_to.proofs.is_check.Goals as goal
 
 pub returns-in-Refused : goal.returns-in-Refused

@@ -1,6 +1,5 @@
 -- `bits::from_square` meets its contract. Assumes nothing.
-use borrow.Author.Rules.{rules}
-use borrow.Author.Tests.{lt-ltb, le-ltb}
+use borrow.Author.Tests.{lt-ltb}
 use native.Mathlib.Omega.{arith}
 use Rattle.bits.proofs.Machine.{alone}
 use Rattle.bits.proofs.from_square.Goals as goal

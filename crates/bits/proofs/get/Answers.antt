@@ -1,6 +1,5 @@
 -- `bits::get` meets its contract. Assumes nothing.
-use borrow.Author.Rules.{rules}
-use borrow.Author.Tests.{lt-ltb, le-ltb}
+use borrow.Author.Tests.{lt-ltb}
 use native.Mathlib.Omega.{arith}
 use Rattle.bits.proofs.Machine.{asked}
 use Rattle.bits.proofs.get.Goals as goal

@@ -1,7 +1,6 @@
 -- `bits::next` meets its contract. Assumes nothing.
 use Prim.Native.Nat.{◌<◌}
-use borrow.Author.Tests.{eq-eqb, ne_eqb}
-use native.Mathlib.Omega.{arith}
+use borrow.Author.Tests.{ne_eqb}
 use lib.Count.{count_trailing_zeros}
 use Rattle.bits.proofs.Machine.{take_away}
 use Rattle.bits.proofs.Scanned.{scan_lt, scan_is}

@@ -1,6 +1,5 @@
 -- `bits::reset` meets its contract. Assumes nothing.
-use borrow.Author.Rules.{rules}
-use borrow.Author.Tests.{lt-ltb, le-ltb}
+use borrow.Author.Tests.{lt-ltb}
 use native.Mathlib.Omega.{arith}
 use Rattle.bits.proofs.Machine.{take_away}
 use Rattle.bits.proofs.reset.Goals as goal

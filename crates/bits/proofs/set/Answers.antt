@@ -1,6 +1,5 @@
 -- `bits::set` meets its contract. Assumes nothing.
-use borrow.Author.Rules.{rules}
-use borrow.Author.Tests.{lt-ltb, le-ltb}
+use borrow.Author.Tests.{lt-ltb}
 use native.Mathlib.Omega.{arith}
 use Rattle.bits.proofs.Machine.{put}
 use Rattle.bits.proofs.set.Goals as goal

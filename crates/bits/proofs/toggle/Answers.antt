@@ -1,6 +1,5 @@
 -- `bits::toggle` meets its contract. Assumes nothing.
-use borrow.Author.Rules.{rules}
-use borrow.Author.Tests.{lt-ltb, le-ltb}
+use borrow.Author.Tests.{lt-ltb}
 use native.Mathlib.Omega.{arith}
 use Rattle.bits.proofs.Machine.{turn}
 use Rattle.bits.proofs.toggle.Goals as goal

@@ -1,8 +1,5 @@
 -- `captures_close::close` meets its contract: LONG or a refusal of the line, or what the exchange tells. Assumes nothing.
-use mathlib.Core.Path.{sym}
-use lib.Seq.{length-take-le}
-use borrow.Author.Rules.{rules}
-use Rattle.captures_close.proofs.Held.{filled, line_refused, line_held, line_told}
+use Rattle.captures_close.proofs.Held.{filled, line_told}
 use Rattle.captures_close.proofs.close.Goals as goal
 
 pub put_told-requires : goal.put_told-requires

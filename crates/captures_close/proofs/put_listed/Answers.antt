@@ -1,12 +1,9 @@
 -- `captures_close::put_listed` meets its contract: the rows are made, and then put. Assumes nothing.
-use mathlib.Core.Path.{sym, subst}
+use mathlib.Core.Path.{subst}
 use mathlib.Core.List.{List}
 use Prim.Native.Nat.{ℕ}
-use native.Mathlib.Omega.{arith}
-use lib.Seq.{length-take-le}
-use borrow.Author.Rules.{rules}
 use Rattle.text_out.specs.Text.{Puts}
-use Rattle.text_out.proofs.Added.{adds_to, adds_front, adds_length}
+use Rattle.text_out.proofs.Added.{adds_front}
 use Rattle.captures_close.proofs.Columns.{fits_listed}
 use Rattle.captures_close.proofs.put_listed.Goals as goal
 

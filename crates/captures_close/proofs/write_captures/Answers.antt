@@ -1,11 +1,9 @@
 -- `captures_close::write_captures` meets its contract: after i turns the rows of the first i captures are written. Assumes nothing.
-use Prim.Native.Nat.{◌-◌}
 use native.Mathlib.Omega.{arith}
 use lib.ListN.{get_or}
-use borrow.Author.Rules.{rules}
 use Rattle.text_out.proofs.Added.{adds_or}
 use Rattle.captures_row.specs.Rows.{capture_row}
-use Rattle.captures_close.proofs.Columns.{SoMany, none_yet, one_row, same_size, all_rows_holds}
+use Rattle.captures_close.proofs.Columns.{none_yet, one_row}
 use Rattle.captures_close.proofs.write_captures.Goals as goal
 
 pub loop-i-init : goal.loop-i-init

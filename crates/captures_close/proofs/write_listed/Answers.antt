@@ -1,11 +1,10 @@
 -- `captures_close::write_listed` meets its contract: the captures' rows, and then the stopping point's. Assumes nothing.
-use mathlib.Core.Path.{sym, subst, ◌∙◌}
+use mathlib.Core.Path.{subst, ◌∙◌}
 use lib.IntN.{ℤ}
 use lib.ListN.{take}
-use lib.Seq.{length-take-le}
 use mir.Syntax.{w32}
 use mir.Facts.{to_z-of_z}
-use borrow.Author.Rules.{rules, sfits_of}
+use borrow.Author.Rules.{sfits_of}
 use Rattle.text_out.specs.Text.{Puts}
 use Rattle.text_out.proofs.Added.{adds_or}
 use Rattle.exchange_value.specs.Settled.{settled}

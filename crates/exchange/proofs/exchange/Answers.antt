@@ -3,7 +3,7 @@ use mathlib.Core.Path.{◌∙◌}
 use mir.Syntax.{w16, w32}
 use mir.Facts.{to_z-of_z}
 use Rattle.exchange.proofs.Settling.{within, settles, in_16}
-use borrow.Author.Rules.{rules, sfits_of}
+use borrow.Author.Rules.{sfits_of}
 use Rattle.exchange.proofs.exchange.Goals as goal
 
 pub slice_bounds-settle-end : goal.slice_bounds-settle-end

@@ -7,7 +7,7 @@ use Rattle.refusal.specs.Answer.{given}
 use Rattle.exchange.specs.Exchange.{exchange_of}
 use Rattle.exchange_start.proofs.Begun.{knows, tells, passes_on, a_side, from_on}
 use Rattle.exchange.proofs.Room.{room}
-use borrow.Author.Rules.{rules, sfits_of}
+use borrow.Author.Rules.{sfits_of}
 use Rattle.exchange.proofs.see.Goals as goal
 
 pub returns-in-Refused : goal.returns-in-Refused

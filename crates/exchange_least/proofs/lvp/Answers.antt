@@ -4,10 +4,9 @@ use native.Mathlib.Omega.{arith}
 use borrow.Author.Tests.{not-true, not-false}
 use Rattle.position.specs.Checked.{checked}
 use Rattle.position.proofs.Doors.{pass_on, fit_rest}
-use Rattle.attack.proofs.Doors.{no_colour, a_colour}
+use Rattle.attack.proofs.Doors.{a_colour}
 use Rattle.exchange_least.specs.Answers.{paper_attacker}
 use Rattle.exchange_least.proofs.Doors.{rest, no_order, picked}
-use borrow.Author.Rules.{rules}
 use Rattle.exchange_least.proofs.lvp.Goals as goal
 
 pub returns-in-Refused : goal.returns-in-Refused

@@ -8,7 +8,6 @@ use Rattle.exchange.specs.Promises.{HoldsCaptures}
 use Rattle.exchange.proofs.Settling.{within}
 use Rattle.exchange_told.specs.Told.{the_stop}
 use Rattle.exchange_told.proofs.Behind.{told_fit, told_refused, values_are, stop_of_none}
-use borrow.Author.Rules.{rules}
 use Rattle.exchange_told.proofs.captures.Goals as goal
 
 pub returns-in-Refused : goal.returns-in-Refused

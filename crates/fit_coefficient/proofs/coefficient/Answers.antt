@@ -1,5 +1,5 @@
 -- `fit_coefficient::coefficient` meets its contract. Assumes nothing.
-use Rattle.std.proofs.Common.{ap₂, rules}
+use Rattle.std.proofs.Common.{ap₂}
 use lib.Ieee.{Float}
 use Rattle.doubles.specs.Doubles.{◌⊗◌, ◌⊘◌}
 use Rattle.fit_coefficient.specs.Coefficient.{error_of, slope_of, coefficient_of}

@@ -1,5 +1,5 @@
 -- `fit_coefficient::points` meets its contract. Assumes nothing.
-use Rattle.std.proofs.Common.{to_z-of_z, w16, rules}
+use Rattle.std.proofs.Common.{to_z-of_z, w16}
 use Rattle.laws.proofs.Nans.{is_no_nan}
 use Rattle.fit_coefficient.proofs.Scores.{at_nan, counted}
 use borrow.Author.Rules.{sfits_of}

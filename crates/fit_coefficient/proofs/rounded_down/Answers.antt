@@ -1,5 +1,5 @@
 -- `fit_coefficient::rounded_down` meets its contract. Assumes nothing.
-use Rattle.std.proofs.Common.{ℕ, ◌<◌, ◌≤◌, pos, sym, ap, ◌∙◌, subst, arith, w16, rules}
+use Rattle.std.proofs.Common.{ℕ, ◌<◌, ◌≤◌, pos, sym, ap, ◌∙◌, subst, arith, w16}
 use borrow.Author.Rules.{sfits_of}
 use mir.ValLaws.{to_z_pos}
 use Rattle.laws.proofs.Words.{held_is}

@@ -1,10 +1,7 @@
 -- `fit_gradient::add` meets its contract. Assumes nothing.
-use mathlib.Core.Path.{sym, ◌∙◌}
-use Rattle.laws.proofs.Truth.{true_T, T_true, and_r}
 use Rattle.trace_counts.proofs.Held.{read}
-use Rattle.trace_marks.proofs.Tested.{seen_entries, seen_groups, tested_both}
-use Rattle.fit_gradient.proofs.Doors.{unlike_entries, unlike_gradient, no_trace_holds, worked, line}
-use borrow.Author.Rules.{rules}
+use Rattle.trace_marks.proofs.Tested.{seen_entries, tested_both}
+use Rattle.fit_gradient.proofs.Doors.{worked, line}
 use Rattle.fit_gradient.proofs.add.Goals as goal
 
 pub returns-then-in_ranges-seen : goal.returns-then-in_ranges-seen

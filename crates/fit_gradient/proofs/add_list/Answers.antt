@@ -1,12 +1,8 @@
 -- `fit_gradient::add_list` meets its contract. Assumes nothing.
-use mathlib.Core.Path.{sym, subst, ◌∙◌}
-use Prim.Native.Nat.{ℕ}
-use lib.Dec.{T}
+use mathlib.Core.Path.{sym, ◌∙◌}
 use Rattle.laws.proofs.Truth.{true_T}
 use Rattle.trace_counts.proofs.Held.{read}
-use Rattle.trace_list.specs.Form.{is_list}
-use Rattle.fit_gradient.proofs.Lists.{list_unlike, list_no_trace, no_list, list_line, list_worked}
-use borrow.Author.Rules.{rules}
+use Rattle.fit_gradient.proofs.Lists.{list_line, list_worked}
 use Rattle.fit_gradient.proofs.add_list.Goals as goal
 
 pub returns-then-is_list : goal.returns-then-is_list

@@ -1,18 +1,10 @@
-use mathlib.Core.Path.{◌≡◌, sym, ap, ◌∙◌}
-use mathlib.Core.List.{◌∷◌}
-use Prim.Native.Nat.{◌+◌, ◌*◌, ◌<◌}
-use native.Mathlib.Omega.{arith}
-use borrow.Author.Rules.{rules}
+use mathlib.Core.Path.{◌≡◌}
+use Prim.Native.Nat.{◌*◌}
 use lib.ListN.{length}
 use Rattle.bits.specs.Bitboard.{squares}
-use Rattle.bits.specs.Answers.{lowest}
-use Rattle.bits.proofs.Each.{next_at, next_done}
-use Rattle.trace_marks.specs.Marks.{odd_at, fold_from}
-use Rattle.trace_marks.proofs.Tested.{ones_of_holds, odd_small, odd_none}
+use Rattle.trace_marks.specs.Marks.{fold_from}
 use Rattle.trace_marks.proofs.Walk as walk
-use Rattle.trace_marks.proofs.Folds as folds
 use Rattle.fit_gradient.specs.Marks.{entry_by}
-use Rattle.fit_gradient.proofs.Marks.{one_read, nothing}
 use Rattle.fit_gradient.proofs.group_marked.Given as goal
 
 abbrev pub invariant-loop-j : goal.invariant-loop-j

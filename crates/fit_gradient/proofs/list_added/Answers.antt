@@ -1,17 +1,13 @@
 -- `fit_gradient::list_added` meets its contract. The loop's invariant: the sums have the entries passed in them. Assumes nothing.
-use mathlib.Core.Path.{◌≡◌, refl, sym, ap, ◌∙◌}
+use mathlib.Core.Path.{refl, ap, ◌∙◌}
 use mathlib.Core.List.{[], ◌∷◌}
-use Prim.Native.Nat.{ℕ, ◌-◌, ◌*◌, ◌≤◌}
+use Prim.Native.Nat.{◌*◌}
 use native.Mathlib.Omega.{arith}
-use borrow.Author.Rules.{rules}
-use lib.ListN.{length}
-use Rattle.trace_list.specs.Ones.{over}
-use Rattle.trace_list.specs.Form.{list_places}
 use Rattle.trace_list.proofs.Tests.{place_is}
 use Rattle.trace_list.proofs.There.{is_listed, place_below}
 use Rattle.trace_list.proofs.Folds.{fold_none, fold_more}
 use Rattle.fit_gradient.specs.Lists.{mark_one}
-use Rattle.fit_gradient.proofs.Pairs.{pairs, paired}
+use Rattle.fit_gradient.proofs.Pairs.{paired}
 use Rattle.fit_gradient.proofs.list_added.Goals as goal
 
 pub loop-i-init : goal.loop-i-init

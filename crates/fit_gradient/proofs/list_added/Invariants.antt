@@ -1,16 +1,10 @@
-use mathlib.Core.Path.{◌≡◌, refl, sym, ap, ◌∙◌}
-use mathlib.Core.List.{[], ◌∷◌}
-use Prim.Native.Nat.{ℕ, ◌-◌, ◌*◌, ◌≤◌}
-use native.Mathlib.Omega.{arith}
-use borrow.Author.Rules.{rules}
+use mathlib.Core.Path.{◌≡◌}
+use Prim.Native.Nat.{◌-◌, ◌≤◌}
 use lib.ListN.{length}
 use Rattle.trace_list.specs.Ones.{over}
 use Rattle.trace_list.specs.Form.{list_places}
-use Rattle.trace_list.proofs.Tests.{place_is}
-use Rattle.trace_list.proofs.There.{is_listed, place_below}
-use Rattle.trace_list.proofs.Folds.{fold_none, fold_more}
 use Rattle.fit_gradient.specs.Lists.{mark_one}
-use Rattle.fit_gradient.proofs.Pairs.{pairs, paired}
+use Rattle.fit_gradient.proofs.Pairs.{pairs}
 use Rattle.fit_gradient.proofs.list_added.Given as goal
 
 abbrev pub invariant-loop-i : goal.invariant-loop-i

@@ -1,6 +1,5 @@
 -- `fit_gradient::mark` meets its contract. Assumes nothing.
 use Rattle.fit_gradient.proofs.Marks.{passed_over, marked}
-use borrow.Author.Rules.{rules}
 use Rattle.fit_gradient.proofs.mark.Goals as goal
 
 pub returns-then-entry-eq0 : goal.returns-then-entry-eq0

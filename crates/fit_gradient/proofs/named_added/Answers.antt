@@ -1,11 +1,9 @@
 -- `fit_gradient::named_added` meets its contract. Assumes nothing.
-use mathlib.Core.Path.{◌≡◌, refl, sym, ◌∙◌}
-use Prim.Native.Nat.{◌-◌, ◌≤◌}
+use mathlib.Core.Path.{refl, ◌∙◌}
 use native.Mathlib.Omega.{arith}
-use lib.ListN.{length, length-set}
+use lib.ListN.{length-set}
 use Rattle.fit_gradient.specs.Gradient.{first_raised}
 use Rattle.fit_gradient.proofs.Marks.{one_more}
-use borrow.Author.Rules.{rules}
 use Rattle.fit_gradient.proofs.named_added.Goals as goal
 
 pub loop-i-init : goal.loop-i-init

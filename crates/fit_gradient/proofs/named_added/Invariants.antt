@@ -1,10 +1,7 @@
-use mathlib.Core.Path.{◌≡◌, refl, sym, ◌∙◌}
+use mathlib.Core.Path.{◌≡◌}
 use Prim.Native.Nat.{◌-◌, ◌≤◌}
-use native.Mathlib.Omega.{arith}
-use lib.ListN.{length, length-set}
+use lib.ListN.{length}
 use Rattle.fit_gradient.specs.Gradient.{first_raised}
-use Rattle.fit_gradient.proofs.Marks.{one_more}
-use borrow.Author.Rules.{rules}
 use Rattle.fit_gradient.proofs.named_added.Given as goal
 
 abbrev pub invariant-loop-i : goal.invariant-loop-i

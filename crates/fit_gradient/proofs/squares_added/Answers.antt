@@ -2,10 +2,8 @@
 -- Assumes nothing.
 use mathlib.Core.Path.{◌≡◌, sym, ap, ◌∙◌}
 use mathlib.Core.List.{List, ◌∷◌}
-use Prim.Native.Nat.{ℕ, ◌+◌, ◌*◌, ◌<◌}
+use Prim.Native.Nat.{◌+◌, ◌*◌, ◌<◌}
 use native.Mathlib.Omega.{arith}
-use borrow.Author.Rules.{rules}
-use lib.IntN.{ℤ}
 use lib.Ieee.{Float}
 use lib.ListN.{length}
 use Rattle.bits.specs.Bitboard.{squares}
@@ -17,7 +15,6 @@ use Rattle.trace_marks.proofs.Tested.{group_none}
 use Rattle.trace_marks.proofs.Walk as walk
 use Rattle.trace_marks.proofs.Folds as folds
 use Rattle.fit_gradient.specs.Marks.{entry_by}
-use Rattle.fit_gradient.specs.declared.Parts.{Parts}
 use Rattle.fit_gradient.proofs.Marks.{nothing, from_0}
 use Rattle.fit_gradient.proofs.squares_added.Invariants.{after}
 use Rattle.fit_gradient.proofs.squares_added.Goals as goal

@@ -1,22 +1,14 @@
-use mathlib.Core.Path.{◌≡◌, sym, ap, ◌∙◌}
-use mathlib.Core.List.{List, ◌∷◌}
-use Prim.Native.Nat.{ℕ, ◌+◌, ◌*◌, ◌<◌}
-use native.Mathlib.Omega.{arith}
-use borrow.Author.Rules.{rules}
+use mathlib.Core.Path.{◌≡◌}
+use mathlib.Core.List.{List}
+use Prim.Native.Nat.{ℕ, ◌*◌}
 use lib.IntN.{ℤ}
 use lib.Ieee.{Float}
 use lib.ListN.{length}
 use Rattle.bits.specs.Bitboard.{squares}
-use Rattle.bits.specs.Answers.{lowest}
-use Rattle.bits.proofs.Each.{next_at, next_done}
-use Rattle.trace_marks.specs.Marks.{group_of, mark_of, fold_from}
-use Rattle.trace_marks.proofs.Marks.{mark_small, mark_none}
-use Rattle.trace_marks.proofs.Tested.{group_none}
+use Rattle.trace_marks.specs.Marks.{fold_from}
 use Rattle.trace_marks.proofs.Walk as walk
-use Rattle.trace_marks.proofs.Folds as folds
 use Rattle.fit_gradient.specs.Marks.{entry_by}
 use Rattle.fit_gradient.specs.declared.Parts.{Parts}
-use Rattle.fit_gradient.proofs.Marks.{nothing, from_0}
 use Rattle.fit_gradient.proofs.squares_added.Given as goal
 
 -- the sums after so many groups

@@ -1,6 +1,6 @@
 -- `fit_root::nearest` meets its contract: what is settled is the nearest, whatever was guessed; else the root is worked out. Assumes nothing.
-use Rattle.std.proofs.Common.{ℕ, ◌+◌, ◌-◌, ◌*◌, ◌/◌, ◌^◌, ◌<◌, ap, arith, rules}
-use Rattle.fit_root.proofs.Whole.{doubled_or_not, whole_fits, whole_is, whole_one, near_half, short_root}
+use Rattle.std.proofs.Common.{ℕ, ◌+◌, ◌-◌, ◌*◌, ◌/◌, ◌^◌, ◌<◌, ap}
+use Rattle.fit_root.proofs.Whole.{doubled_or_not, whole_fits, whole_is, whole_one, near_half}
 use Rattle.fit_root.proofs.nearest.Goals as goal
 
 pub returns-then-n-eq0 : goal.returns-then-n-eq0

@@ -1,5 +1,5 @@
 -- `fit_root::root_of` meets its contract. Assumes nothing.
-use Rattle.std.proofs.Common.{◌+◌, ◌-◌, ◌*◌, ◌%◌, ◌^◌, ◌<◌, ◌≤◌, refl, le_trans, arith, rules}
+use Rattle.std.proofs.Common.{◌+◌, ◌-◌, ◌*◌, ◌%◌, ◌^◌, ◌<◌, ◌≤◌, refl, le_trans, arith}
 use Rattle.fit_root.proofs.Whole.{doubled_or_not}
 use Rattle.fit_root.proofs.Rounded.{rooted, no_nan, itself_at_least, scaled_units, digits_at_most, in_reach}
 use Rattle.fit_root.proofs.root_of.Goals as goal

@@ -1,5 +1,5 @@
 -- `fit_root::sqrt` meets its contract, case by case. Assumes nothing.
-use Rattle.std.proofs.Common.{◌≡◌, ℕ, suc, ◌-◌, ◌/◌, ◌^◌, T, sym, refl, subst, arith, rules}
+use Rattle.std.proofs.Common.{◌≡◌, ℕ, suc, ◌-◌, ◌/◌, ◌^◌, T, sym, refl, subst, arith}
 use lib.Ieee.{binary64, fits}
 use Rattle.laws.proofs.Nans.{is_no_nan}
 use Rattle.fit_root.proofs.Fields.{Above, above, at_nan, at_zero, at_negative, endless_root, field_below, root_small, root_large, digits_above}

@@ -1,7 +1,6 @@
 -- `fit_root::whole_root` meets its contract: what is left of the number, and the root so far. Assumes nothing.
-use Rattle.std.proofs.Common.{◌≡◌, ℕ, ◌+◌, ◌-◌, ◌*◌, ◌/◌, ◌%◌, ◌^◌, ◌<◌, ◌≤◌, sym, ⊎_elim, lt_of_lt_of_le, mul_assoc, pow-suc, add-one, arith, pow_mono}
-use Rattle.fit_root.specs.Whole.{IsRoot}
-use Rattle.fit_root.proofs.Whole.{even, square, next_square}
+use Rattle.std.proofs.Common.{◌≡◌, ℕ, ◌+◌, ◌-◌, ◌*◌, ◌/◌, ◌%◌, ◌^◌, ◌<◌, ◌≤◌, sym, lt_of_lt_of_le, mul_assoc, pow-suc, add-one, arith, pow_mono}
+use Rattle.fit_root.proofs.Whole.{even, square}
 use Rattle.fit_root.proofs.whole_root.Invariants.{Done}
 use Rattle.fit_root.proofs.whole_root.Goals as goal
 use Rattle.fit_root.proofs.whole_root.Goals.{then-trial-all, else-trial-all}

@@ -1,6 +1,4 @@
-use Rattle.std.proofs.Common.{◌≡◌, ℕ, ◌+◌, ◌-◌, ◌*◌, ◌/◌, ◌%◌, ◌^◌, ◌<◌, ◌≤◌, sym, ⊎_elim, lt_of_lt_of_le, mul_assoc, pow-suc, add-one, arith, pow_mono}
-use Rattle.fit_root.specs.Whole.{IsRoot}
-use Rattle.fit_root.proofs.Whole.{even, square, next_square}
+use Rattle.std.proofs.Common.{◌≡◌, ℕ, ◌+◌, ◌-◌, ◌*◌, ◌^◌, ◌<◌, ◌≤◌}
 use Rattle.fit_root.proofs.whole_root.Given as goal
 
 -- k pairs of digits are done: root and rem are the root and the remainder of the digits so far, and m holds the others, from the top

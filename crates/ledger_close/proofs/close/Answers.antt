@@ -5,7 +5,6 @@ use Rattle.line_profile.proofs.Judged.{judged_value}
 use Rattle.line_held.specs.Held.{said_of}
 use Rattle.position_boards.specs.Boards.{bitboards_of}
 use Rattle.line_ranks.specs.Promises.{empty_board}
-use borrow.Author.Rules.{rules}
 use Rattle.ledger_close.proofs.Closed.{row_judged}
 use Rattle.ledger_close.proofs.close.Goals as goal
 

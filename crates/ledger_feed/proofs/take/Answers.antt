@@ -1,11 +1,8 @@
 -- `ledger_feed::take` meets its contract: the loop's invariant is `Turn`. Assumes nothing.
-use mathlib.Core.Path.{sym, ◌∙◌}
 use mathlib.Core.Bool.{not}
 use mathlib.Core.List.{[]}
-use Prim.Native.Nat.{◌+◌, ◌-◌}
+use Prim.Native.Nat.{◌+◌}
 use native.Mathlib.Omega.{arith}
-use borrow.Author.Rules.{rules}
-use lib.ListN.{length}
 use mir.Val.{bool_byte}
 use Rattle.line_cut.specs.Cut.{run_by}
 use Rattle.line_cut.specs.Promises.{opened}
@@ -14,7 +11,7 @@ use Rattle.line_profile.specs.Under.{said_under}
 use Rattle.ledger_close.proofs.Closed.{closed_adds}
 use Rattle.ledger_feed.specs.Machine.{close_row}
 use Rattle.ledger_feed.proofs.Counted.{number_most, tally_number}
-use Rattle.ledger_feed.proofs.Turn.{Turn, rows, turn_none, turn_less, turn_on, turn_close, turn_end}
+use Rattle.ledger_feed.proofs.Turn.{rows, turn_less, turn_on, turn_close, turn_end}
 use Rattle.ledger_feed.proofs.take.Goals as goal
 
 pub overflow_add-loaded-then-cut : goal.overflow_add-loaded-then-cut

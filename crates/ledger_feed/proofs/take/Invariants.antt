@@ -1,19 +1,10 @@
-use mathlib.Core.Path.{sym, ◌∙◌}
-use mathlib.Core.Bool.{not}
 use mathlib.Core.List.{[]}
-use Prim.Native.Nat.{◌+◌, ◌-◌}
-use native.Mathlib.Omega.{arith}
-use borrow.Author.Rules.{rules}
+use Prim.Native.Nat.{◌-◌}
 use lib.ListN.{length}
-use mir.Val.{bool_byte}
 use Rattle.line_cut.specs.Cut.{run_by}
 use Rattle.line_cut.specs.Promises.{opened}
-use Rattle.line_cut.proofs.Loop.{next_line}
-use Rattle.line_profile.specs.Under.{said_under}
-use Rattle.ledger_close.proofs.Closed.{closed_adds}
 use Rattle.ledger_feed.specs.Machine.{close_row}
-use Rattle.ledger_feed.proofs.Counted.{number_most, tally_number}
-use Rattle.ledger_feed.proofs.Turn.{Turn, rows, turn_none, turn_less, turn_on, turn_close, turn_end}
+use Rattle.ledger_feed.proofs.Turn.{Turn, rows}
 use Rattle.ledger_feed.proofs.take.Given as goal
 
 abbrev pub invariant-loop-at : goal.invariant-loop-at

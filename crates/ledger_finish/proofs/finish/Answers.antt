@@ -1,15 +1,11 @@
 -- `ledger_finish::finish` meets its contract: the last rows are made, and then put. Assumes nothing.
 use mathlib.Core.Path.{sym, ap, ◌∙◌}
 use Prim.Native.Nat.{ℕ, ◌+◌, ◌^◌}
-use native.Mathlib.Omega.{arith}
 use lib.Dec.{ltb}
 use lib.ListN.{take}
-use lib.Seq.{length-take-le}
-use borrow.Author.Rules.{rules}
-use borrow.Author.Tests.{not-true, not-false, ltb-true}
-use Rattle.text_out.proofs.Added.{adds_to, adds_length, adds_front}
-use Rattle.ledger_finish.specs.Promises.{last_lines}
-use Rattle.ledger_finish.proofs.Doors.{finish_shape, finish_many, finish_full, finish_rows, finished_116}
+use borrow.Author.Tests.{not-false}
+use Rattle.text_out.proofs.Added.{adds_front}
+use Rattle.ledger_finish.proofs.Doors.{finish_rows, finished_116}
 use Rattle.ledger_finish.proofs.finish.Goals as goal
 
 pub returns-in-At : goal.returns-in-At

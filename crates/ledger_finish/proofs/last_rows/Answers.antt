@@ -3,14 +3,12 @@ use mathlib.Core.Path.{sym, subst, ◌∙◌}
 use mathlib.Core.Bool.{true, false}
 use mathlib.Core.List.{List}
 use Prim.Native.Nat.{ℕ, ◌+◌}
-use native.Mathlib.Omega.{arith}
-use borrow.Author.Rules.{rules}
 use Rattle.text_out.specs.Text.{Adds}
 use Rattle.text_out.proofs.Added.{adds_or}
 use Rattle.ledger_totals.specs.Totals.{last_row}
 use Rattle.line_profile.specs.Under.{said_under}
 use Rattle.ledger_close.proofs.Closed.{closed_adds}
-use Rattle.ledger_finish.proofs.Doors.{finished_none, finished_adds, one_unfinished}
+use Rattle.ledger_finish.proofs.Doors.{finished_none, finished_adds}
 use Rattle.ledger_finish.proofs.last_rows.Goals as goal
 
 pub returns-then-state-eq0 : goal.returns-then-state-eq0

@@ -1,13 +1,10 @@
 -- `ledger_totals::error` meets its contract: the row is made, and then put. Assumes nothing.
-use mathlib.Core.Path.{sym, subst}
+use mathlib.Core.Path.{subst}
 use mathlib.Core.List.{List}
 use Prim.Native.Nat.{ℕ}
-use native.Mathlib.Omega.{arith}
-use lib.Seq.{length-take-le}
 use Rattle.text_out.specs.Text.{Puts}
-use Rattle.text_out.proofs.Added.{adds_to, adds_front, adds_length}
+use Rattle.text_out.proofs.Added.{adds_front}
 use Rattle.ledger_totals.proofs.Point.{fits_error}
-use borrow.Author.Rules.{rules}
 use Rattle.ledger_totals.proofs.error.Goals as goal
 
 pub returns : goal.returns

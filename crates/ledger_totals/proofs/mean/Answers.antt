@@ -1,9 +1,7 @@
 -- `ledger_totals::mean` meets its contract. Assumes nothing.
-use native.Mathlib.Omega.{arith}
 use Rattle.text_in.specs.Text.{text}
 use Rattle.text_out.proofs.Added.{adds_or}
-use Rattle.ledger_totals.proofs.Point.{after_room, mean_none, mean_some}
-use borrow.Author.Rules.{rules}
+use Rattle.ledger_totals.proofs.Point.{mean_none, mean_some}
 use Rattle.ledger_totals.proofs.mean.Goals as goal
 
 pub returns-then-scored-eq0 : goal.returns-then-scored-eq0

@@ -2,7 +2,6 @@
 use native.Mathlib.Omega.{arith}
 use Rattle.text_out.specs.Text.{decimal_of}
 use Rattle.text_out.proofs.Added.{adds_or, adds_then, length_20}
-use borrow.Author.Rules.{rules}
 use Rattle.ledger_totals.proofs.named.Goals as goal
 
 pub returns : goal.returns

@@ -3,7 +3,6 @@ use Prim.Native.Nat.{◌+◌, ◌/◌, ◌%◌}
 use Rattle.text_out.specs.Text.{decimal_of}
 use Rattle.text_out.proofs.Added.{adds_or}
 use Rattle.ledger_totals.proofs.Point.{places_adds}
-use borrow.Author.Rules.{rules}
 use Rattle.ledger_totals.proofs.places.Goals as goal
 
 pub returns : goal.returns

@@ -4,7 +4,6 @@ use Rattle.text_in.specs.Text.{text}
 use Rattle.text_out.proofs.Added.{adds_or, adds_to, adds_4}
 use Rattle.ledger_totals.specs.Totals.{last_row}
 use Rattle.ledger_totals.proofs.Fits.{length_named}
-use borrow.Author.Rules.{rules}
 use Rattle.ledger_totals.proofs.write.Goals as goal
 
 pub named-b-requires : goal.named-b-requires

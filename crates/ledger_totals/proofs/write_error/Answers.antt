@@ -4,7 +4,6 @@ use Rattle.text_in.specs.Text.{text}
 use Rattle.text_out.proofs.Added.{adds_or}
 use Rattle.ledger_totals.proofs.Fits.{length_named}
 use Rattle.ledger_totals.proofs.Point.{after_room, error_adds}
-use borrow.Author.Rules.{rules}
 use Rattle.ledger_totals.proofs.write_error.Goals as goal
 
 pub named-b-requires : goal.named-b-requires

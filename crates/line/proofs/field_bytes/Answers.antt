@@ -1,6 +1,5 @@
 -- `line::field_bytes` meets its contract. Assumes nothing.
 use mathlib.Core.Path.{sym, ◌∙◌}
-use borrow.Author.Rules.{rules}
 use lib.Seq.{length-take-le}
 use Rattle.text_in.specs.Text.{semicolon}
 use Rattle.text_in.proofs.Parts.{before_found}

@@ -1,7 +1,6 @@
 -- `line::field_part` meets its contract. Assumes nothing.
 use mathlib.Core.Path.{ap}
 use lib.ListN.{length}
-use borrow.Author.Rules.{rules}
 use Rattle.line.proofs.Found.{empty, found}
 use Rattle.line.proofs.field_part.Goals as goal
 

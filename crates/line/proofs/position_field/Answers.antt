@@ -1,6 +1,5 @@
 -- `line::position_field` meets its contract: the start and the length that were found cut the field out of the line. Assumes nothing.
 use native.Mathlib.Omega.{arith}
-use borrow.Author.Rules.{rules}
 use Rattle.line.proofs.Cut.{cut_by, by_within}
 use Rattle.line.proofs.position_field.Goals as goal
 

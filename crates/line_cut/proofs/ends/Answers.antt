@@ -1,11 +1,7 @@
 -- `line_cut::ends` meets its contract: the loop has counted what ended so far. Assumes nothing.
-use mathlib.Core.Path.{◌≡◌}
 use mathlib.Core.List.{[], ◌∷◌}
-use Prim.Native.Nat.{◌≤◌, ◌+◌, ◌-◌}
 use native.Mathlib.Omega.{arith}
-use borrow.Author.Rules.{rules}
-use lib.ListN.{length, drop, get_or}
-use Rattle.line_cut.specs.Lines.{ends}
+use lib.ListN.{get_or}
 use Rattle.line_cut.proofs.Counted.{ends_turn, ends_last, ends_le}
 use Rattle.line_cut.proofs.ends.Goals as goal
 

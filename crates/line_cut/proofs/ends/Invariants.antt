@@ -1,11 +1,7 @@
 use mathlib.Core.Path.{◌≡◌}
-use mathlib.Core.List.{[], ◌∷◌}
 use Prim.Native.Nat.{◌≤◌, ◌+◌, ◌-◌}
-use native.Mathlib.Omega.{arith}
-use borrow.Author.Rules.{rules}
-use lib.ListN.{length, drop, get_or}
+use lib.ListN.{length, drop}
 use Rattle.line_cut.specs.Lines.{ends}
-use Rattle.line_cut.proofs.Counted.{ends_turn, ends_last, ends_le}
 use Rattle.line_cut.proofs.ends.Given as goal
 
 abbrev pub invariant-loop-i : goal.invariant-loop-i

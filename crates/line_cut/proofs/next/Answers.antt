@@ -1,10 +1,8 @@
 -- `line_cut::next` meets its contract: the loop's invariant is `Turn`. Assumes nothing.
-use Prim.Native.Nat.{◌-◌}
 use native.Mathlib.Omega.{arith}
-use borrow.Author.Rules.{rules}
 use lib.ListN.{length, drop}
 use Rattle.line_cut.specs.Cut.{find_of}
-use Rattle.line_cut.proofs.Turn.{Turn, holding, turn_none, turn_push, turn_close, turn_end}
+use Rattle.line_cut.proofs.Turn.{holding, turn_push, turn_close, turn_end}
 use Rattle.line_cut.proofs.next.Goals as goal
 
 pub returns-then-byte-eq10 : goal.returns-then-byte-eq10

@@ -1,9 +1,7 @@
 use Prim.Native.Nat.{◌-◌}
-use native.Mathlib.Omega.{arith}
-use borrow.Author.Rules.{rules}
 use lib.ListN.{length, drop}
 use Rattle.line_cut.specs.Cut.{find_of}
-use Rattle.line_cut.proofs.Turn.{Turn, holding, turn_none, turn_push, turn_close, turn_end}
+use Rattle.line_cut.proofs.Turn.{Turn, holding}
 use Rattle.line_cut.proofs.next.Given as goal
 
 abbrev pub invariant-loop-i : goal.invariant-loop-i

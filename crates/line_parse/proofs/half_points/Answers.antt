@@ -1,5 +1,4 @@
 -- `line_parse::half_points` meets its contract. Assumes nothing.
-use borrow.Author.Rules.{rules}
 use Rattle.line_parse.proofs.Words.{is_lost, is_draw, is_won, no_result}
 use Rattle.line_parse.proofs.half_points.Goals as goal
 

@@ -1,6 +1,5 @@
 -- `line_profile::read_line` meets its contract. Assumes nothing.
-use borrow.Author.Rules.{rules}
-use Rattle.line_profile.proofs.Lent.{not_14, not_64, turned_away, written}
+use Rattle.line_profile.proofs.Lent.{turned_away, written}
 use Rattle.line_profile.proofs.read_line.Goals as goal
 
 pub returns-in-Refused : goal.returns-in-Refused

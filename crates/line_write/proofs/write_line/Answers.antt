@@ -1,6 +1,5 @@
 -- `line_write::write_line` meets its contract. Assumes nothing.
 use Rattle.line_write.proofs.Answers.{unfit, fit}
-use borrow.Author.Rules.{rules}
 use Rattle.line_write.proofs.write_line.Goals as goal
 
 pub returns-in-Refused : goal.returns-in-Refused

@@ -5,7 +5,6 @@ use mathlib.Core.List.{List}
 use Prim.Native.Nat.{ℕ}
 use native.Mathlib.Omega.{arith}
 use lib.ListN.{length}
-use borrow.Author.Rules.{rules}
 use borrow.Author.Tests.{eq-eqb, not-true, not-false}
 use Rattle.refusal.specs.Answer.{given}
 use Rattle.position_consistent.specs.Consistent.{consistent}

@@ -1,5 +1,4 @@
 -- `position_boards::bitboards_of` meets its contract. Assumes nothing.
-use borrow.Author.Rules.{rules}
 use Rattle.position_boards.proofs.Made.{made, strays_seen}
 use Rattle.position_boards.proofs.bitboards_of.Goals as goal
 

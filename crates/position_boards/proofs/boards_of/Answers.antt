@@ -1,12 +1,11 @@
 -- `position_boards::boards_of` meets its contract: it has the boards below `code`. Assumes nothing.
-use mathlib.Core.Path.{◌≡◌, ap₂, ◌∙◌}
+use mathlib.Core.Path.{ap₂, ◌∙◌}
 use mathlib.Core.List.{[], ◌∷◌}
-use Prim.Native.Nat.{ℕ, ◌≤◌, ◌-◌}
+use Prim.Native.Nat.{ℕ}
 use native.Mathlib.Numerals.{add-one}
 use native.Mathlib.Omega.{arith}
-use borrow.Author.Rules.{rules}
 use Rattle.laws.specs.Tables.{tabulate}
-use Rattle.position_boards.proofs.Copied.{copied_to, board_by, boards_more, boards_all}
+use Rattle.position_boards.proofs.Copied.{boards_more, boards_all}
 use Rattle.position_boards.proofs.boards_of.Goals as goal
 
 pub loop-code-init : goal.loop-code-init

@@ -1,11 +1,6 @@
-use mathlib.Core.Path.{◌≡◌, ap₂, ◌∙◌}
-use mathlib.Core.List.{[], ◌∷◌}
-use Prim.Native.Nat.{ℕ, ◌≤◌, ◌-◌}
-use native.Mathlib.Numerals.{add-one}
-use native.Mathlib.Omega.{arith}
-use borrow.Author.Rules.{rules}
-use Rattle.laws.specs.Tables.{tabulate}
-use Rattle.position_boards.proofs.Copied.{copied_to, board_by, boards_more, boards_all}
+use mathlib.Core.Path.{◌≡◌}
+use Prim.Native.Nat.{◌≤◌, ◌-◌}
+use Rattle.position_boards.proofs.Copied.{copied_to, board_by}
 use Rattle.position_boards.proofs.boards_of.Given as goal
 
 abbrev pub invariant-loop-code : goal.invariant-loop-code

@@ -1,13 +1,10 @@
 -- `position_boards::shared` meets its contract: after n boards, `once` and `twice` are the squares that one of them has, and that two have.
 -- Assumes nothing.
 use mathlib.Core.Path.{◌≡◌, ◌∙◌}
-use Prim.Native.Nat.{◌≤◌, ◌-◌, ◌+◌}
+use Prim.Native.Nat.{◌+◌}
 use native.Mathlib.Numerals.{add-one}
 use native.Mathlib.Omega.{arith}
-use borrow.Author.Rules.{rules}
-use lib.Dec.{leb}
-use Rattle.bits.specs.Bitboard.{those}
-use Rattle.position_boards.proofs.Crowded.{among, none_yet, once_more, twice_more, all_twelve}
+use Rattle.position_boards.proofs.Crowded.{none_yet, once_more, twice_more, all_twelve}
 use Rattle.position_boards.proofs.shared.Goals as goal
 
 pub loop-n-init : goal.loop-n-init

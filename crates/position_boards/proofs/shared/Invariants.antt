@@ -1,11 +1,8 @@
-use mathlib.Core.Path.{◌≡◌, ◌∙◌}
-use Prim.Native.Nat.{◌≤◌, ◌-◌, ◌+◌}
-use native.Mathlib.Numerals.{add-one}
-use native.Mathlib.Omega.{arith}
-use borrow.Author.Rules.{rules}
+use mathlib.Core.Path.{◌≡◌}
+use Prim.Native.Nat.{◌≤◌, ◌-◌}
 use lib.Dec.{leb}
 use Rattle.bits.specs.Bitboard.{those}
-use Rattle.position_boards.proofs.Crowded.{among, none_yet, once_more, twice_more, all_twelve}
+use Rattle.position_boards.proofs.Crowded.{among}
 use Rattle.position_boards.proofs.shared.Given as goal
 
 abbrev pub invariant-loop-n : goal.invariant-loop-n

@@ -1,5 +1,4 @@
 -- `position_boards::sound` meets its contract: each return is one of its tests. Assumes nothing.
-use borrow.Author.Rules.{rules}
 use Rattle.position_boards.proofs.Tested.{no_fourteen, overlapping, white_amiss, black_decides}
 use Rattle.position_boards.proofs.sound.Goals as goal
 

@@ -1,6 +1,5 @@
 -- `position_boards::split` meets its contract. Assumes nothing.
-use borrow.Author.Rules.{rules}
-use Rattle.position_boards.proofs.Wrong.{no_split, split_found}
+use Rattle.position_boards.proofs.Wrong.{split_found}
 use Rattle.position_boards.proofs.split.Goals as goal
 
 pub returns : goal.returns

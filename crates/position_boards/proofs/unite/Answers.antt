@@ -1,11 +1,9 @@
 -- `position_boards::unite` meets its contract: after n kinds, `all` is the squares of the colour's n boards. Assumes nothing.
-use mathlib.Core.Path.{◌≡◌, ◌∙◌}
-use Prim.Native.Nat.{◌≤◌, ◌-◌, ◌+◌, ◌*◌}
+use mathlib.Core.Path.{◌∙◌}
+use Prim.Native.Nat.{◌+◌, ◌*◌}
 use native.Mathlib.Numerals.{add-one}
 use native.Mathlib.Omega.{arith}
-use borrow.Author.Rules.{rules}
-use Rattle.bits.specs.Bitboard.{those}
-use Rattle.position_boards.proofs.Crowded.{among_colour, none_of_colour, colour_more, all_six}
+use Rattle.position_boards.proofs.Crowded.{none_of_colour, colour_more, all_six}
 use Rattle.position_boards.proofs.unite.Goals as goal
 
 pub loop-n-init : goal.loop-n-init

@@ -1,10 +1,7 @@
-use mathlib.Core.Path.{◌≡◌, ◌∙◌}
-use Prim.Native.Nat.{◌≤◌, ◌-◌, ◌+◌, ◌*◌}
-use native.Mathlib.Numerals.{add-one}
-use native.Mathlib.Omega.{arith}
-use borrow.Author.Rules.{rules}
+use mathlib.Core.Path.{◌≡◌}
+use Prim.Native.Nat.{◌≤◌, ◌-◌}
 use Rattle.bits.specs.Bitboard.{those}
-use Rattle.position_boards.proofs.Crowded.{among_colour, none_of_colour, colour_more, all_six}
+use Rattle.position_boards.proofs.Crowded.{among_colour}
 use Rattle.position_boards.proofs.unite.Given as goal
 
 abbrev pub invariant-loop-n : goal.invariant-loop-n

@@ -1,14 +1,10 @@
 -- `position_consistent::bytes_amiss` meets its contract: after some files, `amiss` is 0 where each of their bytes was right. Assumes nothing.
-use mathlib.Core.Path.{◌≡◌, refl, ap, ◌∙◌}
-use mathlib.Core.Bool.{Bool}
-use mathlib.Core.List.{List}
-use Prim.Native.Nat.{ℕ, ◌≤◌, ◌-◌}
+use mathlib.Core.Path.{refl, ap, ◌∙◌}
+use Prim.Native.Nat.{ℕ}
 use native.Mathlib.Numerals.{add-one}
 use native.Mathlib.Omega.{arith}
-use lib.Dec.{eqb}
-use borrow.Author.Rules.{rules}
 use Rattle.laws.specs.Tests.{all_below}
-use Rattle.position_consistent.specs.PrivateTested.{file_codes, file_right}
+use Rattle.position_consistent.specs.PrivateTested.{file_right}
 use Rattle.position_consistent.proofs.Planes.{more_amiss}
 use Rattle.position_consistent.proofs.bytes_amiss.Invariants.{right-on}
 use Rattle.position_consistent.proofs.bytes_amiss.Goals as goal

@@ -1,7 +1,6 @@
 -- `position_consistent::chosen` meets its contract. Assumes nothing.
 use mathlib.Core.Path.{sym, ap}
 use mathlib.Core.Bool.{Bool, cond}
-use borrow.Author.Rules.{rules}
 use Rattle.bits.proofs.Machine.{is_clear, is_there}
 use Rattle.position_consistent.proofs.chosen.Goals as goal
 

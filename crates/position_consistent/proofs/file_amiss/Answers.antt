@@ -1,11 +1,10 @@
 -- `position_consistent::file_amiss` meets its contract: after some ranks, `amiss` is 0 where each of their bytes was right. Assumes nothing.
-use mathlib.Core.Path.{◌≡◌, refl, ap, ◌∙◌}
-use Prim.Native.Nat.{ℕ, ◌≤◌, ◌-◌, ◌+◌, ◌*◌}
+use mathlib.Core.Path.{refl, ap}
+use Prim.Native.Nat.{◌+◌, ◌*◌}
 use native.Mathlib.Numerals.{add-one}
 use native.Mathlib.Omega.{arith}
 use lib.Dec.{eqb}
 use lib.ListN.{get_or}
-use borrow.Author.Rules.{rules}
 use Rattle.laws.specs.Tests.{all_below}
 use Rattle.position_consistent.specs.PrivateTested.{rank_right}
 use Rattle.position_consistent.proofs.Planes.{byte_amiss}

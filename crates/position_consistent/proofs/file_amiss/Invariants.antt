@@ -1,13 +1,8 @@
-use mathlib.Core.Path.{◌≡◌, refl, ap, ◌∙◌}
-use Prim.Native.Nat.{ℕ, ◌≤◌, ◌-◌, ◌+◌, ◌*◌}
-use native.Mathlib.Numerals.{add-one}
-use native.Mathlib.Omega.{arith}
+use mathlib.Core.Path.{◌≡◌}
+use Prim.Native.Nat.{◌≤◌, ◌-◌}
 use lib.Dec.{eqb}
-use lib.ListN.{get_or}
-use borrow.Author.Rules.{rules}
 use Rattle.laws.specs.Tests.{all_below}
 use Rattle.position_consistent.specs.PrivateTested.{rank_right}
-use Rattle.position_consistent.proofs.Planes.{byte_amiss}
 use Rattle.position_consistent.proofs.file_amiss.Given as goal
 
 abbrev pub invariant-loop-rank : goal.invariant-loop-rank

@@ -1,6 +1,5 @@
 -- `position_consistent::file_codes` meets its contract. Assumes nothing.
 use mathlib.Core.Path.{refl}
-use borrow.Author.Rules.{rules}
 use Rattle.position_consistent.specs.PrivateTested.{file_codes}
 use Rattle.position_consistent.proofs.file_codes.Goals as goal
 

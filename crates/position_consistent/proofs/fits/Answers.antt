@@ -4,13 +4,12 @@ use mathlib.Core.Bool.{true}
 use mathlib.Core.List.{List}
 use Prim.Native.Nat.{ℕ}
 use native.Mathlib.Omega.{arith}
-use borrow.Author.Rules.{rules}
 use borrow.Author.Tests.{not-true, not-false}
 use lib.ListN.{length}
 use Rattle.position_boards.specs.Sound.{sound}
 use Rattle.position_boards.proofs.Tested.{sound_14}
 use Rattle.position_consistent.specs.PrivateTested.{plane_of, files_right}
-use Rattle.position_consistent.proofs.Tested.{no_bytes, unsound, bytes_decide}
+use Rattle.position_consistent.proofs.Tested.{unsound, bytes_decide}
 use Rattle.position_consistent.proofs.fits.Goals as goal
 
 pub returns-then-not-sound : goal.returns-then-not-sound

@@ -1,12 +1,10 @@
 -- `position_consistent::plane` meets its contract: after n boards, `all` is the squares of those whose code has the digit. Assumes nothing.
-use mathlib.Core.Path.{◌≡◌, ap₂, ◌∙◌}
-use Prim.Native.Nat.{◌≤◌, ◌-◌, ◌+◌}
+use mathlib.Core.Path.{ap₂, ◌∙◌}
+use Prim.Native.Nat.{◌+◌}
 use native.Mathlib.Numerals.{add-one}
 use native.Mathlib.Omega.{arith}
 use lib.Bits.{bit_or}
-use borrow.Author.Rules.{rules}
-use Rattle.bits.specs.Bitboard.{those}
-use Rattle.position_consistent.proofs.Planes.{among_digit, no_digit, digit_more, digit_all}
+use Rattle.position_consistent.proofs.Planes.{no_digit, digit_more, digit_all}
 use Rattle.position_consistent.proofs.plane.Goals as goal
 
 pub loop-n-init : goal.loop-n-init

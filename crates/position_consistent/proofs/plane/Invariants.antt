@@ -1,11 +1,7 @@
-use mathlib.Core.Path.{◌≡◌, ap₂, ◌∙◌}
-use Prim.Native.Nat.{◌≤◌, ◌-◌, ◌+◌}
-use native.Mathlib.Numerals.{add-one}
-use native.Mathlib.Omega.{arith}
-use lib.Bits.{bit_or}
-use borrow.Author.Rules.{rules}
+use mathlib.Core.Path.{◌≡◌}
+use Prim.Native.Nat.{◌≤◌, ◌-◌}
 use Rattle.bits.specs.Bitboard.{those}
-use Rattle.position_consistent.proofs.Planes.{among_digit, no_digit, digit_more, digit_all}
+use Rattle.position_consistent.proofs.Planes.{among_digit}
 use Rattle.position_consistent.proofs.plane.Given as goal
 
 abbrev pub invariant-loop-n : goal.invariant-loop-n

@@ -1,6 +1,5 @@
 -- `position_odds::at_odds` meets its contract. Assumes nothing.
-use borrow.Author.Rules.{rules}
-use Rattle.position_odds.proofs.Answered.{no_boards, no_bytes, overlap_told, union_told, byteboard_told}
+use Rattle.position_odds.proofs.Answered.{overlap_told, union_told, byteboard_told}
 use Rattle.position_odds.proofs.at_odds.Goals as goal
 
 pub returns-then-overlap-ne0 : goal.returns-then-overlap-ne0

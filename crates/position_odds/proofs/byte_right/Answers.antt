@@ -1,7 +1,6 @@
 -- `position_odds::byte_right` meets its contract. Assumes nothing.
 use native.Mathlib.Omega.{arith}
-use borrow.Author.Rules.{rules}
-use Rattle.position_odds.proofs.Parts.{right_empty, right_low, right_high, right_piece}
+use Rattle.position_odds.proofs.Parts.{right_empty, right_piece}
 use Rattle.position_odds.proofs.byte_right.Goals as goal
 
 pub returns-then-byte-eq-EMPTY : goal.returns-then-byte-eq-EMPTY

@@ -1,6 +1,5 @@
 -- `position_odds::lowest` meets its contract. Assumes nothing.
 use native.Mathlib.Omega.{arith}
-use borrow.Author.Rules.{rules}
 use Rattle.position_odds.proofs.Named.{lowest_small}
 use Rattle.position_odds.proofs.lowest.Goals as goal
 

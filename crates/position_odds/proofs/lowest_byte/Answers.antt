@@ -1,12 +1,9 @@
 -- `position_odds::lowest_byte` meets its contract: the bytes below k agree. Assumes nothing.
-use mathlib.Core.Path.{◌≡◌, sym, ◌∙◌}
-use Prim.Native.Nat.{◌≤◌, ◌-◌}
+use mathlib.Core.Path.{sym, ◌∙◌}
 use native.Mathlib.Omega.{arith}
-use borrow.Author.Rules.{rules}
 use borrow.Author.Tests.{not-true, not-false}
-use Rattle.position_boards.specs.PrivateTested.{shared_by}
 use Rattle.position_consistent.specs.Consistent.{agrees}
-use Rattle.position_odds.proofs.Named.{Tried, none_tried, one_more, stopped, ended}
+use Rattle.position_odds.proofs.Named.{one_more, stopped, ended}
 use Rattle.position_odds.proofs.Parts.{byte_agrees}
 use Rattle.position_odds.proofs.lowest_byte.Goals as goal
 

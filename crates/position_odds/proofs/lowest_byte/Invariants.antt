@@ -1,12 +1,8 @@
-use mathlib.Core.Path.{◌≡◌, sym, ◌∙◌}
+use mathlib.Core.Path.{◌≡◌}
 use Prim.Native.Nat.{◌≤◌, ◌-◌}
-use native.Mathlib.Omega.{arith}
-use borrow.Author.Rules.{rules}
-use borrow.Author.Tests.{not-true, not-false}
 use Rattle.position_boards.specs.PrivateTested.{shared_by}
 use Rattle.position_consistent.specs.Consistent.{agrees}
-use Rattle.position_odds.proofs.Named.{Tried, none_tried, one_more, stopped, ended}
-use Rattle.position_odds.proofs.Parts.{byte_agrees}
+use Rattle.position_odds.proofs.Named.{Tried}
 use Rattle.position_odds.proofs.lowest_byte.Given as goal
 
 abbrev pub invariant-loop-k : goal.invariant-loop-k

@@ -1,12 +1,9 @@
 -- `position_odds::occupied` meets its contract: after n boards, `once` is the squares that one of them has. Assumes nothing.
 use mathlib.Core.Path.{◌≡◌, ◌∙◌}
-use Prim.Native.Nat.{◌≤◌, ◌-◌, ◌+◌}
+use Prim.Native.Nat.{◌+◌}
 use native.Mathlib.Numerals.{add-one}
 use native.Mathlib.Omega.{arith}
-use borrow.Author.Rules.{rules}
-use lib.Dec.{leb}
-use Rattle.bits.specs.Bitboard.{those}
-use Rattle.position_boards.proofs.Crowded.{among, none_yet, once_more, all_twelve}
+use Rattle.position_boards.proofs.Crowded.{none_yet, once_more, all_twelve}
 use Rattle.position_odds.proofs.occupied.Goals as goal
 
 pub loop-n-init : goal.loop-n-init

@@ -1,5 +1,4 @@
 -- `position_planes::above` meets its contract. Assumes nothing.
-use borrow.Author.Rules.{rules}
 use Rattle.position_planes.proofs.Planes.{none_beyond}
 use Rattle.position_planes.proofs.above.Goals as goal
 

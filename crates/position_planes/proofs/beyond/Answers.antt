@@ -1,9 +1,8 @@
 -- `position_planes::beyond` meets its contract. The loop's invariant: the digits of the ranks passed are in. Assumes nothing.
-use mathlib.Core.Path.{◌≡◌, ap, ◌∙◌}
-use Prim.Native.Nat.{ℕ, ◌-◌, ◌≤◌}
+use mathlib.Core.Path.{ap, ◌∙◌}
+use Prim.Native.Nat.{ℕ}
 use native.Mathlib.Omega.{arith}
-use borrow.Author.Rules.{rules}
-use Rattle.position_planes.specs.PrivatePlanes.{stack, rank_word, digits_of_rule, high_of}
+use Rattle.position_planes.specs.PrivatePlanes.{rank_word, digits_of_rule, high_of}
 use Rattle.position_planes.proofs.Planes.{stack_none, stack_next}
 use Rattle.position_planes.proofs.beyond.Goals as goal
 

@@ -1,9 +1,6 @@
-use mathlib.Core.Path.{◌≡◌, ap, ◌∙◌}
-use Prim.Native.Nat.{ℕ, ◌-◌, ◌≤◌}
-use native.Mathlib.Omega.{arith}
-use borrow.Author.Rules.{rules}
+use mathlib.Core.Path.{◌≡◌}
+use Prim.Native.Nat.{◌-◌, ◌≤◌}
 use Rattle.position_planes.specs.PrivatePlanes.{stack, rank_word, digits_of_rule, high_of}
-use Rattle.position_planes.proofs.Planes.{stack_none, stack_next}
 use Rattle.position_planes.proofs.beyond.Given as goal
 
 abbrev pub invariant-loop-rank : goal.invariant-loop-rank

@@ -1,6 +1,5 @@
 -- `position_planes::gathered` meets its contract. Assumes nothing.
 use Rattle.position_planes.proofs.Planes.{gather}
-use borrow.Author.Rules.{rules}
 use Rattle.position_planes.proofs.gathered.Goals as goal
 
 pub returns : goal.returns

@@ -1,10 +1,6 @@
 -- `position_planes::sliced` meets its contract. The loop's invariant: the ranks passed are in. Assumes nothing.
-use mathlib.Core.Path.{◌≡◌, subst}
-use Prim.Native.Nat.{ℕ, ◌-◌, ◌≤◌}
 use native.Mathlib.Omega.{arith}
-use borrow.Author.Rules.{rules}
 use lib.ListN.{get_or}
-use Rattle.position_planes.specs.PrivatePlanes.{Sliced}
 use Rattle.position_planes.proofs.Planes.{sliced_none, sliced_next}
 use Rattle.position_planes.proofs.sliced.Goals as goal
 

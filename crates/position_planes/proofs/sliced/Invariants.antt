@@ -1,10 +1,6 @@
-use mathlib.Core.Path.{◌≡◌, subst}
-use Prim.Native.Nat.{ℕ, ◌-◌, ◌≤◌}
-use native.Mathlib.Omega.{arith}
-use borrow.Author.Rules.{rules}
+use Prim.Native.Nat.{◌-◌, ◌≤◌}
 use lib.ListN.{get_or}
 use Rattle.position_planes.specs.PrivatePlanes.{Sliced}
-use Rattle.position_planes.proofs.Planes.{sliced_none, sliced_next}
 use Rattle.position_planes.proofs.sliced.Given as goal
 
 abbrev pub invariant-loop-rank : goal.invariant-loop-rank

@@ -3,7 +3,6 @@ use mathlib.Core.Path.{ap, ◌∙◌}
 use mathlib.Core.List.{List}
 use Prim.Native.Nat.{ℕ}
 use lib.ListN.{get_or}
-use borrow.Author.Rules.{rules}
 use Rattle.laws.proofs.Tables.{entry}
 use Rattle.position_planes.specs.PrivatePlanes.{Sliced, rank_word}
 use Rattle.position_planes.proofs.Planes.{sliced_same, sorted_from}

@@ -1,10 +1,7 @@
 -- `position_planes::word` meets its contract. The loop's invariant: the bytes of the files passed are in. Assumes nothing.
-use mathlib.Core.Path.{◌≡◌, ap, subst, ◌∙◌}
-use Prim.Native.Nat.{◌+◌, ◌*◌, ◌-◌, ◌≤◌}
+use Prim.Native.Nat.{◌+◌, ◌*◌}
 use native.Mathlib.Omega.{arith}
-use borrow.Author.Rules.{rules}
 use lib.ListN.{get_or}
-use Rattle.position_planes.specs.PrivatePlanes.{Row, stack}
 use Rattle.position_planes.proofs.Planes.{stack_none, stack_next, row_none, row_next}
 use Rattle.position_planes.proofs.word.Goals as goal
 

@@ -1,10 +1,7 @@
-use mathlib.Core.Path.{◌≡◌, ap, subst, ◌∙◌}
+use mathlib.Core.Path.{◌≡◌}
 use Prim.Native.Nat.{◌+◌, ◌*◌, ◌-◌, ◌≤◌}
-use native.Mathlib.Omega.{arith}
-use borrow.Author.Rules.{rules}
 use lib.ListN.{get_or}
 use Rattle.position_planes.specs.PrivatePlanes.{Row, stack}
-use Rattle.position_planes.proofs.Planes.{stack_none, stack_next, row_none, row_next}
 use Rattle.position_planes.proofs.word.Given as goal
 
 abbrev pub invariant-loop-file : goal.invariant-loop-file

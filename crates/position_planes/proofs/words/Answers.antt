@@ -1,5 +1,4 @@
 -- `position_planes::words` meets its contract. Assumes nothing.
-use borrow.Author.Rules.{rules}
 use Rattle.position_planes.specs.PrivatePlanes.{rank_word}
 use Rattle.position_planes.proofs.Planes.{rows_8, words_8}
 use Rattle.position_planes.proofs.words.Goals as goal

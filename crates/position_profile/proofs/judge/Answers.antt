@@ -3,7 +3,6 @@ use mathlib.Core.Path.{◌∙◌}
 use Rattle.refusal.specs.Answer.{given}
 use Rattle.position.proofs.Doors.{pass_on, fit_rest}
 use Rattle.position_profile.specs.Profile.{or_profile}
-use borrow.Author.Rules.{rules}
 use Rattle.position_profile.proofs.judge.Goals as goal
 
 pub returns-in-Refused : goal.returns-in-Refused

@@ -1,11 +1,7 @@
 -- `replay_question::digits` meets its contract. Assumes nothing.
-use mathlib.Core.Path.{◌≡◌, refl}
-use Prim.Native.Nat.{◌-◌, ◌≤◌}
 use native.Mathlib.Omega.{arith}
-use lib.ListN.{length, drop}
 use Rattle.replay_question.specs.Question.{digits}
 use Rattle.replay_question.proofs.Folds.{digits_more, digits_end}
-use borrow.Author.Rules.{rules}
 use Rattle.replay_question.proofs.digits.Goals as goal
 
 pub loop-i-preserved : goal.loop-i-preserved

@@ -1,10 +1,7 @@
-use mathlib.Core.Path.{◌≡◌, refl}
+use mathlib.Core.Path.{◌≡◌}
 use Prim.Native.Nat.{◌-◌, ◌≤◌}
-use native.Mathlib.Omega.{arith}
 use lib.ListN.{length, drop}
 use Rattle.replay_question.specs.Question.{digits}
-use Rattle.replay_question.proofs.Folds.{digits_more, digits_end}
-use borrow.Author.Rules.{rules}
 use Rattle.replay_question.proofs.digits.Given as goal
 
 abbrev pub invariant-loop-i : goal.invariant-loop-i

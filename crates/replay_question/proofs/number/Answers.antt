@@ -1,7 +1,6 @@
 -- `replay_question::number` meets its contract. Assumes nothing.
 use mathlib.Core.Path.{◌∙◌}
 use Rattle.replay_question.proofs.Folds.{minus_first, digit_first_holds}
-use borrow.Author.Rules.{rules}
 use Rattle.replay_question.proofs.number.Goals as goal
 
 pub returns-then-find-eq0 : goal.returns-then-find-eq0

@@ -1,6 +1,5 @@
 -- `replay_question::numbers` meets its contract. Assumes nothing.
 use Rattle.replay_question.proofs.Folds.{five}
-use borrow.Author.Rules.{rules}
 use Rattle.replay_question.proofs.numbers.Goals as goal
 
 pub returns : goal.returns

@@ -1,10 +1,6 @@
 -- `replay_question::position` meets its contract. Assumes nothing.
-use mathlib.Core.Path.{◌≡◌, refl}
-use Prim.Native.Nat.{◌-◌, ◌≤◌}
 use native.Mathlib.Omega.{arith}
-use borrow.Author.Rules.{rules}
-use lib.ListN.{length, drop}
-use Rattle.replay_question.specs.Question.{slashed, position_of}
+use Rattle.replay_question.specs.Question.{position_of}
 use Rattle.replay_question.proofs.Folds.{slashed_stop, slashed_space, slashed_more, slashed_end}
 use Rattle.replay_question.proofs.position.Goals as goal
 

@@ -1,10 +1,7 @@
-use mathlib.Core.Path.{◌≡◌, refl}
+use mathlib.Core.Path.{◌≡◌}
 use Prim.Native.Nat.{◌-◌, ◌≤◌}
-use native.Mathlib.Omega.{arith}
-use borrow.Author.Rules.{rules}
 use lib.ListN.{length, drop}
 use Rattle.replay_question.specs.Question.{slashed, position_of}
-use Rattle.replay_question.proofs.Folds.{slashed_stop, slashed_space, slashed_more, slashed_end}
 use Rattle.replay_question.proofs.position.Given as goal
 
 abbrev pub invariant-loop-i : goal.invariant-loop-i

@@ -1,6 +1,5 @@
 -- `score::eval` meets its contract. Assumes nothing.
 use mathlib.Core.Path.{◌∙◌}
-use borrow.Author.Rules.{rules}
 use Rattle.position.proofs.Doors.{pass_on, fit_rest}
 use Rattle.score.specs.Score.{score_of, eval_of}
 use Rattle.score.proofs.eval.Goals as goal

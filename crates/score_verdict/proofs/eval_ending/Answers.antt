@@ -1,6 +1,5 @@
 -- `score_verdict::eval_ending` meets its contract. Assumes nothing.
 use mathlib.Core.Path.{ap, ◌∙◌}
-use borrow.Author.Rules.{rules}
 use Rattle.refusal.specs.Answer.{given}
 use Rattle.position.proofs.Doors.{pass_on, fit_rest}
 use Rattle.score_verdict.specs.Verdict.{verdict_of, ending_of}

@@ -1,8 +1,8 @@
 -- `store_counts::move_by` meets its contract: after k squares each place has what the first k squares bring. Assumes nothing.
-use Rattle.std.proofs.Common.{◌≡◌, ℕ, ◌-◌, ◌≤◌, length, set, sym, ap, ◌∙◌, arith, length-set, rules}
+use Rattle.std.proofs.Common.{ℕ, length, ap, ◌∙◌, arith}
 use Rattle.laws.proofs.Tables.{tabulate_length}
 use Rattle.store_counts.specs.Summary.{marked_on}
-use Rattle.store_counts.proofs.Marks.{marked, marks_to, marks_none, marks_more, marks_all}
+use Rattle.store_counts.proofs.Marks.{marked, marks_none, marks_more, marks_all}
 use Rattle.store_counts.proofs.move_by.Goals as goal
 
 pub loop-k-init : goal.loop-k-init

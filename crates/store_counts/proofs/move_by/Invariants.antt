@@ -1,7 +1,5 @@
-use Rattle.std.proofs.Common.{◌≡◌, ℕ, ◌-◌, ◌≤◌, length, set, sym, ap, ◌∙◌, arith, length-set, rules}
-use Rattle.laws.proofs.Tables.{tabulate_length}
-use Rattle.store_counts.specs.Summary.{marked_on}
-use Rattle.store_counts.proofs.Marks.{marked, marks_to, marks_none, marks_more, marks_all}
+use Rattle.std.proofs.Common.{◌≡◌, ◌-◌, ◌≤◌, length}
+use Rattle.store_counts.proofs.Marks.{marks_to}
 use Rattle.store_counts.proofs.move_by.Given as goal
 
 abbrev pub invariant-loop-k : goal.invariant-loop-k

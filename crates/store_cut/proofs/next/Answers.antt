@@ -1,11 +1,9 @@
 -- `store_cut::next` meets its contract: the loop's invariant is `Turn`. Assumes nothing.
-use Prim.Native.Nat.{◌-◌}
 use native.Mathlib.Omega.{arith}
-use borrow.Author.Rules.{rules}
 use lib.ListN.{length, drop}
 use Rattle.store_cut.specs.Cut.{find_piece}
 use Rattle.store_cut.specs.Promises.{holding_piece}
-use Rattle.store_cut.proofs.Turn.{Turn, turn_none, turn_fill, turn_close, turn_end}
+use Rattle.store_cut.proofs.Turn.{turn_fill, turn_close, turn_end}
 use Rattle.store_cut.proofs.next.Goals as goal
 
 pub returns-then-held-ge-BEFORE_LAST : goal.returns-then-held-ge-BEFORE_LAST

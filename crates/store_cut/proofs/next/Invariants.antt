@@ -1,10 +1,8 @@
 use Prim.Native.Nat.{◌-◌}
-use native.Mathlib.Omega.{arith}
-use borrow.Author.Rules.{rules}
 use lib.ListN.{length, drop}
 use Rattle.store_cut.specs.Cut.{find_piece}
 use Rattle.store_cut.specs.Promises.{holding_piece}
-use Rattle.store_cut.proofs.Turn.{Turn, turn_none, turn_fill, turn_close, turn_end}
+use Rattle.store_cut.proofs.Turn.{Turn}
 use Rattle.store_cut.proofs.next.Given as goal
 
 abbrev pub invariant-loop-i : goal.invariant-loop-i

@@ -1,12 +1,7 @@
 -- `store_gather::take` meets its contract: the loop's invariant is `Turn`. Assumes nothing.
-use mathlib.Core.Path.{sym, ◌∙◌}
-use Prim.Native.Nat.{ℕ, ◌-◌}
 use native.Mathlib.Omega.{arith}
-use lib.ListN.{length}
-use borrow.Author.Rules.{rules}
 use Rattle.store_gather.specs.Promises.{run_gather}
-use Rattle.store_gather.specs.declared.GatheredSoFar.{GatheredSoFar}
-use Rattle.store_gather.proofs.Pieces.{Turn, turn_none, turn_less, turn_on, turn_close, turn_end}
+use Rattle.store_gather.proofs.Pieces.{turn_less, turn_on, turn_close, turn_end}
 use Rattle.store_gather.proofs.take.Goals as goal
 
 pub loop-at-smaller-then-cut : goal.loop-at-smaller-then-cut

@@ -1,11 +1,8 @@
-use mathlib.Core.Path.{sym, ◌∙◌}
 use Prim.Native.Nat.{ℕ, ◌-◌}
-use native.Mathlib.Omega.{arith}
 use lib.ListN.{length}
-use borrow.Author.Rules.{rules}
 use Rattle.store_gather.specs.Promises.{run_gather}
 use Rattle.store_gather.specs.declared.GatheredSoFar.{GatheredSoFar}
-use Rattle.store_gather.proofs.Pieces.{Turn, turn_none, turn_less, turn_on, turn_close, turn_end}
+use Rattle.store_gather.proofs.Pieces.{Turn}
 use Rattle.store_gather.proofs.take.Given as goal
 
 abbrev pub begun : ℕ → ℕ → ℕ → GatheredSoFar

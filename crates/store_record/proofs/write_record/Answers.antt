@@ -1,6 +1,5 @@
 -- `store_record::write_record` meets its contract. Assumes nothing.
 use Rattle.store_record.proofs.Doors.{turned, no_result, no_place, done}
-use borrow.Author.Rules.{rules}
 use Rattle.store_record.proofs.write_record.Goals as goal
 
 pub returns-in-Refused : goal.returns-in-Refused

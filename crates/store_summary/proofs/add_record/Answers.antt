@@ -1,6 +1,5 @@
 -- `store_summary::add_record` meets its contract. Assumes nothing.
 use Rattle.store_summary.proofs.Doors.{add_shape, add_position, add_length, add_many, add_room, add_done}
-use borrow.Author.Rules.{rules}
 use Rattle.store_summary.proofs.add_record.Goals as goal
 
 pub returns-then-summary-ne-SUMMARY : goal.returns-then-summary-ne-SUMMARY

@@ -5,7 +5,6 @@ use Rattle.store_record.specs.Record.{half_in, record_at}
 use Rattle.store_counts.specs.Summary.{wraps_off}
 use Rattle.store_counts.proofs.Sizes.{moved_770}
 use Rattle.store_summary.proofs.Doors.{replace_shape, replace_position, replace_old_holds, replace_absent, replace_done, there}
-use borrow.Author.Rules.{rules}
 use Rattle.store_summary.proofs.replace_record.Goals as goal
 
 pub returns-then-summary-ne-SUMMARY : goal.returns-then-summary-ne-SUMMARY

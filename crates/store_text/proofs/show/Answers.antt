@@ -1,6 +1,5 @@
 -- `store_text::show` meets its contract. Assumes nothing.
-use Rattle.std.proofs.Common.{arith, rules}
-use Rattle.store_text.proofs.Doors.{no_summary, no_room, row_shown, page_shown}
+use Rattle.store_text.proofs.Doors.{row_shown, page_shown}
 use Rattle.store_text.proofs.show.Goals as goal
 
 pub returns-then-first-ne0 : goal.returns-then-first-ne0

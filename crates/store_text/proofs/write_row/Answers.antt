@@ -1,5 +1,5 @@
 -- `store_text::write_row` meets its contract. Assumes nothing.
-use Rattle.std.proofs.Common.{ap, arith, rules}
+use Rattle.std.proofs.Common.{ap, arith}
 use Rattle.text_out.specs.Text.{decimal_of}
 use Rattle.text_out.proofs.Added.{adds_4, length_20}
 use Rattle.ledger_row.specs.Row.{refused_row}

@@ -1,13 +1,10 @@
 -- `text_out::below_zero` meets its contract: the digits stand after a minus sign. Assumes nothing.
-use mathlib.Core.Path.{◌∙◌, ap, sym, subst}
+use mathlib.Core.Path.{◌∙◌, ap, subst}
 use mathlib.Core.List.{List, ◌∷◌}
 use Prim.Native.Nat.{ℕ, ◌+◌}
 use native.Mathlib.Omega.{arith}
-use lib.ListN.{length-take}
-use borrow.Author.Rules.{rules}
 use Rattle.text_out.specs.Text.{Puts}
 use Rattle.text_out.proofs.Spelled.{decimal_is, fewest_20}
-use Rattle.text_out.proofs.Wrote.{wrote_length}
 use Rattle.text_out.proofs.below_zero.Goals as goal
 
 pub returns : goal.returns

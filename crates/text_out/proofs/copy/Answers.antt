@@ -1,13 +1,8 @@
 -- `text_out::copy` meets its contract: the loop's invariant is that the first i bytes are written. Assumes nothing.
-use Prim.Native.Nat.{◌≤◌, ◌+◌, ◌-◌}
-use mathlib.Core.Path.{◌≡◌, refl}
 use native.Mathlib.Omega.{arith}
 use borrow.Author.Rules.{rules}
-use lib.ListN.{length, take, length-set}
-use lib.Seq.{take_all}
-use native.Mathlib.Nat.{add-zero}
-use Rattle.text_out.specs.Text.{Wrote}
-use Rattle.text_out.proofs.Wrote.{wrote_none, put_again}
+use lib.ListN.{length-set}
+use Rattle.text_out.proofs.Wrote.{put_again}
 use Rattle.text_out.proofs.copy.Goals as goal
 
 pub loop-i-preserved : goal.loop-i-preserved

@@ -1,12 +1,7 @@
 use Prim.Native.Nat.{◌≤◌, ◌+◌, ◌-◌}
-use mathlib.Core.Path.{◌≡◌, refl}
-use native.Mathlib.Omega.{arith}
-use borrow.Author.Rules.{rules}
-use lib.ListN.{length, take, length-set}
-use lib.Seq.{take_all}
-use native.Mathlib.Nat.{add-zero}
+use mathlib.Core.Path.{◌≡◌}
+use lib.ListN.{length, take}
 use Rattle.text_out.specs.Text.{Wrote}
-use Rattle.text_out.proofs.Wrote.{wrote_none, put_again}
 use Rattle.text_out.proofs.copy.Given as goal
 
 abbrev pub invariant-loop-i : goal.invariant-loop-i

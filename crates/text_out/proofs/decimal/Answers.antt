@@ -3,7 +3,6 @@ use mathlib.Core.Path.{◌∙◌, subst}
 use mathlib.Core.List.{List}
 use Prim.Native.Nat.{ℕ}
 use native.Mathlib.Omega.{arith}
-use borrow.Author.Rules.{rules}
 use Rattle.text_out.specs.Text.{Puts}
 use Rattle.text_out.proofs.Spelled.{decimal_is, fewest_20}
 use Rattle.text_out.proofs.decimal.Goals as goal

@@ -1,9 +1,7 @@
-use mathlib.Core.Path.{◌≡◌, refl, ◌∙◌}
+use mathlib.Core.Path.{◌≡◌}
 use Prim.Native.Nat.{ℕ, ◌-◌, ◌<◌, ◌≤◌}
-use native.Mathlib.Omega.{arith}
 use lib.IntN.{pos}
-use lib.ListN.{length, get_or, length-set}
-use Rattle.laws.proofs.Tables.{set_more}
+use lib.ListN.{length, get_or}
 use Rattle.trace.proofs.clear.Given as goal
 
 abbrev pub invariant-loop-i : goal.invariant-loop-i

@@ -2,11 +2,10 @@
 use mathlib.Core.Path.{◌≡◌}
 use native.Mathlib.Omega.{arith}
 use lib.ListN.{length}
-use borrow.Author.Rules.{rules}
 use Rattle.refusal.specs.Answer.{given}
 use Rattle.position.proofs.Doors.{bytes_64, pass_on, fit_rest, fit_all}
 use Rattle.trace.specs.Trace.{trace_of}
-use Rattle.trace.proofs.Doors.{wrong_entries, passed_on, traced}
+use Rattle.trace.proofs.Doors.{passed_on, traced}
 use Rattle.trace.proofs.compute_trace.Goals as goal
 
 pub returns-in-Refused : goal.returns-in-Refused

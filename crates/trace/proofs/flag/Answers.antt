@@ -1,5 +1,4 @@
 -- `trace::flag` meets its contract. Assumes nothing.
-use borrow.Author.Rules.{rules}
 use Rattle.trace.proofs.Counted.{no_pair, a_pair}
 use Rattle.trace.proofs.flag.Goals as goal
 

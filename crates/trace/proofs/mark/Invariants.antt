@@ -1,15 +1,8 @@
-use mathlib.Core.Path.{◌≡◌, refl, sym, ap, ◌∙◌}
-use mathlib.Core.List.{[], ◌∷◌}
-use Prim.Native.Nat.{ℕ, ◌^◌, ◌<◌}
-use native.Mathlib.Omega.{arith}
-use borrow.Author.Rules.{rules}
-use lib.IntN.{pos}
-use lib.ListN.{length, get_or, set, length-set}
+use mathlib.Core.Path.{◌≡◌}
+use Prim.Native.Nat.{◌^◌, ◌<◌}
+use lib.ListN.{length}
 use Rattle.bits.specs.Bitboard.{squares}
-use Rattle.bits.specs.Answers.{lowest}
-use Rattle.bits.proofs.Each.{next_at, next_done}
-use Rattle.trace.specs.PrivateMarked.{code_place, place_on, marked}
-use Rattle.trace.proofs.Turns.{marked_none, marked_one}
+use Rattle.trace.specs.PrivateMarked.{marked}
 use Rattle.trace.proofs.mark.Given as goal
 
 abbrev pub invariant-loop-s : goal.invariant-loop-s

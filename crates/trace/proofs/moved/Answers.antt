@@ -1,6 +1,5 @@
 -- `trace::moved` meets its contract. Assumes nothing.
 use Prim.Native.Nat.{ℕ, ◌≤◌}
-use borrow.Author.Rules.{rules}
 use Rattle.attack.specs.Attacks.{attacks}
 use Rattle.score_tally.specs.Mobility.{attacked}
 use Rattle.score_walks.proofs.Rooms.{attacked_le}

@@ -1,8 +1,6 @@
 -- `trace::number` meets its contract. Assumes nothing.
 use native.Mathlib.Omega.{arith}
-use borrow.Author.Rules.{rules}
 use Rattle.score_material.proofs.Pieces.{count_le}
-use Rattle.trace.proofs.Counted.{held_number}
 use Rattle.trace.proofs.number.Goals as goal
 
 pub whole-requires : goal.whole-requires

@@ -2,7 +2,6 @@
 use mathlib.Core.Path.{◌≡◌, ap₂, ◌∙◌}
 use Prim.Native.Nat.{ℕ, ◌/◌, ◌%◌}
 use native.Mathlib.Omega.{arith}
-use borrow.Author.Rules.{rules}
 use Rattle.places.specs.Places.{entry_place}
 use Rattle.chess.specs.Codes.{kind_of}
 use Rattle.trace.specs.PrivateMarked.{code_place}

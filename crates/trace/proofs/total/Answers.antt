@@ -1,6 +1,5 @@
 -- `trace::total` meets its contract. Assumes nothing.
 use native.Mathlib.Omega.{arith}
-use borrow.Author.Rules.{rules}
 use Rattle.bits.specs.Bitboard.{has}
 use Rattle.bits.proofs.Counts.{many_le}
 use Rattle.trace.proofs.Counted.{held_number, pieces_of}

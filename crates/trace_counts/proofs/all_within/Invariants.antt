@@ -1,20 +1,9 @@
-use mathlib.Core.Path.{◌≡◌, refl, ◌∙◌}
-use mathlib.Core.Bool.{Bool, ◌&&◌}
-use mathlib.Core.List.{List}
-use Prim.Native.Nat.{ℕ, ◌≤◌, ◌<◌, ◌-◌, ◌+◌, ◌^◌}
-use borrow.Author.Rules.{rules}
-use native.Mathlib.Omega.{arith}
-use native.Mathlib.Numerals.{add-one}
-use lib.IntN.{ℤ, pos}
-use lib.Signed.{mag}
+use mathlib.Core.Path.{◌≡◌}
+use Prim.Native.Nat.{◌≤◌, ◌-◌}
+use lib.IntN.{pos}
 use lib.ListN.{length, get_or}
-use mir.Syntax.{w32}
-use mir.Val.{SFits, to_z}
-use mir.ValLaws.{to_z-of_z}
 use Rattle.laws.specs.Tests.{all_below}
-use Rattle.laws.proofs.Words.{held}
-use Rattle.trace_counts.specs.Ranges.{within, all_within}
-use Rattle.trace_counts.proofs.Held.{read}
+use Rattle.trace_counts.specs.Ranges.{within}
 use Rattle.trace_counts.proofs.all_within.Given as goal
 
 abbrev pub invariant-loop-i : goal.invariant-loop-i

@@ -1,22 +1,11 @@
-use mathlib.Core.Path.{◌≡◌, sym, ap, ◌∙◌}
-use mathlib.Core.List.{◌∷◌}
-use Prim.Native.Nat.{ℕ, ◌+◌, ◌*◌, ◌<◌}
-use native.Mathlib.Omega.{arith}
-use borrow.Author.Rules.{rules}
+use Prim.Native.Nat.{ℕ, ◌*◌}
 use lib.IntN.{ℤ}
 use lib.Ieee.{Float}
 use lib.ListN.{length}
 use mathlib.Core.List.{List}
 use Rattle.bits.specs.Bitboard.{squares}
-use Rattle.bits.specs.Answers.{lowest}
-use Rattle.bits.proofs.Each.{next_at, next_done}
-use Rattle.trace_marks.specs.Marks.{group_of, mark_of}
-use Rattle.trace_marks.proofs.Marks.{mark_small, mark_none}
-use Rattle.trace_marks.proofs.Tested.{group_none}
 use Rattle.trace_marks.proofs.Walk as walk
-use Rattle.trace_double.specs.PrivateFrom.{entry_step, entries_from}
-use Rattle.trace_marks.proofs.Folds as folds
-use Rattle.trace_double.proofs.Folds.{nothing, from_0}
+use Rattle.trace_double.specs.PrivateFrom.{entries_from}
 use Rattle.trace_double.proofs.entries_added.Given as goal
 
 -- the score after so many groups

@@ -1,23 +1,21 @@
 -- `trace_double::eval` meets its contract. Assumes nothing.
-use mathlib.Core.Path.{◌≡◌, sym, ap₂, ◌∙◌}
-use mathlib.Core.Bool.{true, false, ◌&&◌}
-use mathlib.Core.List.{List, []}
-use borrow.Author.Tests.{eq-eqb, ne_eqb}
+use mathlib.Core.Path.{◌≡◌, ap₂, ◌∙◌}
+use mathlib.Core.Bool.{true, ◌&&◌}
+use mathlib.Core.List.{List}
+use borrow.Author.Tests.{eq-eqb}
 use lib.IntN.{ℤ}
 use lib.ListN.{length}
 use lib.Ieee.{Float}
-use Rattle.laws.proofs.Truth.{true_T, T_true, and_r}
-use Rattle.refusal.specs.Answer.{given, refused}
+use Rattle.refusal.specs.Answer.{given}
 use Rattle.trace_counts.specs.Ranges.{in_ranges, are_entries}
 use Rattle.doubles.specs.Doubles.{dbl}
-use Rattle.trace_marks.proofs.Tested.{seen_entries, seen_groups, tested_both}
+use Rattle.trace_marks.proofs.Tested.{seen_entries, tested_both}
 use Rattle.trace_named.specs.Named.{named}
 use Rattle.trace_double.specs.Double.{folded, double}
 use Rattle.trace_double.specs.Promises.{double_of}
 use Rattle.trace_counts.specs.declared.Weights.{Weights}
 use Rattle.trace_counts.specs.declared.Trace.{Trace}
 use Rattle.trace_counts.proofs.Held.{read}
-use borrow.Author.Rules.{rules}
 use Rattle.trace_double.proofs.eval.Goals as goal
 
 -- the square weights' part goes on from the named weights', at as many pieces as the machine reads back

@@ -1,7 +1,6 @@
 -- `trace_list::is_list` meets its contract. Assumes nothing.
 use native.Mathlib.Omega.{arith}
 use Rattle.trace_list.proofs.Tests.{too_many, both_tests}
-use borrow.Author.Rules.{rules}
 use Rattle.trace_list.proofs.is_list.Goals as goal
 
 pub returns-then-used-gt-ENTRIES : goal.returns-then-used-gt-ENTRIES

@@ -1,10 +1,7 @@
 -- `trace_list::is_padded` meets its contract. The loop's invariant: `good` says it of the bytes passed. Assumes nothing.
-use mathlib.Core.Path.{◌≡◌, refl, ◌∙◌, ap}
-use Prim.Native.Nat.{ℕ, ◌≤◌, ◌*◌, ◌-◌}
+use mathlib.Core.Path.{refl}
+use Prim.Native.Nat.{◌*◌}
 use native.Mathlib.Omega.{arith}
-use borrow.Author.Rules.{rules}
-use Rattle.laws.specs.Tests.{all_below}
-use Rattle.trace_list.specs.Form.{is_unused}
 use Rattle.trace_list.proofs.Tests.{padded_none, padded_more}
 use Rattle.trace_list.proofs.is_padded.Goals as goal
 

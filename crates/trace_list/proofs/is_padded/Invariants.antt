@@ -1,10 +1,7 @@
-use mathlib.Core.Path.{◌≡◌, refl, ◌∙◌, ap}
-use Prim.Native.Nat.{ℕ, ◌≤◌, ◌*◌, ◌-◌}
-use native.Mathlib.Omega.{arith}
-use borrow.Author.Rules.{rules}
+use mathlib.Core.Path.{◌≡◌}
+use Prim.Native.Nat.{◌≤◌, ◌*◌, ◌-◌}
 use Rattle.laws.specs.Tests.{all_below}
 use Rattle.trace_list.specs.Form.{is_unused}
-use Rattle.trace_list.proofs.Tests.{padded_none, padded_more}
 use Rattle.trace_list.proofs.is_padded.Given as goal
 
 abbrev pub invariant-loop-j : goal.invariant-loop-j

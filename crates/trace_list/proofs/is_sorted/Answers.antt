@@ -1,10 +1,6 @@
 -- `trace_list::is_sorted` meets its contract. The loop's invariant: `good` says it of the entries passed, and `least` is the next one's
 -- least place. Assumes nothing.
-use mathlib.Core.Path.{◌≡◌, ◌∙◌, ap}
-use Prim.Native.Nat.{ℕ, ◌≤◌, ◌-◌}
 use native.Mathlib.Omega.{arith}
-use Rattle.laws.specs.Tests.{all_below}
-use Rattle.trace_list.specs.Form.{least_at, comes_after}
 use Rattle.trace_list.proofs.Tests.{least_none, least_more, sorted_none, sorted_more}
 use Rattle.trace_list.proofs.is_sorted.Goals as goal
 

@@ -1,9 +1,7 @@
-use mathlib.Core.Path.{◌≡◌, ◌∙◌, ap}
-use Prim.Native.Nat.{ℕ, ◌≤◌, ◌-◌}
-use native.Mathlib.Omega.{arith}
+use mathlib.Core.Path.{◌≡◌}
+use Prim.Native.Nat.{◌≤◌, ◌-◌}
 use Rattle.laws.specs.Tests.{all_below}
 use Rattle.trace_list.specs.Form.{least_at, comes_after}
-use Rattle.trace_list.proofs.Tests.{least_none, least_more, sorted_none, sorted_more}
 use Rattle.trace_list.proofs.is_sorted.Given as goal
 
 abbrev pub invariant-loop-i : goal.invariant-loop-i

@@ -2,7 +2,6 @@
 use mathlib.Core.Path.{refl}
 use Prim.Native.Nat.{◌*◌}
 use Rattle.trace_list.proofs.Tests.{place_is}
-use borrow.Author.Rules.{rules}
 use Rattle.trace_list.proofs.place.Goals as goal
 
 pub returns : goal.returns

@@ -1,6 +1,5 @@
 -- `trace_list_computed::compute_list` meets its contract. Assumes nothing.
 use native.Mathlib.Omega.{arith}
-use borrow.Author.Rules.{rules}
 use Rattle.refusal.specs.Answer.{given}
 use Rattle.position.proofs.Doors.{pass_on, fit_rest, fit_all}
 use Rattle.trace.specs.Trace.{trace_of}

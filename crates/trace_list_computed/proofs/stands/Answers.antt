@@ -1,5 +1,4 @@
 -- `trace_list_computed::stands` meets its contract. Assumes nothing.
-use borrow.Author.Rules.{rules}
 use Rattle.bits.proofs.Machine.{asked}
 use Rattle.trace_list_computed.proofs.stands.Goals as goal
 

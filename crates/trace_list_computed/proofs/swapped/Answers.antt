@@ -3,7 +3,6 @@ use Prim.Native.Nat.{◌*◌, ◌/◌, ◌%◌, ◌^◌}
 use native.Mathlib.Nat.{mod-lt, lt_of_le_of_lt}
 use lib.Bits.{bit_and, bit_or, and_le_r, or_lt}
 use lib.Pow.{pow_pos}
-use borrow.Author.Rules.{rules}
 use Rattle.bits.specs.Bitboard.{has}
 use Rattle.bits.proofs.Those.{is_those}
 use Rattle.attack_rays.specs.PrivateMirror.{partner}

@@ -1,9 +1,7 @@
 -- `trace_list_double::all_weighed` meets its contract. The loop's invariant: the score is that of the entries passed. Assumes nothing.
-use mathlib.Core.Path.{◌≡◌, refl, ap, ◌∙◌}
-use Prim.Native.Nat.{ℕ, ◌≤◌, ◌-◌, ◌*◌}
+use mathlib.Core.Path.{refl, ap, ◌∙◌}
+use Prim.Native.Nat.{◌*◌}
 use native.Mathlib.Omega.{arith}
-use Rattle.trace_list.specs.Ones.{over}
-use Rattle.trace_list.specs.Form.{list_places}
 use Rattle.trace_list.proofs.Tests.{place_is}
 use Rattle.trace_list.proofs.There.{is_listed}
 use Rattle.trace_list.proofs.Folds.{fold_none, fold_more}

@@ -1,11 +1,7 @@
-use mathlib.Core.Path.{◌≡◌, refl, ap, ◌∙◌}
-use Prim.Native.Nat.{ℕ, ◌≤◌, ◌-◌, ◌*◌}
-use native.Mathlib.Omega.{arith}
+use mathlib.Core.Path.{◌≡◌}
+use Prim.Native.Nat.{◌≤◌, ◌-◌}
 use Rattle.trace_list.specs.Ones.{over}
 use Rattle.trace_list.specs.Form.{list_places}
-use Rattle.trace_list.proofs.Tests.{place_is}
-use Rattle.trace_list.proofs.There.{is_listed}
-use Rattle.trace_list.proofs.Folds.{fold_none, fold_more}
 use Rattle.trace_list_double.specs.Promises.{weighed}
 use Rattle.trace_list_double.proofs.all_weighed.Given as goal
 

@@ -1,12 +1,6 @@
 -- `trace_list_double::eval_list` meets its contract. Assumes nothing.
-use mathlib.Core.Path.{sym, subst, ◌∙◌}
-use Prim.Native.Nat.{ℕ}
-use lib.Dec.{T}
-use Rattle.laws.proofs.Truth.{true_T}
 use Rattle.trace_counts.proofs.Held.{read}
-use Rattle.trace_list.specs.Form.{is_list}
-use Rattle.trace_list_double.proofs.Doors.{unlike, no_trace_holds, no_list, worked}
-use borrow.Author.Rules.{rules}
+use Rattle.trace_list_double.proofs.Doors.{worked}
 use Rattle.trace_list_double.proofs.eval_list.Goals as goal
 
 pub returns-then-is_list : goal.returns-then-is_list

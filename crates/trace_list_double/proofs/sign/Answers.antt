@@ -1,5 +1,4 @@
 -- `trace_list_double::sign` meets its contract. Assumes nothing.
-use borrow.Author.Rules.{rules}
 use Rattle.trace_list_double.proofs.Colours.{sign_is}
 use Rattle.trace_list_double.proofs.sign.Goals as goal
 

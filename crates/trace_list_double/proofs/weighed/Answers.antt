@@ -2,7 +2,6 @@
 use Prim.Native.Nat.{◌+◌, ◌*◌}
 use native.Mathlib.Omega.{arith}
 use Rattle.trace_list_double.proofs.Colours.{by_sign}
-use borrow.Author.Rules.{rules}
 use Rattle.trace_list_double.proofs.weighed.Goals as goal
 
 pub returns : goal.returns

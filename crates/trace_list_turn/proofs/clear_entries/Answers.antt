@@ -1,10 +1,6 @@
 -- `trace_list_turn::clear_entries` meets its contract. The loop's invariant: the entries passed are 0. Assumes nothing.
-use mathlib.Core.Path.{◌≡◌, refl, ◌∙◌}
-use Prim.Native.Nat.{ℕ, ◌-◌, ◌<◌, ◌≤◌}
+use mathlib.Core.Path.{◌≡◌}
 use native.Mathlib.Omega.{arith}
-use lib.IntN.{pos}
-use lib.ListN.{length, get_or, length-set}
-use Rattle.laws.proofs.Tables.{set_more}
 use Rattle.trace_list_turn.proofs.Ways.{flat_none}
 use Rattle.trace_list_turn.proofs.clear_entries.Goals as goal
 

@@ -1,10 +1,7 @@
-use mathlib.Core.Path.{◌≡◌, refl, ◌∙◌}
+use mathlib.Core.Path.{◌≡◌}
 use Prim.Native.Nat.{ℕ, ◌-◌, ◌<◌, ◌≤◌}
-use native.Mathlib.Omega.{arith}
 use lib.IntN.{pos}
-use lib.ListN.{length, get_or, length-set}
-use Rattle.laws.proofs.Tables.{set_more}
-use Rattle.trace_list_turn.proofs.Ways.{flat_none}
+use lib.ListN.{length, get_or}
 use Rattle.trace_list_turn.proofs.clear_entries.Given as goal
 
 abbrev pub invariant-loop-k : goal.invariant-loop-k

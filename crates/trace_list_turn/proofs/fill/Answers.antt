@@ -1,9 +1,7 @@
 -- `trace_list_turn::fill` meets its contract. The loop's invariant: the bytes are those of the ones passed, and `n` is how many they are. Assumes nothing.
 use mathlib.Core.Path.{◌≡◌, ap, ◌∙◌}
-use Prim.Native.Nat.{ℕ, ◌≤◌, ◌-◌}
+use Prim.Native.Nat.{ℕ}
 use native.Mathlib.Omega.{arith}
-use borrow.Author.Rules.{rules}
-use lib.ListN.{length}
 use Rattle.trace_list.specs.Ones.{ones}
 use Rattle.trace_list.specs.Form.{is_one_rule, list_bytes, ones_in}
 use Rattle.trace_list_turn.proofs.Ways.{bytes_start, length_start, room, tested, length_yes, length_no, bytes_yes, bytes_no}

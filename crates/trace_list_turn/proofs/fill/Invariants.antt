@@ -1,11 +1,8 @@
-use mathlib.Core.Path.{◌≡◌, ap, ◌∙◌}
-use Prim.Native.Nat.{ℕ, ◌≤◌, ◌-◌}
-use native.Mathlib.Omega.{arith}
-use borrow.Author.Rules.{rules}
+use mathlib.Core.Path.{◌≡◌}
+use Prim.Native.Nat.{◌≤◌, ◌-◌}
 use lib.ListN.{length}
 use Rattle.trace_list.specs.Ones.{ones}
-use Rattle.trace_list.specs.Form.{is_one_rule, list_bytes, ones_in}
-use Rattle.trace_list_turn.proofs.Ways.{bytes_start, length_start, room, tested, length_yes, length_no, bytes_yes, bytes_no}
+use Rattle.trace_list.specs.Form.{is_one_rule, list_bytes}
 use Rattle.trace_list_turn.proofs.fill.Given as goal
 
 abbrev pub invariant-loop-k : goal.invariant-loop-k

@@ -2,8 +2,7 @@
 use mathlib.Core.Path.{subst}
 use Prim.Native.Nat.{ℕ, ◌<◌}
 use Rattle.trace_marks.proofs.Tested.{tested_both}
-use Rattle.trace_list_turn.proofs.Doors.{unlike, no_trace_holds, too_many, made, counted}
-use borrow.Author.Rules.{rules}
+use Rattle.trace_list_turn.proofs.Doors.{too_many, made, counted}
 use Rattle.trace_list_turn.proofs.list_of.Goals as goal
 
 pub returns-then-ones-gt-ENTRIES : goal.returns-then-ones-gt-ENTRIES

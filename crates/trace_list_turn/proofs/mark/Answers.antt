@@ -1,10 +1,8 @@
 -- `trace_list_turn::mark` meets its contract. The loop's invariant: the entries are those of the list's part that is passed. Assumes nothing.
-use mathlib.Core.Path.{◌≡◌, refl, sym, ap, ◌∙◌}
-use Prim.Native.Nat.{ℕ, ◌-◌, ◌*◌, ◌≤◌}
+use mathlib.Core.Path.{refl, ap, ◌∙◌}
+use Prim.Native.Nat.{◌*◌}
 use native.Mathlib.Omega.{arith}
-use borrow.Author.Rules.{rules}
 use lib.ListN.{length}
-use Rattle.trace_list.specs.Form.{list_places, flat_of}
 use Rattle.trace_list.proofs.Tests.{place_is}
 use Rattle.trace_list.proofs.There.{is_listed, place_below}
 use Rattle.trace_list.proofs.Flat.{flat_length}

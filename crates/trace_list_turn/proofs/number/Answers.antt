@@ -1,9 +1,5 @@
 -- `trace_list_turn::number` meets its contract. The loop's invariant: `sum` counts the entries passed. Assumes nothing.
-use mathlib.Core.Path.{◌≡◌, ap, ◌∙◌}
-use Prim.Native.Nat.{ℕ, ◌≤◌, ◌-◌}
 use native.Mathlib.Omega.{arith}
-use borrow.Author.Rules.{rules}
-use Rattle.bits.specs.Bitboard.{how_many}
 use Rattle.trace_list.specs.Form.{is_one_rule}
 use Rattle.trace_list_turn.proofs.Ways.{many_none, many_more}
 use Rattle.trace_list_turn.proofs.number.Goals as goal

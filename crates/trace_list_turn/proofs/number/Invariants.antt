@@ -1,10 +1,7 @@
-use mathlib.Core.Path.{◌≡◌, ap, ◌∙◌}
-use Prim.Native.Nat.{ℕ, ◌≤◌, ◌-◌}
-use native.Mathlib.Omega.{arith}
-use borrow.Author.Rules.{rules}
+use mathlib.Core.Path.{◌≡◌}
+use Prim.Native.Nat.{◌≤◌, ◌-◌}
 use Rattle.bits.specs.Bitboard.{how_many}
 use Rattle.trace_list.specs.Form.{is_one_rule}
-use Rattle.trace_list_turn.proofs.Ways.{many_none, many_more}
 use Rattle.trace_list_turn.proofs.number.Given as goal
 
 abbrev pub invariant-loop-k : goal.invariant-loop-k

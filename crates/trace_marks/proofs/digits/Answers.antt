@@ -1,15 +1,14 @@
 -- `trace_marks::digits` meets its contract. The loop's invariant: the first j entries of the group are in. Assumes nothing.
-use mathlib.Core.Path.{◌≡◌, refl, ap, ◌∙◌}
-use Prim.Native.Nat.{ℕ, zero, suc, ◌+◌, ◌*◌, ◌-◌, ◌%◌, ◌≤◌, ◌<◌}
+use mathlib.Core.Path.{◌≡◌, refl, ◌∙◌}
+use Prim.Native.Nat.{ℕ, zero, suc, ◌%◌, ◌<◌}
 use native.Mathlib.Omega.{arith}
-use borrow.Author.Rules.{rules}
 use lib.Bits.{bit_and, and_mask}
 use lib.Dec.{T}
 use lib.IntN.{nat_abs}
 use lib.Signed.{non_neg}
-use mir.Syntax.{w32, w64}
-use mir.Val.{to_z, Fits}
-use Rattle.trace_marks.specs.Marks.{bits_at, odd_at, marks}
+use mir.Syntax.{w32}
+use mir.Val.{to_z}
+use Rattle.trace_marks.specs.Marks.{odd_at}
 use Rattle.trace_marks.proofs.Marks.{row_none, row_next}
 use Rattle.trace_marks.proofs.digits.Goals as goal
 

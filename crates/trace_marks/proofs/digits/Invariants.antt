@@ -1,15 +1,6 @@
-use mathlib.Core.Path.{◌≡◌, refl, ap, ◌∙◌}
-use Prim.Native.Nat.{ℕ, zero, suc, ◌+◌, ◌*◌, ◌-◌, ◌%◌, ◌≤◌, ◌<◌}
-use native.Mathlib.Omega.{arith}
-use borrow.Author.Rules.{rules}
-use lib.Bits.{bit_and, and_mask}
-use lib.Dec.{T}
-use lib.IntN.{nat_abs}
-use lib.Signed.{non_neg}
-use mir.Syntax.{w32, w64}
-use mir.Val.{to_z, Fits}
-use Rattle.trace_marks.specs.Marks.{bits_at, odd_at, marks}
-use Rattle.trace_marks.proofs.Marks.{row_none, row_next}
+use mathlib.Core.Path.{◌≡◌}
+use Prim.Native.Nat.{◌-◌, ◌≤◌}
+use Rattle.trace_marks.specs.Marks.{odd_at, marks}
 use Rattle.trace_marks.proofs.digits.Given as goal
 
 abbrev pub invariant-loop-j : goal.invariant-loop-j

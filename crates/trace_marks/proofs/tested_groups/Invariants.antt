@@ -1,15 +1,8 @@
-use mathlib.Core.Path.{◌≡◌, sym, ap, subst, ◌∙◌}
-use Prim.Native.Nat.{ℕ, ◌*◌, ◌-◌, ◌^◌, ◌≤◌, ◌<◌}
-use native.Mathlib.Omega.{arith}
-use borrow.Author.Rules.{rules}
-use lib.Bits.{or_lt}
-use lib.Dec.{ltb}
+use mathlib.Core.Path.{◌≡◌}
+use Prim.Native.Nat.{◌*◌, ◌-◌, ◌^◌, ◌≤◌, ◌<◌}
 use mir.Syntax.{w32}
 use mir.Val.{of_z}
-use mir.ValLaws.{of_z-to_z}
-use Rattle.trace_marks.specs.Marks.{Held, together, group_of, mark_of, groups_of}
-use Rattle.trace_marks.proofs.Marks.{together_none, together_next, row_none, row_next}
-use Rattle.trace_marks.proofs.Tested.{tested, held_begin, held_more, group_lt}
+use Rattle.trace_marks.specs.Marks.{Held, together, group_of, groups_of}
 use Rattle.trace_marks.proofs.tested_groups.Given as goal
 
 abbrev pub invariant-loop-g : goal.invariant-loop-g

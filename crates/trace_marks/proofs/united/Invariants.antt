@@ -1,13 +1,8 @@
-use mathlib.Core.Path.{◌≡◌, refl, ap, subst, ◌∙◌}
+use mathlib.Core.Path.{◌≡◌}
 use Prim.Native.Nat.{◌+◌, ◌*◌, ◌-◌, ◌≤◌}
-use native.Mathlib.Omega.{arith}
-use borrow.Author.Rules.{rules}
 use mir.Syntax.{w32}
 use mir.Val.{of_z}
-use mir.ValLaws.{of_z-to_z}
-use Rattle.trace_marks.specs.Marks.{bits_at, Held, together, group_of}
-use Rattle.trace_marks.proofs.Marks.{together_none, together_next}
-use Rattle.trace_marks.proofs.Tested.{held_begin, held_next, group_lt}
+use Rattle.trace_marks.specs.Marks.{bits_at, Held, together}
 use Rattle.trace_marks.proofs.united.Given as goal
 
 abbrev pub invariant-loop-j : goal.invariant-loop-j

@@ -1,12 +1,5 @@
 -- `trace_shipped::fill` meets its contract. The loop's invariant: the weights passed are written. Assumes nothing.
-use mathlib.Core.Path.{◌≡◌, ◌∙◌}
-use Prim.Native.Nat.{ℕ, ◌-◌, ◌<◌, ◌≤◌}
 use native.Mathlib.Omega.{arith}
-use lib.Ieee.{nan}
-use lib.ListN.{length, get_or, length-set}
-use Rattle.laws.proofs.Tables.{set_more}
-use Rattle.doubles.specs.Doubles.{dbl}
-use Rattle.trace_shipped.specs.Weights.{square_weight}
 use Rattle.trace_shipped.proofs.Weighed.{shipped_all}
 use Rattle.trace_shipped.proofs.fill.Goals as goal
 

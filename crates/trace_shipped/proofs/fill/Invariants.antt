@@ -1,12 +1,9 @@
-use mathlib.Core.Path.{◌≡◌, ◌∙◌}
+use mathlib.Core.Path.{◌≡◌}
 use Prim.Native.Nat.{ℕ, ◌-◌, ◌<◌, ◌≤◌}
-use native.Mathlib.Omega.{arith}
 use lib.Ieee.{nan}
-use lib.ListN.{length, get_or, length-set}
-use Rattle.laws.proofs.Tables.{set_more}
+use lib.ListN.{length, get_or}
 use Rattle.doubles.specs.Doubles.{dbl}
 use Rattle.trace_shipped.specs.Weights.{square_weight}
-use Rattle.trace_shipped.proofs.Weighed.{shipped_all}
 use Rattle.trace_shipped.proofs.fill.Given as goal
 
 abbrev pub invariant-loop-place : goal.invariant-loop-place

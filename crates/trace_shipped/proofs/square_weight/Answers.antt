@@ -1,7 +1,6 @@
 -- `trace_shipped::square_weight` meets its contract. Assumes nothing.
 use mathlib.Core.Path.{ap}
 use lib.Ieee.{of_int, binary64}
-use borrow.Author.Rules.{rules}
 use Rattle.trace_shipped.proofs.Weighed.{weighs}
 use Rattle.trace_shipped.proofs.square_weight.Goals as goal
 

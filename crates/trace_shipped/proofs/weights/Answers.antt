@@ -1,6 +1,5 @@
 -- `trace_shipped::weights` meets its contract. Assumes nothing.
 use mathlib.Core.Path.{refl}
-use borrow.Author.Rules.{rules}
 use Rattle.trace_shipped.specs.Weights.{shipped}
 use Rattle.trace_shipped.proofs.weights.Goals as goal
 

@@ -1,6 +1,5 @@
 -- `attack::inner::attacks` meets its contract. Assumes nothing.
 use Rattle.attack.proofs.ByKind.{bishops, rooks, queens, others}
-use borrow.Author.Rules.{rules}
 use Rattle.attack.proofs.inner.attacks.Goals as goal
 
 pub returns-in-2 : goal.returns-in-2

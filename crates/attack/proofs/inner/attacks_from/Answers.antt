@@ -1,6 +1,5 @@
 -- `attack::inner::attacks_from` meets its contract. Assumes nothing.
 use Rattle.attack.proofs.ByKind.{bishop, rook, queen, other_kind}
-use borrow.Author.Rules.{rules}
 use Rattle.attack.proofs.inner.attacks_from.Goals as goal
 
 pub returns-in-2 : goal.returns-in-2

@@ -4,7 +4,6 @@ use mathlib.Core.Bool.{◌||◌}
 use Prim.Native.Nat.{ℕ}
 use Rattle.bits.specs.Bitboard.{has, those}
 use Rattle.attack.specs.Attacks.{occupied}
-use borrow.Author.Rules.{rules}
 use Rattle.attack.proofs.inner.occupied.Goals as goal
 
 pub returns : goal.returns

@@ -1,5 +1,4 @@
 -- `attack_rays::inner::lines` meets its contract. Assumes nothing.
-use Rattle.std.proofs.Common.{rules}
 use Rattle.attack_rays.proofs.Both.{both}
 use Rattle.attack_rays.proofs.inner.lines.Goals as goal
 

@@ -1,5 +1,5 @@
 -- `attack_rays::inner::queen` meets its contract. Assumes nothing.
-use Rattle.std.proofs.Common.{◌∙◌, ap₂, rules}
+use Rattle.std.proofs.Common.{◌∙◌, ap₂}
 use lib.Bits.{bit_or}
 use Rattle.attack_rays.specs.Rays.{straight, slanted}
 use Rattle.attack_rays.proofs.Union.{seen_append}

@@ -1,5 +1,5 @@
 -- `attack_rays::inner::ray` meets its contract. Assumes nothing.
-use Rattle.std.proofs.Common.{◌≡◌, ℕ, ◌+◌, ◌-◌, ap, ◌∙◌, arith, rules}
+use Rattle.std.proofs.Common.{◌≡◌, ℕ, ◌+◌, ◌-◌, ap, ◌∙◌, arith}
 use Rattle.attack_rays.specs.Rays.{ray_of, dir_of}
 use Rattle.attack_rays.specs.PrivateMirror.{mirrored}
 use Rattle.attack_rays.proofs.Paths.{no_square, no_direction}

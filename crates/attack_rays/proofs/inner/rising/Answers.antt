@@ -1,5 +1,5 @@
 -- `attack_rays::inner::rising` meets its contract. Assumes nothing.
-use Rattle.std.proofs.Common.{ℕ, ◌^◌, ◌<◌, Bool, ◌&&◌, ap, ◌∙◌, arith, rules}
+use Rattle.std.proofs.Common.{ℕ, ◌^◌, ◌<◌, Bool, ◌&&◌, ap, ◌∙◌, arith}
 use lib.Bits.{bit_and, bit_xor, and_lt}
 use Rattle.bits.specs.Bitboard.{has, board}
 use Rattle.bits.proofs.Digits.{has_and}

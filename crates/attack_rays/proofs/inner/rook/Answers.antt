@@ -1,5 +1,5 @@
 -- `attack_rays::inner::rook` meets its contract. Assumes nothing.
-use Rattle.std.proofs.Common.{arith, rules}
+use Rattle.std.proofs.Common.{arith}
 use Rattle.attack_rays.specs.Rays.{north, east, south, west}
 use Rattle.attack_rays.proofs.Both.{unseen}
 use Rattle.attack_rays.proofs.inner.rook.Goals as goal

@@ -1,5 +1,5 @@
 -- `attack_rays::inner::swapped` meets its contract. Assumes nothing.
-use Rattle.std.proofs.Common.{◌*◌, ◌/◌, ◌%◌, ◌^◌, lt_of_le_of_lt, mod-lt, pow_pos, rules}
+use Rattle.std.proofs.Common.{◌*◌, ◌/◌, ◌%◌, ◌^◌, lt_of_le_of_lt, mod-lt, pow_pos}
 use lib.Bits.{bit_and, bit_or, and_le_r, or_lt}
 use Rattle.bits.specs.Bitboard.{has}
 use Rattle.bits.proofs.Those.{is_those}

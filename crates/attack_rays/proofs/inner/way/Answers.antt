@@ -1,6 +1,6 @@
 -- `attack_rays::inner::way` meets its contract. Assumes nothing.
-use Rattle.std.proofs.Common.{arith, rules}
-use Rattle.attack_rays.proofs.Ways.{from_first, to_last, north, east, north_west_holds, north_east_holds}
+use Rattle.std.proofs.Common.{arith}
+use Rattle.attack_rays.proofs.Ways.{north, east, north_west_holds, north_east_holds}
 use Rattle.attack_rays.proofs.inner.way.Goals as goal
 
 pub returns-in-0 : goal.returns-in-0

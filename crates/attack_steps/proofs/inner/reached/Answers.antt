@@ -1,6 +1,5 @@
 -- `attack_steps::inner::reached` meets its contract. Assumes nothing.
 use mathlib.Core.Path.{sym}
-use borrow.Author.Rules.{rules}
 use native.Mathlib.Omega.{arith}
 use Rattle.attack_steps.specs.Steps.{steps_of}
 use Rattle.attack_steps.proofs.Tables.{reached_off}

@@ -1,7 +1,6 @@
 -- `attack_to::inner::attacks_to` meets its contract. Assumes nothing.
 use native.Mathlib.Omega.{arith}
 use Rattle.attack_to.proofs.Gathered.{gathered, beyond}
-use borrow.Author.Rules.{rules}
 use Rattle.attack_to.proofs.inner.attacks_to.Goals as goal
 
 pub returns-then-square-gt-LAST : goal.returns-then-square-gt-LAST

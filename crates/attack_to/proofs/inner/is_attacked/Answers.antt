@@ -1,6 +1,5 @@
 -- `attack_to::inner::is_attacked` meets its contract. Assumes nothing.
 use Rattle.attack_to.proofs.Checks.{attacked}
-use borrow.Author.Rules.{rules}
 use Rattle.attack_to.proofs.inner.is_attacked.Goals as goal
 
 pub returns : goal.returns

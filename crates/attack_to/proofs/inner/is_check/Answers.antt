@@ -1,7 +1,6 @@
 -- `attack_to::inner::is_check` meets its contract. Assumes nothing.
 use native.Mathlib.Omega.{arith}
 use Rattle.attack_to.proofs.Checks.{lowest_lt, no_king_holds, a_king}
-use borrow.Author.Rules.{rules}
 use Rattle.attack_to.proofs.inner.is_check.Goals as goal
 
 pub returns-then-king-eq0 : goal.returns-then-king-eq0

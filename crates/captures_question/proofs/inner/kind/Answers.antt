@@ -1,7 +1,6 @@
 -- `captures_question::inner::kind` meets its contract. Assumes nothing.
 use native.Mathlib.Omega.{arith}
 use Rattle.captures_question.proofs.Fields.{six_letters}
-use borrow.Author.Rules.{rules}
 use Rattle.captures_question.proofs.inner.kind.Goals as goal
 
 pub overflow_cast-result : goal.overflow_cast-result

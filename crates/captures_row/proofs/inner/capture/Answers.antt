@@ -1,14 +1,12 @@
 -- `captures_row::inner::capture` meets its contract: the row is made, and then put. Assumes nothing.
-use mathlib.Core.Path.{sym, ap, subst, ◌∙◌}
+use mathlib.Core.Path.{ap, subst, ◌∙◌}
 use mathlib.Core.List.{List}
 use Prim.Native.Nat.{ℕ}
 use native.Mathlib.Omega.{arith}
-use lib.Seq.{length-take-le}
 use Rattle.text_out.specs.Text.{Puts}
-use Rattle.text_out.proofs.Added.{adds_to, adds_front, adds_length}
+use Rattle.text_out.proofs.Added.{adds_front}
 use Rattle.captures_row.specs.Rows.{capture_row}
 use Rattle.captures_row.proofs.Fits.{fits_capture}
-use borrow.Author.Rules.{rules}
 use Rattle.captures_row.proofs.inner.capture.Goals as goal
 
 pub returns : goal.returns

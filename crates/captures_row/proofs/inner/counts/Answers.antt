@@ -1,13 +1,11 @@
 -- `captures_row::inner::counts` meets its contract: the row is made, and then put. Assumes nothing.
-use mathlib.Core.Path.{sym, subst}
+use mathlib.Core.Path.{subst}
 use mathlib.Core.List.{List}
 use Prim.Native.Nat.{ℕ}
 use native.Mathlib.Omega.{arith}
-use lib.Seq.{length-take-le}
 use Rattle.text_out.specs.Text.{Puts}
-use Rattle.text_out.proofs.Added.{adds_to, adds_front, adds_length}
+use Rattle.text_out.proofs.Added.{adds_front}
 use Rattle.captures_row.proofs.Fits.{fits_counts}
-use borrow.Author.Rules.{rules}
 use Rattle.captures_row.proofs.inner.counts.Goals as goal
 
 pub returns : goal.returns

@@ -1,17 +1,15 @@
 -- `captures_row::inner::stop` meets its contract: the row is made, and then put. Assumes nothing.
-use mathlib.Core.Path.{refl, sym, ap, subst, ◌∙◌}
+use mathlib.Core.Path.{refl, ap, subst, ◌∙◌}
 use mathlib.Core.List.{List}
 use Prim.Native.Nat.{ℕ}
 use mir.Syntax.{w32}
 use native.Mathlib.Omega.{arith}
-use lib.Seq.{length-take-le}
 use Rattle.laws.proofs.Words.{held, held_is}
 use Rattle.text_out.specs.Text.{Puts}
-use Rattle.text_out.proofs.Added.{adds_to, adds_front, adds_length}
+use Rattle.text_out.proofs.Added.{adds_front}
 use Rattle.exchange_value.specs.Answers.{stopped}
 use Rattle.captures_row.specs.Rows.{stop_row}
 use Rattle.captures_row.proofs.Fits.{fits_stop}
-use borrow.Author.Rules.{rules}
 use Rattle.captures_row.proofs.inner.stop.Goals as goal
 
 pub returns : goal.returns

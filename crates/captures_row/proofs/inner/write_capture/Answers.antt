@@ -5,7 +5,6 @@ use Rattle.text_out.proofs.Added.{adds_4}
 use Rattle.ledger_row.proofs.Fits.{length_spaced}
 use Rattle.captures_row.specs.Rows.{capture_row}
 use Rattle.captures_row.proofs.Fits.{left, length_kind, length_after}
-use borrow.Author.Rules.{rules}
 use Rattle.captures_row.proofs.inner.write_capture.Goals as goal
 
 pub followed-requires : goal.followed-requires

@@ -5,7 +5,6 @@ use Rattle.text_out.proofs.Added.{adds_4}
 use Rattle.captures_row.specs.Rows.{counts_row}
 use Rattle.ledger_totals.proofs.Fits.{length_named}
 use Rattle.captures_row.proofs.Fits.{left}
-use borrow.Author.Rules.{rules}
 use Rattle.captures_row.proofs.inner.write_counts.Goals as goal
 
 pub named-b-requires : goal.named-b-requires

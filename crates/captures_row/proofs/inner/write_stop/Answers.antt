@@ -10,7 +10,6 @@ use Rattle.text_out.proofs.Added.{adds_4}
 use Rattle.ledger_row.proofs.Fits.{length_spaced}
 use Rattle.captures_row.specs.Rows.{worth_field, stop_row}
 use Rattle.captures_row.proofs.Fits.{left, length_stop, length_worth}
-use borrow.Author.Rules.{rules}
 use Rattle.captures_row.proofs.inner.write_stop.Goals as goal
 
 pub stop_word-b-requires : goal.stop_word-b-requires

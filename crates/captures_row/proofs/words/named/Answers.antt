@@ -1,7 +1,6 @@
 -- `captures_row::words::named` meets its contract. Assumes nothing.
 use native.Mathlib.Omega.{arith}
 use Rattle.text_out.proofs.Added.{adds_then, length_20}
-use borrow.Author.Rules.{rules}
 use Rattle.captures_row.proofs.words.named.Goals as goal
 
 pub returns : goal.returns

@@ -8,7 +8,6 @@ use Rattle.laws.proofs.Words.{widens, held, held_is}
 use Rattle.text_out.specs.Text.{signed_of, Adds}
 use Rattle.text_out.proofs.Added.{adds_or, adds_then}
 use Rattle.ledger_row.proofs.Fits.{length_signed}
-use borrow.Author.Rules.{rules}
 use Rattle.captures_row.proofs.words.worth_word.Goals as goal
 
 pub returns : goal.returns

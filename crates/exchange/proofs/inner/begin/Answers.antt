@@ -4,7 +4,6 @@ use Prim.Native.Nat.{ℕ}
 use Rattle.exchange_start.specs.Capture.{passed_pawn}
 use Rattle.exchange.specs.Exchange.{emptied}
 use Rattle.exchange.proofs.First.{passing_there, all_there, pawn_taken, target_taken, begins}
-use borrow.Author.Rules.{rules}
 use Rattle.exchange.proofs.inner.begin.Goals as goal
 
 pub returns-then-takes_passing : goal.returns-then-takes_passing

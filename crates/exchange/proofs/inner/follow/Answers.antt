@@ -1,9 +1,7 @@
 -- `exchange::inner::follow` meets its contract. The loop's invariant: the first n captures stand in the arrays, zeros after them, and those to come
 -- are the ones that the definition has from here on. The measure is the room that is left. Assumes nothing.
-use Prim.Native.Nat.{◌-◌}
 use native.Mathlib.Omega.{arith}
-use Rattle.exchange.proofs.Listing.{Listing, all, listing_first, listing_more, listing_stops, listing_full, by_other}
-use borrow.Author.Rules.{rules}
+use Rattle.exchange.proofs.Listing.{listing_first, listing_more, listing_stops, listing_full, by_other}
 use Rattle.exchange.proofs.inner.follow.Goals as goal
 
 pub loop-n-init : goal.loop-n-init

@@ -1,7 +1,5 @@
 use Prim.Native.Nat.{◌-◌}
-use native.Mathlib.Omega.{arith}
-use Rattle.exchange.proofs.Listing.{Listing, all, listing_first, listing_more, listing_stops, listing_full, by_other}
-use borrow.Author.Rules.{rules}
+use Rattle.exchange.proofs.Listing.{Listing, all}
 use Rattle.exchange.proofs.inner.follow.Given as goal
 
 abbrev pub invariant-loop-n : goal.invariant-loop-n

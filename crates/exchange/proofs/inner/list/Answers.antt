@@ -4,7 +4,6 @@ use mathlib.Core.List.{List}
 use Rattle.exchange.specs.Exchange.{Capture}
 use Rattle.exchange.specs.Promises.{HoldsCaptures}
 use Rattle.exchange.proofs.First.{all_followed}
-use borrow.Author.Rules.{rules}
 use Rattle.exchange.proofs.inner.list.Goals as goal
 
 pub returns : goal.returns

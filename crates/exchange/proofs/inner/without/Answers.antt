@@ -3,7 +3,6 @@ use native.Mathlib.Omega.{arith}
 use Rattle.bits.proofs.Machine.{take_away}
 use Rattle.exchange.specs.Exchange.{emptied}
 use Rattle.exchange.proofs.Forward.{off_board}
-use borrow.Author.Rules.{rules}
 use Rattle.exchange.proofs.inner.without.Goals as goal
 
 pub returns-then-square-gt-LAST : goal.returns-then-square-gt-LAST

@@ -1,8 +1,5 @@
 -- `exchange::inner::without_passed` meets its contract. Assumes nothing.
-use mathlib.Core.Path.{ap, ◌∙◌}
-use Rattle.exchange.specs.Exchange.{emptied}
-use Rattle.exchange.proofs.First.{white_passed, black_passed, low_passed, off_passed}
-use borrow.Author.Rules.{rules}
+use Rattle.exchange.proofs.First.{off_passed}
 use Rattle.exchange.proofs.inner.without_passed.Goals as goal
 
 pub returns-then-to-gt-LAST : goal.returns-then-to-gt-LAST

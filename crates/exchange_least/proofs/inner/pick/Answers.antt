@@ -1,14 +1,12 @@
 -- `exchange_least::inner::pick` meets its contract. The loop's invariant: what was found is the least of the kinds from here on. Assumes nothing.
-use mathlib.Core.Path.{◌≡◌, sym, ap, subst, ◌∙◌}
-use Prim.Native.Nat.{◌-◌, ◌^◌, ◌≤◌, ◌<◌}
+use mathlib.Core.Path.{sym, ap, subst, ◌∙◌}
+use Prim.Native.Nat.{◌-◌, ◌^◌, ◌<◌}
 use native.Mathlib.Omega.{arith}
-use lib.ListN.{length, get_or, drop}
+use lib.ListN.{get_or}
 use Rattle.attack_to.proofs.Checks.{lowest_lt}
-use Rattle.exchange_least.specs.Least.{least_of}
 use Rattle.exchange_least.specs.PrivateFound.{who_of}
 use Rattle.exchange_least.specs.declared.inner.Found.{Found}
-use Rattle.exchange_least.proofs.Picked.{before_lt, none_asked, one_more, all_none, all_found}
-use borrow.Author.Rules.{rules}
+use Rattle.exchange_least.proofs.Picked.{before_lt, none_asked, one_more}
 use Rattle.exchange_least.proofs.inner.pick.Goals as goal
 
 pub loop-i-init : goal.loop-i-init

@@ -1,13 +1,8 @@
-use mathlib.Core.Path.{◌≡◌, sym, ap, subst, ◌∙◌}
-use Prim.Native.Nat.{◌-◌, ◌^◌, ◌≤◌, ◌<◌}
-use native.Mathlib.Omega.{arith}
-use lib.ListN.{length, get_or, drop}
-use Rattle.attack_to.proofs.Checks.{lowest_lt}
+use mathlib.Core.Path.{◌≡◌}
+use Prim.Native.Nat.{◌^◌, ◌≤◌, ◌<◌}
+use lib.ListN.{length, drop}
 use Rattle.exchange_least.specs.Least.{least_of}
 use Rattle.exchange_least.specs.PrivateFound.{who_of}
-use Rattle.exchange_least.specs.declared.inner.Found.{Found}
-use Rattle.exchange_least.proofs.Picked.{before_lt, none_asked, one_more, all_none, all_found}
-use borrow.Author.Rules.{rules}
 use Rattle.exchange_least.proofs.inner.pick.Given as goal
 
 abbrev pub invariant-loop-i : goal.invariant-loop-i

@@ -1,6 +1,5 @@
 -- `exchange_least::inner::still_there` meets its contract. Assumes nothing.
 use Rattle.exchange_least.proofs.Picked.{three}
-use borrow.Author.Rules.{rules}
 use Rattle.exchange_least.proofs.inner.still_there.Goals as goal
 
 pub returns : goal.returns

@@ -1,12 +1,11 @@
 -- `exchange_order::inner::each_once` meets its contract: after i kinds their units are counted. Assumes nothing.
 use mathlib.Core.Path.{◌≡◌, ap, ◌∙◌}
-use Prim.Native.Nat.{ℕ, ◌-◌, ◌≤◌}
+use Prim.Native.Nat.{ℕ}
 use native.Mathlib.Numerals.{add-one}
 use native.Mathlib.Omega.{arith}
 use lib.Dec.{eqb}
 use lib.ListN.{get_or}
 use Rattle.exchange_order.proofs.Counted.{unit_le, packed, packed_none, packed_one, packed_le, counts}
-use borrow.Author.Rules.{rules}
 use Rattle.exchange_order.proofs.inner.each_once.Goals as goal
 
 pub loop-i-init : goal.loop-i-init

@@ -1,11 +1,6 @@
-use mathlib.Core.Path.{◌≡◌, ap, ◌∙◌}
-use Prim.Native.Nat.{ℕ, ◌-◌, ◌≤◌}
-use native.Mathlib.Numerals.{add-one}
-use native.Mathlib.Omega.{arith}
-use lib.Dec.{eqb}
-use lib.ListN.{get_or}
-use Rattle.exchange_order.proofs.Counted.{unit_le, packed, packed_none, packed_one, packed_le, counts}
-use borrow.Author.Rules.{rules}
+use mathlib.Core.Path.{◌≡◌}
+use Prim.Native.Nat.{◌-◌, ◌≤◌}
+use Rattle.exchange_order.proofs.Counted.{packed}
 use Rattle.exchange_order.proofs.inner.each_once.Given as goal
 
 abbrev pub invariant-loop-i : goal.invariant-loop-i

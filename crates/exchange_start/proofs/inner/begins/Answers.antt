@@ -3,8 +3,7 @@ use mathlib.Core.Path.{sym, ◌∙◌}
 use native.Mathlib.Omega.{arith}
 use borrow.Author.Tests.{not-true, not-false}
 use Rattle.position.proofs.Doors.{pass_on, fit_rest}
-use Rattle.exchange_start.proofs.Begun.{begun_or, from_off, to_off, no_order, no_move, crowd, begun}
-use borrow.Author.Rules.{rules}
+use Rattle.exchange_start.proofs.Begun.{begun_or, from_off, to_off, no_order, no_move, crowd}
 use Rattle.exchange_start.proofs.inner.begins.Goals as goal
 
 pub returns-in-Refused : goal.returns-in-Refused

@@ -3,7 +3,6 @@ use mathlib.Core.Path.{sym}
 use native.Mathlib.Omega.{arith}
 use Rattle.bits.proofs.Digits.{has_high}
 use Rattle.bits.proofs.Machine.{asked}
-use borrow.Author.Rules.{rules}
 use Rattle.exchange_start.proofs.inner.holds.Goals as goal
 
 pub returns-then-square-gt-LAST : goal.returns-then-square-gt-LAST

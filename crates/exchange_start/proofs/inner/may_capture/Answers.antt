@@ -4,7 +4,6 @@ use mathlib.Core.Bool.{true}
 use borrow.Author.Tests.{not-true, not-false}
 use Rattle.position_boards.specs.Sound.{on}
 use Rattle.exchange_start.proofs.Tested.{no_own, none_to_take, attack_only}
-use borrow.Author.Rules.{rules}
 use Rattle.exchange_start.proofs.inner.may_capture.Goals as goal
 
 pub returns-then-not-stands : goal.returns-then-not-stands

@@ -3,7 +3,6 @@ use mathlib.Core.Path.{◌≡◌, ap, ◌∙◌}
 use Prim.Native.Nat.{ℕ}
 use Rattle.bits.specs.Bitboard.{has, how_many}
 use Rattle.exchange_start.proofs.Tested.{many, many_kings, last_kings}
-use borrow.Author.Rules.{rules}
 use Rattle.exchange_start.proofs.inner.uncrowded.Goals as goal
 
 -- what a count of what was read gave

@@ -1,11 +1,10 @@
 -- `exchange_value::inner::settle` meets its contract. The loop's invariant: `next` is what the captures from k on are worth, if the first need not be made.
 -- Assumes nothing.
 use mathlib.Core.Path.{◌≡◌, refl, ap, ◌∙◌}
-use Prim.Native.Nat.{◌-◌, ◌≤◌}
+use Prim.Native.Nat.{◌-◌}
 use native.Mathlib.Omega.{arith}
-use lib.ListN.{length, get_or}
-use Rattle.exchange_value.proofs.Backward.{gain, no_gain, back, in_32, whole, settled_none}
-use borrow.Author.Rules.{rules}
+use lib.ListN.{get_or}
+use Rattle.exchange_value.proofs.Backward.{gain, no_gain, back, whole, settled_none}
 use Rattle.exchange_value.proofs.inner.settle.Goals as goal
 
 pub returns-then-values-eq0 : goal.returns-then-values-eq0

@@ -1,9 +1,7 @@
-use mathlib.Core.Path.{◌≡◌, refl, ap, ◌∙◌}
-use Prim.Native.Nat.{◌-◌, ◌≤◌}
-use native.Mathlib.Omega.{arith}
-use lib.ListN.{length, get_or}
-use Rattle.exchange_value.proofs.Backward.{gain, no_gain, back, in_32, whole, settled_none}
-use borrow.Author.Rules.{rules}
+use mathlib.Core.Path.{◌≡◌}
+use Prim.Native.Nat.{◌≤◌}
+use lib.ListN.{length}
+use Rattle.exchange_value.proofs.Backward.{gain}
 use Rattle.exchange_value.proofs.inner.settle.Given as goal
 
 abbrev pub invariant-loop-k : goal.invariant-loop-k

@@ -2,13 +2,11 @@
 -- of them that does not pay, 0 for none.
 -- Assumes nothing.
 use mathlib.Core.Path.{◌≡◌, refl, ap, ◌∙◌}
-use Prim.Native.Nat.{◌-◌, ◌≤◌}
+use Prim.Native.Nat.{◌-◌}
 use native.Mathlib.Omega.{arith}
-use lib.ListN.{length}
-use Rattle.exchange_value.proofs.Backward.{gain, no_gain, back}
+use Rattle.exchange_value.proofs.Backward.{no_gain, back}
 use Rattle.exchange_value.proofs.Earliest as Earliest
 use Rattle.exchange_value.proofs.Earliest.{none_found, found_back, stop_none, stop_out, stop_at}
-use borrow.Author.Rules.{rules}
 use Rattle.exchange_value.proofs.inner.stop.Goals as goal
 
 pub returns-then-values-eq0 : goal.returns-then-values-eq0

@@ -1,9 +1,8 @@
 -- `fit_adam::inner::powers_of` meets its contract. The loop's invariant: both are the running products so far. Assumes nothing.
 use mathlib.Core.Path.{◌≡◌, refl, ap}
-use Prim.Native.Nat.{ℕ, ◌+◌, ◌-◌, ◌≤◌}
+use Prim.Native.Nat.{ℕ, ◌+◌}
 use native.Mathlib.Numerals.{add-one}
 use native.Mathlib.Omega.{arith}
-use borrow.Author.Rules.{rules}
 use lib.Ieee.{Float}
 use Rattle.doubles.specs.Doubles.{◌⊗◌}
 use Rattle.fit_adam.specs.Adam.{beta1, beta2, power}

@@ -1,12 +1,7 @@
 -- `fit_adam::inner::walk` meets its contract. The loop's invariant: all three lists are turned up to i. Assumes nothing.
 use mathlib.Core.Path.{◌≡◌}
-use borrow.Author.Rules.{rules}
-use Prim.Native.Nat.{◌≤◌, ◌<◌, ◌-◌}
 use native.Mathlib.Omega.{arith}
-use lib.ListN.{length}
-use Rattle.fit_adam.specs.Adam.{first_at, second_at, weight_stepped}
-use Rattle.fit_adam.specs.Promises.{fit_from}
-use Rattle.fit_adam.proofs.Places.{Turned, none, one_more, here, all}
+use Rattle.fit_adam.proofs.Places.{one_more, here, all}
 use Rattle.fit_adam.proofs.inner.walk.Goals as goal
 
 pub loop-i-preserved : goal.loop-i-preserved

@@ -1,11 +1,9 @@
 use mathlib.Core.Path.{◌≡◌}
-use borrow.Author.Rules.{rules}
 use Prim.Native.Nat.{◌≤◌, ◌<◌, ◌-◌}
-use native.Mathlib.Omega.{arith}
 use lib.ListN.{length}
 use Rattle.fit_adam.specs.Adam.{first_at, second_at, weight_stepped}
 use Rattle.fit_adam.specs.Promises.{fit_from}
-use Rattle.fit_adam.proofs.Places.{Turned, none, one_more, here, all}
+use Rattle.fit_adam.proofs.Places.{Turned}
 use Rattle.fit_adam.proofs.inner.walk.Given as goal
 
 abbrev pub invariant-loop-i : goal.invariant-loop-i

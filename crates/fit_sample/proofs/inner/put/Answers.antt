@@ -1,12 +1,10 @@
 -- `fit_sample::inner::put` meets its contract: the sample is made, and then put. Assumes nothing.
-use mathlib.Core.Path.{refl, sym, subst, ◌∙◌}
+use mathlib.Core.Path.{refl, subst, ◌∙◌}
 use mathlib.Core.List.{List}
 use Prim.Native.Nat.{ℕ}
 use native.Mathlib.Omega.{arith}
-use lib.Seq.{length-take-le}
-use borrow.Author.Rules.{rules}
 use Rattle.text_out.specs.Text.{Puts}
-use Rattle.text_out.proofs.Added.{adds_to, adds_length, adds_front}
+use Rattle.text_out.proofs.Added.{adds_front}
 use Rattle.fit_sample.proofs.Sampled.{list_long, sample_none, sample_some, mobility_12, sample_300}
 use Rattle.fit_sample.proofs.inner.put.Goals as goal
 

@@ -1,7 +1,6 @@
 -- `fit_sample::inner::put_entries` meets its contract. Assumes nothing.
 use mathlib.Core.List.{[], ◌∷◌}
 use native.Mathlib.Omega.{arith}
-use borrow.Author.Rules.{rules}
 use Rattle.text_out.proofs.Added.{adds_or}
 use Rattle.text_out.proofs.Added.{adds_3}
 use Rattle.fit_sample.proofs.inner.put_entries.Goals as goal

@@ -1,7 +1,6 @@
 -- `fit_sample::inner::put_numbers` meets its contract. Assumes nothing.
 use mathlib.Core.Path.{refl}
 use mathlib.Core.List.{[]}
-use borrow.Author.Rules.{rules}
 use Rattle.abi_records.proofs.Read.{then}
 use Rattle.fit_sample.proofs.Parts.{room_second, room_third, numbers_all}
 use Rattle.fit_sample.proofs.inner.put_numbers.Goals as goal

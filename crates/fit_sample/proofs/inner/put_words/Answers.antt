@@ -1,11 +1,7 @@
 -- `fit_sample::inner::put_words` meets its contract: so far the words of the numbers before the place stand there. Assumes nothing.
 use mathlib.Core.Path.{ap, ◌∙◌}
-use Prim.Native.Nat.{◌-◌}
-use lib.ListN.{length, take}
-use borrow.Author.Rules.{rules}
-use Rattle.text_out.specs.Text.{Adds}
-use Rattle.fit_sample.specs.Sample.{lowest_first, words_of}
-use Rattle.fit_sample.proofs.Parts.{words_none, words_kept, words_more, words_all}
+use Rattle.fit_sample.specs.Sample.{lowest_first}
+use Rattle.fit_sample.proofs.Parts.{words_none, words_more}
 use Rattle.fit_sample.proofs.inner.put_words.Goals as goal
 
 pub loop-i-init : goal.loop-i-init

@@ -2,7 +2,6 @@
 use Prim.Native.Nat.{◌+◌, ◌≤◌}
 use native.Mathlib.Omega.{arith}
 use lib.ListN.{length}
-use borrow.Author.Rules.{rules}
 use Rattle.text_out.proofs.Added.{adds_to, adds_length, adds_then}
 use Rattle.fit_sample.specs.Sample.{number_bytes}
 use Rattle.fit_sample.proofs.Parts.{numbers_104, entries_long}

@@ -1,14 +1,11 @@
 -- `ledger_row::inner::refused` meets its contract: the row is made, and then put. Assumes nothing.
-use mathlib.Core.Path.{sym, ap, subst, ◌∙◌}
+use mathlib.Core.Path.{ap, subst, ◌∙◌}
 use mathlib.Core.List.{List}
 use Prim.Native.Nat.{ℕ}
-use native.Mathlib.Omega.{arith}
-use lib.Seq.{length-take-le}
 use Rattle.ledger_row.specs.Row.{refused_row}
 use Rattle.text_out.specs.Text.{Puts}
-use Rattle.text_out.proofs.Added.{adds_to, adds_front, adds_length}
+use Rattle.text_out.proofs.Added.{adds_front}
 use Rattle.ledger_row.proofs.Fits.{fits_refused}
-use borrow.Author.Rules.{rules}
 use Rattle.ledger_row.proofs.inner.refused.Goals as goal
 
 pub returns : goal.returns

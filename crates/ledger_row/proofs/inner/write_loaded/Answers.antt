@@ -4,7 +4,6 @@ use native.Mathlib.Omega.{arith}
 use Rattle.ledger_row.specs.Row.{loaded_row}
 use Rattle.text_out.proofs.Added.{adds_to, adds_4}
 use Rattle.ledger_row.proofs.Fits.{length_spaced, length_shown}
-use borrow.Author.Rules.{rules}
 use Rattle.ledger_row.proofs.inner.write_loaded.Goals as goal
 
 pub spaced-b-requires : goal.spaced-b-requires

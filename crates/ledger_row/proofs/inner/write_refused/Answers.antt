@@ -3,7 +3,6 @@ use native.Mathlib.Omega.{arith}
 use Rattle.ledger_row.specs.Row.{refused_row}
 use Rattle.text_out.proofs.Added.{adds_4, length_20}
 use Rattle.ledger_row.proofs.Fits.{length_spaced}
-use borrow.Author.Rules.{rules}
 use Rattle.ledger_row.proofs.inner.write_refused.Goals as goal
 
 pub returns : goal.returns

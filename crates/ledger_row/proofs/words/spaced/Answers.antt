@@ -1,7 +1,6 @@
 -- `ledger_row::words::spaced` meets its contract. Assumes nothing.
 use native.Mathlib.Omega.{arith}
 use Rattle.text_out.proofs.Added.{adds_then, length_20}
-use borrow.Author.Rules.{rules}
 use Rattle.ledger_row.proofs.words.spaced.Goals as goal
 
 pub returns : goal.returns

@@ -1,7 +1,5 @@
 use Prim.Native.Nat.{◌-◌}
-use native.Mathlib.Omega.{arith}
-use borrow.Author.Rules.{rules}
-use Rattle.line.proofs.Copies.{Copied, copied_none, copied_more, copied_all}
+use Rattle.line.proofs.Copies.{Copied}
 use Rattle.line.proofs.inner.copy_bitboards.Given as goal
 
 abbrev pub invariant-loop-i : goal.invariant-loop-i

@@ -1,5 +1,4 @@
 -- `line_profile::inner::played` meets its contract. Assumes nothing.
-use borrow.Author.Rules.{rules}
 use Rattle.line_profile.proofs.Judged.{breaks, keeps}
 use Rattle.line_profile.proofs.inner.played.Goals as goal
 

@@ -1,6 +1,5 @@
 -- `line_ranks::inner::piece` meets its contract. Assumes nothing.
 use native.Mathlib.Omega.{arith}
-use borrow.Author.Rules.{rules}
 use Rattle.line_ranks.proofs.Letters.{before_letters, after_letters, past_r, no_piece, a_piece}
 use Rattle.line_ranks.proofs.inner.piece.Goals as goal
 

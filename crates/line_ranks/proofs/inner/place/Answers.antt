@@ -1,9 +1,6 @@
 -- `line_ranks::inner::place` meets its contract: `turn` says what each byte leaves true. Assumes nothing.
-use Prim.Native.Nat.{◌-◌}
 use native.Mathlib.Omega.{arith}
-use borrow.Author.Rules.{rules}
-use lib.ListN.{length}
-use Rattle.line_ranks.proofs.Placing.{Turn, turn_first, turn, refused, too_few, too_short, complete}
+use Rattle.line_ranks.proofs.Placing.{turn_first, turn, refused, too_few, too_short, complete}
 use Rattle.line_ranks.proofs.inner.place.Goals as goal
 
 pub loop-i-init : goal.loop-i-init

@@ -1,8 +1,6 @@
 use Prim.Native.Nat.{◌-◌}
-use native.Mathlib.Omega.{arith}
-use borrow.Author.Rules.{rules}
 use lib.ListN.{length}
-use Rattle.line_ranks.proofs.Placing.{Turn, turn_first, turn, refused, too_few, too_short, complete}
+use Rattle.line_ranks.proofs.Placing.{Turn}
 use Rattle.line_ranks.proofs.inner.place.Given as goal
 
 abbrev pub invariant-loop-i : goal.invariant-loop-i

@@ -1,5 +1,4 @@
 -- `line_ranks::inner::run` meets its contract. Assumes nothing.
-use borrow.Author.Rules.{rules}
 use borrow.Author.Tests.{lt-leb, le-leb}
 use Rattle.line_ranks.specs.Ranks.{run_of}
 use Rattle.line_ranks.proofs.inner.run.Goals as goal

@@ -1,7 +1,6 @@
 -- `line_ranks::inner::step` meets its contract. Assumes nothing.
 use native.Mathlib.Omega.{arith}
-use borrow.Author.Rules.{rules}
-use Rattle.line_ranks.proofs.Steps.{run_le, lowest, unfinished, below, twice, too_many, empties, no_mark, full, piece}
+use Rattle.line_ranks.proofs.Steps.{run_le}
 use Rattle.line_ranks.proofs.inner.step.Goals as goal
 
 pub overflow_add-file : goal.overflow_add-file

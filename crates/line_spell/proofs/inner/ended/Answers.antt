@@ -6,8 +6,7 @@ use native.Mathlib.Omega.{arith}
 use Rattle.text_out.specs.Text.{Puts}
 use Rattle.text_out.proofs.Added.{adds_then}
 use Rattle.line_text.proofs.Lengths.{line_text_length, ended_length}
-use Rattle.line_spell.proofs.Joined.{made_within_holds, made_long, made_text}
-use borrow.Author.Rules.{rules}
+use Rattle.line_spell.proofs.Joined.{made_text}
 use Rattle.line_spell.proofs.inner.ended.Goals as goal
 
 pub returns : goal.returns

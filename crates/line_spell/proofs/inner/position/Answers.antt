@@ -4,8 +4,7 @@ use mathlib.Core.List.{List}
 use Prim.Native.Nat.{ℕ}
 use Rattle.text_out.specs.Text.{Puts}
 use Rattle.line_text.proofs.Lengths.{position_length}
-use Rattle.line_spell.proofs.Joined.{made_within_holds, made_long, made_text}
-use borrow.Author.Rules.{rules}
+use Rattle.line_spell.proofs.Joined.{made_text}
 use Rattle.line_spell.proofs.inner.position.Goals as goal
 
 pub returns : goal.returns

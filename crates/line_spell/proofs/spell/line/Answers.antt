@@ -2,7 +2,6 @@
 use native.Mathlib.Omega.{arith}
 use Rattle.line_text.proofs.Lengths.{position_length, result_length}
 use Rattle.text_out.proofs.Added.{adds_3}
-use borrow.Author.Rules.{rules}
 use Rattle.line_spell.proofs.spell.line.Goals as goal
 
 pub returns : goal.returns

@@ -3,7 +3,6 @@ use native.Mathlib.Omega.{arith}
 use Rattle.text_out.proofs.Added.{adds_then}
 use Rattle.line_text.proofs.Lengths.{ranks_length, state_length}
 use Rattle.line_spell.proofs.Behind.{room_behind}
-use borrow.Author.Rules.{rules}
 use Rattle.line_spell.proofs.spell.position.Goals as goal
 
 pub put_state-requires : goal.put_state-requires

@@ -1,8 +1,7 @@
 -- `line_spell::spell::put_counter` meets its contract. Assumes nothing.
 use Rattle.text_out.proofs.Added.{adds_or}
 use Rattle.text_out.specs.Text.{decimal_of}
-use Rattle.line_spell.proofs.Behind.{no_counter, counter_put}
-use borrow.Author.Rules.{rules}
+use Rattle.line_spell.proofs.Behind.{counter_put}
 use Rattle.line_spell.proofs.spell.put_counter.Goals as goal
 
 pub returns : goal.returns

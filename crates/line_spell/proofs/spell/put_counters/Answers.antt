@@ -3,7 +3,6 @@ use native.Mathlib.Omega.{arith}
 use Rattle.text_out.proofs.Added.{adds_then}
 use Rattle.line_text.proofs.Lengths.{counter_length}
 use Rattle.line_spell.proofs.Behind.{room_behind}
-use borrow.Author.Rules.{rules}
 use Rattle.line_spell.proofs.spell.put_counters.Goals as goal
 
 pub put_counter-requires : goal.put_counter-requires

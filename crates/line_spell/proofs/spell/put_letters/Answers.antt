@@ -2,7 +2,6 @@
 use native.Mathlib.Omega.{arith}
 use Rattle.text_out.proofs.Added.{adds_4}
 use Rattle.line_text.proofs.Lengths.{letter_length}
-use borrow.Author.Rules.{rules}
 use Rattle.line_spell.proofs.spell.put_letters.Goals as goal
 
 pub returns : goal.returns

@@ -1,8 +1,6 @@
 -- `line_spell::spell::put_ranks` meets its contract: `Down` says what each rank leaves true. Assumes nothing.
-use mathlib.Core.Path.{◌∙◌}
 use native.Mathlib.Omega.{arith}
-use borrow.Author.Rules.{rules}
-use Rattle.line_spell.proofs.Joined.{Down, down_first, down_room, down_again, down_last}
+use Rattle.line_spell.proofs.Joined.{down_room, down_again, down_last}
 use Rattle.line_spell.proofs.spell.put_ranks.Goals as goal
 
 pub bounds-line-end : goal.bounds-line-end

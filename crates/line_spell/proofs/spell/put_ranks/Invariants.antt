@@ -1,7 +1,4 @@
-use mathlib.Core.Path.{◌∙◌}
-use native.Mathlib.Omega.{arith}
-use borrow.Author.Rules.{rules}
-use Rattle.line_spell.proofs.Joined.{Down, down_first, down_room, down_again, down_last}
+use Rattle.line_spell.proofs.Joined.{Down}
 use Rattle.line_spell.proofs.spell.put_ranks.Given as goal
 
 abbrev pub invariant-loop-rank : goal.invariant-loop-rank

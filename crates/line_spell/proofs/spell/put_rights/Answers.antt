@@ -1,8 +1,6 @@
 -- `line_spell::spell::put_rights` meets its contract. Assumes nothing.
-use native.Mathlib.Omega.{arith}
 use Rattle.line_text.proofs.Lengths.{letters_length}
-use Rattle.line_spell.proofs.Behind.{room_behind, letters_put, dash_put}
-use borrow.Author.Rules.{rules}
+use Rattle.line_spell.proofs.Behind.{letters_put, dash_put}
 use Rattle.line_spell.proofs.spell.put_rights.Goals as goal
 
 pub returns-then-end-begin : goal.returns-then-end-begin

@@ -1,10 +1,8 @@
 -- `line_spell::spell::put_squares` meets its contract: `Turn` says what each square leaves true. Assumes nothing.
-use mathlib.Core.Path.{refl, ◌∙◌}
-use Prim.Native.Nat.{◌+◌, ◌-◌}
+use mathlib.Core.Path.{refl}
 use native.Mathlib.Omega.{arith}
-use borrow.Author.Rules.{rules}
-use lib.ListN.{length, get_or, length-set}
-use Rattle.line_spell.proofs.Turns.{Turn, turn_first, turn_empty, letter_room, both_room', turn_letter, turn_both, ends, end_room, ends_run}
+use lib.ListN.{get_or}
+use Rattle.line_spell.proofs.Turns.{turn_empty, letter_room, both_room', turn_letter, turn_both, ends, end_room, ends_run}
 use Rattle.line_spell.proofs.spell.put_squares.Goals as goal
 
 pub loop-file-preserved-then-code-eq0 : goal.loop-file-preserved-then-code-eq0

@@ -1,9 +1,6 @@
-use mathlib.Core.Path.{refl, ◌∙◌}
-use Prim.Native.Nat.{◌+◌, ◌-◌}
-use native.Mathlib.Omega.{arith}
-use borrow.Author.Rules.{rules}
-use lib.ListN.{length, get_or, length-set}
-use Rattle.line_spell.proofs.Turns.{Turn, turn_first, turn_empty, letter_room, both_room', turn_letter, turn_both, ends, end_room, ends_run}
+use Prim.Native.Nat.{◌-◌}
+use lib.ListN.{length}
+use Rattle.line_spell.proofs.Turns.{Turn}
 use Rattle.line_spell.proofs.spell.put_squares.Given as goal
 
 abbrev pub invariant-loop-file : goal.invariant-loop-file

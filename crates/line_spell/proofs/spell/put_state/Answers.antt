@@ -2,8 +2,6 @@
 use native.Mathlib.Omega.{arith}
 use Rattle.text_out.proofs.Added.{adds_4}
 use Rattle.line_text.proofs.Lengths.{side_length, rights_length, passant_length, counters_length}
-use Rattle.line_spell.proofs.Behind.{room_behind}
-use borrow.Author.Rules.{rules}
 use Rattle.line_spell.proofs.spell.put_state.Goals as goal
 
 pub returns : goal.returns

@@ -1,6 +1,5 @@
 -- `counters::counter` meets its contract. Assumes nothing.
 use native.Mathlib.Omega.{arith}
-use borrow.Author.Rules.{rules}
 use Rattle.line_tail.proofs.Laws.{counter_none, counter_long, counter_one, counter_zero, counter_first}
 use Rattle.line_tail.proofs.counters.counter.Goals as goal
 

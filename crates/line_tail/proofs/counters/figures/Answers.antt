@@ -1,10 +1,9 @@
 -- `counters::figures` meets its contract. Assumes nothing.
 use mathlib.Core.Path.{ap}
-use Prim.Native.Nat.{ℕ, ◌+◌, ◌*◌, ◌-◌}
+use Prim.Native.Nat.{ℕ, ◌+◌, ◌*◌}
 use native.Mathlib.Omega.{arith}
-use lib.ListN.{length}
 use borrow.Author.Rules.{rules}
-use Rattle.line_tail.proofs.Laws.{Read, read_none, read_stop, read_more, read_end, low_figure, high_figure, thousand}
+use Rattle.line_tail.proofs.Laws.{read_stop, read_more, read_end, low_figure, high_figure}
 use Rattle.line_tail.proofs.counters.figures.Goals as goal
 
 pub returns-then-b-lt48 : goal.returns-then-b-lt48

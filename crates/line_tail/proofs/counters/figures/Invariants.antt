@@ -1,9 +1,6 @@
-use mathlib.Core.Path.{ap}
-use Prim.Native.Nat.{ℕ, ◌+◌, ◌*◌, ◌-◌}
-use native.Mathlib.Omega.{arith}
+use Prim.Native.Nat.{◌-◌}
 use lib.ListN.{length}
-use borrow.Author.Rules.{rules}
-use Rattle.line_tail.proofs.Laws.{Read, read_none, read_stop, read_more, read_end, low_figure, high_figure, thousand}
+use Rattle.line_tail.proofs.Laws.{Read}
 use Rattle.line_tail.proofs.counters.figures.Given as goal
 
 abbrev pub invariant-loop-i : goal.invariant-loop-i

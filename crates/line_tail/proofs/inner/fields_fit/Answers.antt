@@ -1,5 +1,4 @@
 -- `inner::fields_fit` meets its contract. Assumes nothing.
-use borrow.Author.Rules.{rules}
 use borrow.Author.Tests.{not-true, not-false}
 use Rattle.line_tail.proofs.Tails.{five_fields, six_fields, seven_fields}
 use Rattle.line_tail.proofs.inner.fields_fit.Goals as goal

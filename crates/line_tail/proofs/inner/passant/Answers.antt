@@ -1,5 +1,4 @@
 -- `inner::passant` meets its contract. Assumes nothing.
-use borrow.Author.Rules.{rules}
 use Rattle.line_tail.proofs.Laws.{passant_none, passant_dash, passant_named}
 use Rattle.line_tail.proofs.inner.passant.Goals as goal
 

@@ -1,5 +1,4 @@
 -- `inner::passant_fits` meets its contract. Assumes nothing.
-use borrow.Author.Rules.{rules}
 use borrow.Author.Tests.{not-true, not-false}
 use Rattle.line_tail.proofs.Tails.{three_fields, four_fields}
 use Rattle.line_tail.proofs.inner.passant_fits.Goals as goal

@@ -1,6 +1,5 @@
 -- `inner::read` meets its contract. Assumes nothing.
 use mathlib.Core.Path.{◌∙◌}
-use borrow.Author.Rules.{rules}
 use Rattle.line_tail.proofs.Tails.{cut_so}
 use Rattle.line_tail.proofs.inner.read.Goals as goal
 

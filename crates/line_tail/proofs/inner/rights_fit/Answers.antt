@@ -1,5 +1,4 @@
 -- `inner::rights_fit` meets its contract. Assumes nothing.
-use borrow.Author.Rules.{rules}
 use borrow.Author.Tests.{not-true, not-false}
 use Rattle.line_tail.proofs.Tails.{no_letters, with_letters}
 use Rattle.line_tail.proofs.inner.rights_fit.Goals as goal

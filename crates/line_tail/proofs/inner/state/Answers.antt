@@ -1,5 +1,4 @@
 -- `inner::state` meets its contract. Assumes nothing.
-use borrow.Author.Rules.{rules}
 use Rattle.line_tail.proofs.Tails.{state_is}
 use Rattle.line_tail.proofs.inner.state.Goals as goal
 

@@ -1,5 +1,4 @@
 -- `rights::are_rights` meets its contract. Assumes nothing.
-use borrow.Author.Rules.{rules}
 use Rattle.line_tail.proofs.Laws.{dash_rights, letters_left}
 use Rattle.line_tail.proofs.rights.are_rights.Goals as goal
 

@@ -1,5 +1,4 @@
 -- `rights::rights` meets its contract. Assumes nothing.
-use borrow.Author.Rules.{rules}
 use Rattle.line_tail.proofs.Laws.{rights_are}
 use Rattle.line_tail.proofs.rights.rights.Goals as goal
 

@@ -1,6 +1,5 @@
 -- `inner::at_home` meets its contract. Assumes nothing.
 use mathlib.Core.Path.{◌∙◌}
-use borrow.Author.Rules.{rules}
 use borrow.Author.Tests.{not-true, not-false}
 use Rattle.position_further.proofs.Laws.{fails_K, fails_Q, fails_k, left_q}
 use Rattle.position_further.proofs.inner.at_home.Goals as goal

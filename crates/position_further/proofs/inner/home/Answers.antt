@@ -1,6 +1,5 @@
 -- `inner::home` meets its contract. Assumes nothing.
 use mathlib.Core.Path.{◌∙◌}
-use borrow.Author.Rules.{rules}
 use borrow.Author.Tests.{not-true, not-false}
 use Rattle.position_further.proofs.Laws.{no_right, king_away, king_there}
 use Rattle.position_further.proofs.inner.home.Goals as goal

@@ -1,6 +1,5 @@
 -- `inner::just_passed` meets its contract. Assumes nothing.
 use mathlib.Core.Path.{◌∙◌}
-use borrow.Author.Rules.{rules}
 use borrow.Author.Tests.{not-true, not-false}
 use Rattle.position_further.proofs.Laws.{nowhere, not_empty, not_sixth, on_sixth, not_third, on_third}
 use Rattle.position_further.proofs.inner.just_passed.Goals as goal

@@ -1,6 +1,5 @@
 -- `position_profile::inner::at_ends` meets its contract. Assumes nothing.
 use Rattle.position_profile.proofs.Rules.{strays}
-use borrow.Author.Rules.{rules}
 use Rattle.position_profile.proofs.inner.at_ends.Goals as goal
 
 pub returns : goal.returns

@@ -1,6 +1,5 @@
 -- `position_profile::inner::few_pawns` meets its contract. Assumes nothing.
 use mathlib.Core.Path.{sym, ◌∙◌}
-use borrow.Author.Rules.{rules}
 use borrow.Author.Tests.{le-leb, lt-leb}
 use Rattle.position_profile.specs.Profile.{few_pawns}
 use Rattle.position_profile.proofs.Rules.{not_white, then_black, few_pawns_holds}

@@ -1,6 +1,5 @@
 -- `position_profile::inner::few_pieces` meets its contract. Assumes nothing.
 use mathlib.Core.Path.{sym, ◌∙◌}
-use borrow.Author.Rules.{rules}
 use borrow.Author.Tests.{le-leb, lt-leb}
 use Rattle.position_profile.specs.Profile.{few_pieces}
 use Rattle.position_profile.proofs.Rules.{not_white, then_black, few_pieces_holds}

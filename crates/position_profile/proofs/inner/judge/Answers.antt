@@ -4,7 +4,6 @@ use Rattle.refusal.specs.Answer.{given}
 use Rattle.position_odds.proofs.Named.{lowest_small}
 use Rattle.position_profile.specs.Profile.{one_king, few_pawns, few_pieces, of_both}
 use Rattle.position_profile.proofs.Rules.{holds, fails, broken_kings, broken_pawns, broken_pieces, broken_rank, broken_check, none_broken}
-use borrow.Author.Rules.{rules}
 use Rattle.position_profile.proofs.inner.judge.Goals as goal
 
 pub returns-then-not-one_king : goal.returns-then-not-one_king

@@ -1,6 +1,5 @@
 -- `position_profile::inner::one_king` meets its contract. Assumes nothing.
 use mathlib.Core.Path.{sym, ◌∙◌}
-use borrow.Author.Rules.{rules}
 use borrow.Author.Tests.{eq-eqb, ne_eqb}
 use Rattle.position_profile.specs.Profile.{one_king}
 use Rattle.position_profile.proofs.Rules.{not_white, then_black, one_king_holds}

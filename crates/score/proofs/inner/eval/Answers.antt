@@ -1,6 +1,5 @@
 -- `score::inner::eval` meets its contract: each return is one of the laws of `Settled`. Assumes nothing.
 use mathlib.Core.Path.{ap, sym, ◌∙◌}
-use borrow.Author.Rules.{rules}
 use Rattle.score_taper.specs.Answers.{points}
 use Rattle.score_verdict.specs.Answers.{verdict_paper}
 use Rattle.score.proofs.Settled as laws

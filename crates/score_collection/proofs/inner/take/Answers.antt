@@ -1,12 +1,8 @@
 -- `score_collection::inner::take` meets its contract: the loop's invariant is that of every loop over lines (cut's `Turn`). Assumes nothing.
 use mathlib.Core.Path.{sym, ap}
-use Prim.Native.Nat.{◌-◌}
 use native.Mathlib.Omega.{arith}
-use borrow.Author.Rules.{rules}
-use lib.ListN.{length}
-use Rattle.line_cut.specs.Cut.{CutSoFar, run_by}
-use Rattle.line_cut.specs.Promises.{opened}
-use Rattle.line_cut.proofs.Loop.{Turn, turn_none, turn_next, turn_less, turn_end}
+use Rattle.line_cut.specs.Cut.{CutSoFar}
+use Rattle.line_cut.proofs.Loop.{turn_next, turn_less, turn_end}
 use Rattle.score_collection.specs.Promises.{close_with, gathered_of}
 use Rattle.score_collection.specs.declared.Sum.{Sum}
 use Rattle.score_collection.proofs.inner.take.Goals as goal

@@ -1,13 +1,9 @@
-use mathlib.Core.Path.{sym, ap}
 use Prim.Native.Nat.{◌-◌}
-use native.Mathlib.Omega.{arith}
-use borrow.Author.Rules.{rules}
 use lib.ListN.{length}
-use Rattle.line_cut.specs.Cut.{CutSoFar, run_by}
+use Rattle.line_cut.specs.Cut.{run_by}
 use Rattle.line_cut.specs.Promises.{opened}
-use Rattle.line_cut.proofs.Loop.{Turn, turn_none, turn_next, turn_less, turn_end}
-use Rattle.score_collection.specs.Promises.{close_with, gathered_of}
-use Rattle.score_collection.specs.declared.Sum.{Sum}
+use Rattle.line_cut.proofs.Loop.{Turn}
+use Rattle.score_collection.specs.Promises.{close_with}
 use Rattle.score_collection.proofs.inner.take.Given as goal
 
 abbrev pub invariant-loop-at : goal.invariant-loop-at

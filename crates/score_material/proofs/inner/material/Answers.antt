@@ -1,8 +1,7 @@
 -- `score_material::inner::material` meets its contract. The loop's invariant: the sum of the kinds passed. Assumes nothing.
 use mathlib.Core.Path.{◌≡◌, sym, ap, ap₂, ◌∙◌}
-use Prim.Native.Nat.{ℕ, ◌+◌, ◌*◌, ◌-◌, ◌≤◌}
+use Prim.Native.Nat.{ℕ, ◌+◌, ◌*◌}
 use native.Mathlib.Omega.{arith}
-use borrow.Author.Rules.{rules}
 use Rattle.laws.specs.Sums.{sum_n}
 use Rattle.laws.proofs.Sums.{sum_none, sum_more}
 use Rattle.score_material.specs.Pieces.{count}

@@ -1,12 +1,8 @@
-use mathlib.Core.Path.{◌≡◌, sym, ap, ap₂, ◌∙◌}
-use Prim.Native.Nat.{ℕ, ◌+◌, ◌*◌, ◌-◌, ◌≤◌}
-use native.Mathlib.Omega.{arith}
-use borrow.Author.Rules.{rules}
+use mathlib.Core.Path.{◌≡◌}
+use Prim.Native.Nat.{◌*◌, ◌-◌, ◌≤◌}
 use Rattle.laws.specs.Sums.{sum_n}
-use Rattle.laws.proofs.Sums.{sum_none, sum_more}
 use Rattle.score_material.specs.Pieces.{count}
 use Rattle.chess.specs.Values.{value_of}
-use Rattle.score_material.proofs.Pieces.{count_le, worth_of_holds}
 use Rattle.score_material.proofs.inner.material.Given as goal
 
 abbrev pub invariant-loop-kind : goal.invariant-loop-kind

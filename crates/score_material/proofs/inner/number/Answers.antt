@@ -1,7 +1,6 @@
 -- `score_material::inner::number` meets its contract. Assumes nothing.
 use mathlib.Core.Path.{ap, ◌∙◌}
 use Prim.Native.Nat.{ℕ}
-use borrow.Author.Rules.{rules}
 use Rattle.bits.specs.Bitboard.{has, how_many}
 use Rattle.score_material.proofs.Pieces.{count_of}
 use Rattle.score_material.proofs.inner.number.Goals as goal

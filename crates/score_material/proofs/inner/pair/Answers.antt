@@ -1,5 +1,4 @@
 -- `score_material::inner::pair` meets its contract. Assumes nothing.
-use borrow.Author.Rules.{rules}
 use Rattle.score_material.proofs.Pieces.{no_pair, a_pair}
 use Rattle.score_material.proofs.inner.pair.Goals as goal
 

@@ -1,7 +1,6 @@
 -- `score_tally::inner::sums` meets its contract: what each board gives, by `six`. Assumes nothing.
 use mathlib.Core.Path.{ap, ◌∙◌}
 use Prim.Native.Nat.{ℕ}
-use borrow.Author.Rules.{rules}
 use Rattle.score_walks.specs.PrivateWalked.{packed_from, walked_of}
 use Rattle.score_tally.proofs.Boards.{small, little, knights_same, six}
 use Rattle.score_tally.proofs.inner.sums.Goals as goal

@@ -1,10 +1,10 @@
 -- `score_tally::inner::tally` meets its contract: the four sums come out of the words of each colour. Assumes nothing.
 use mathlib.Core.Path.{ap, ◌∙◌}
 use native.Mathlib.Omega.{arith}
-use borrow.Author.Rules.{rules, sfits_of}
+use borrow.Author.Rules.{sfits_of}
 use Rattle.score_weights.specs.PrivatePacked.{opening_in, ending_in}
 use Rattle.score_tally.specs.declared.inner.ColorSums.{ColorSums}
-use Rattle.score_tally.proofs.Boards.{opening_sum, ending_sum, first_fits, first_is, moved_sum, both_are}
+use Rattle.score_tally.proofs.Boards.{opening_sum, ending_sum, first_is, moved_sum, both_are}
 use Rattle.score_tally.proofs.inner.tally.Goals as goal
 
 pub returns : goal.returns

@@ -1,7 +1,7 @@
 -- `score_taper::inner::brought` meets its contract. Assumes nothing.
 use mathlib.Core.Path.{◌≡◌, ap, ap₂, ◌∙◌}
-use borrow.Author.Rules.{rules, sfits_of}
-use borrow.Author.Tests.{lt-leb, le-leb}
+use borrow.Author.Rules.{sfits_of}
+use borrow.Author.Tests.{le-leb}
 use lib.IntN.{ℤ}
 use mir.Facts.{to_z-of_z}
 use mir.Syntax.{w32, w64}

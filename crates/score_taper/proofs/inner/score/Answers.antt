@@ -1,8 +1,7 @@
 -- `score_taper::inner::score` meets its contract: what each side answered says what it fits, and the last step is `joined`. Assumes nothing.
 use mathlib.Core.Path.{◌≡◌, ap, ap₂, ◌∙◌}
-use Prim.Native.Nat.{◌≤◌}
-use borrow.Author.Rules.{rules, sfits_of}
-use lib.IntN.{ℤ, nat_abs, ◌-ℤ◌}
+use borrow.Author.Rules.{sfits_of}
+use lib.IntN.{ℤ, ◌-ℤ◌}
 use mir.Syntax.{w64}
 use Rattle.laws.proofs.Words.{held, held_is}
 use Rattle.score_taper.specs.Parts.{side_part, side_fits, sum_fits_rule, total}

@@ -3,7 +3,6 @@ use mathlib.Core.Path.{◌≡◌, ap, sym, ◌∙◌}
 use mathlib.Core.Bool.{true, false}
 use Prim.Native.Nat.{ℕ}
 use native.Mathlib.Omega.{arith}
-use borrow.Author.Rules.{rules}
 use Rattle.bits.specs.Bitboard.{has, how_many}
 use Rattle.score_material.specs.Pieces.{count, pieces}
 use Rattle.score_verdict.specs.Verdict.{to_move, few_kings}

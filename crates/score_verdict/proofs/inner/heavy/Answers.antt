@@ -1,7 +1,6 @@
 -- `score_verdict::inner::heavy` meets its contract. Assumes nothing.
 use Prim.Native.Nat.{◌+◌, ◌≤◌}
 use native.Mathlib.Omega.{arith}
-use borrow.Author.Rules.{rules}
 use Rattle.score_material.proofs.Pieces.{count_le}
 use Rattle.score_verdict.proofs.Verdicts.{heavy_of}
 use Rattle.score_verdict.proofs.inner.heavy.Goals as goal

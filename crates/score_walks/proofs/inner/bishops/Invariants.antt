@@ -1,21 +1,9 @@
-use mathlib.Core.Path.{◌≡◌, refl, sym, ap, ◌∙◌, subst}
-use mathlib.Core.List.{[], ◌∷◌}
-use Prim.Native.Nat.{ℕ, ◌<◌, ◌≤◌}
-use native.Mathlib.Omega.{arith}
-use borrow.Author.Rules.{rules}
+use Prim.Native.Nat.{ℕ}
 use lib.ListN.{length}
 use Rattle.chess.specs.Squares.{flip_of}
 use Rattle.bits.specs.Bitboard.{has, how_many, squares}
-use Rattle.bits.specs.Answers.{lowest}
-use Rattle.bits.proofs.Counts.{many_le}
-use Rattle.bits.proofs.Each.{next_at, next_done}
 use Rattle.attack.specs.Attacks.{attacks}
-use Rattle.attack.proofs.ByKind.{bishop}
 use Rattle.score_weights.specs.PrivatePacked.{packed_at}
-use Rattle.score_weights.proofs.Packed.{packed_le}
-use Rattle.score_walks.specs.Attacked.{attacked_from}
-use Rattle.score_walks.specs.PrivateWalked.{packed_from}
-use Rattle.score_walks.specs.declared.Walked.{Walked}
 use Rattle.score_walks.proofs.Kept as kept
 use Rattle.score_walks.proofs.inner.bishops.Given as goal
 

@@ -4,14 +4,11 @@ use mathlib.Core.Path.{◌≡◌, refl, sym, ap, ◌∙◌, subst}
 use mathlib.Core.List.{[], ◌∷◌}
 use Prim.Native.Nat.{ℕ, ◌<◌, ◌≤◌}
 use native.Mathlib.Omega.{arith}
-use borrow.Author.Rules.{rules}
 use lib.ListN.{length}
-use Rattle.chess.specs.Squares.{flip_of}
 use Rattle.bits.specs.Bitboard.{has, how_many, squares}
 use Rattle.bits.specs.Answers.{lowest}
 use Rattle.bits.proofs.Counts.{many_le}
 use Rattle.bits.proofs.Each.{next_at, next_done}
-use Rattle.attack.specs.Attacks.{attacks}
 use Rattle.attack.proofs.ByKind.{rook}
 use Rattle.score_weights.specs.PrivatePacked.{packed_at}
 use Rattle.score_weights.proofs.Packed.{packed_le}

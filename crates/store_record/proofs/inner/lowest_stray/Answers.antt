@@ -1,10 +1,8 @@
 -- `store_record::inner::lowest_stray` meets its contract: the squares below k have a code. Assumes nothing.
 use mathlib.Core.Path.{sym, ◌∙◌}
-use Prim.Native.Nat.{◌≤◌, ◌-◌}
 use native.Mathlib.Omega.{arith}
-use borrow.Author.Rules.{rules}
-use borrow.Author.Tests.{not-true, not-false}
-use Rattle.position_odds.proofs.Named.{Tried, none_tried, one_more, stopped, ended}
+use borrow.Author.Tests.{not-true}
+use Rattle.position_odds.proofs.Named.{stopped, ended}
 use Rattle.store_record.specs.Record.{is_code}
 use Rattle.store_record.proofs.inner.lowest_stray.Goals as goal
 

@@ -1,9 +1,5 @@
-use mathlib.Core.Path.{sym, ◌∙◌}
 use Prim.Native.Nat.{◌≤◌, ◌-◌}
-use native.Mathlib.Omega.{arith}
-use borrow.Author.Rules.{rules}
-use borrow.Author.Tests.{not-true, not-false}
-use Rattle.position_odds.proofs.Named.{Tried, none_tried, one_more, stopped, ended}
+use Rattle.position_odds.proofs.Named.{Tried}
 use Rattle.store_record.specs.Record.{is_code}
 use Rattle.store_record.proofs.inner.lowest_stray.Given as goal
 

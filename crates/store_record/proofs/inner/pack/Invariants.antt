@@ -1,14 +1,9 @@
-use mathlib.Core.Path.{◌≡◌, sym, ap₂, ◌∙◌}
+use mathlib.Core.Path.{◌≡◌}
 use mathlib.Core.List.{List}
 use Prim.Native.Nat.{ℕ, ◌≤◌, ◌-◌}
-use native.Mathlib.Numerals.{add-one}
-use native.Mathlib.Omega.{arith}
-use borrow.Author.Rules.{rules}
-use Rattle.laws.specs.Tables.{tabulate}
 use Rattle.position.specs.Checked.{of_side}
 use Rattle.line_parse.specs.Line.{Line}
-use Rattle.store_record.specs.Record.{two_squares}
-use Rattle.store_record.proofs.Records.{bytes_to, bytes_none, bytes_more, bytes_all, record_pair}
+use Rattle.store_record.proofs.Records.{bytes_to}
 use Rattle.store_record.proofs.inner.pack.Given as goal
 
 abbrev pub packed : List ℕ → ℕ → ℕ → Line

@@ -1,5 +1,4 @@
 -- `store_record::inner::read` meets its contract. Assumes nothing.
-use borrow.Author.Rules.{rules}
 use borrow.Author.Tests.{not-true, not-false}
 use Rattle.store_record.proofs.Answers.{bad_length, bad_code, bad_side, bad_result, good}
 use Rattle.store_record.proofs.inner.read.Goals as goal

@@ -1,10 +1,7 @@
 -- `store_record::inner::unpack` meets its contract: after i bytes the first 2i squares are the record's. Assumes nothing.
-use mathlib.Core.Path.{◌≡◌}
-use Prim.Native.Nat.{◌*◌, ◌≤◌, ◌-◌}
 use native.Mathlib.Omega.{arith}
-use borrow.Author.Rules.{rules}
 use Rattle.laws.specs.Tables.{tabulate}
-use Rattle.store_record.proofs.Records.{squares_to, squares_none, squares_more, squares_all}
+use Rattle.store_record.proofs.Records.{squares_none, squares_more, squares_all}
 use Rattle.store_record.proofs.inner.unpack.Goals as goal
 
 pub loop-i-init : goal.loop-i-init

@@ -1,9 +1,6 @@
 use mathlib.Core.Path.{◌≡◌}
 use Prim.Native.Nat.{◌*◌, ◌≤◌, ◌-◌}
-use native.Mathlib.Omega.{arith}
-use borrow.Author.Rules.{rules}
-use Rattle.laws.specs.Tables.{tabulate}
-use Rattle.store_record.proofs.Records.{squares_to, squares_none, squares_more, squares_all}
+use Rattle.store_record.proofs.Records.{squares_to}
 use Rattle.store_record.proofs.inner.unpack.Given as goal
 
 abbrev pub invariant-loop-i : goal.invariant-loop-i

@@ -1,5 +1,5 @@
 -- `store_text::page::add_up` meets its contract. Assumes nothing.
-use Rattle.std.proofs.Common.{◌≡◌, ℕ, ◌-◌, ◌%◌, ◌^◌, ◌≤◌, refl, ap, ◌∙◌, ap₂, arith, rules}
+use Rattle.std.proofs.Common.{refl, ◌∙◌, arith}
 use Rattle.laws.specs.Sums.{sum_n}
 use Rattle.store_text.specs.Board.{count_on, most_n}
 use Rattle.store_text.proofs.Tests.{total_more, most_more}

@@ -1,7 +1,6 @@
-use Rattle.std.proofs.Common.{◌≡◌, ℕ, ◌-◌, ◌%◌, ◌^◌, ◌≤◌, refl, ap, ◌∙◌, ap₂, arith, rules}
+use Rattle.std.proofs.Common.{◌≡◌, ◌-◌, ◌%◌, ◌^◌, ◌≤◌}
 use Rattle.laws.specs.Sums.{sum_n}
 use Rattle.store_text.specs.Board.{count_on, most_n}
-use Rattle.store_text.proofs.Tests.{total_more, most_more}
 use Rattle.store_text.proofs.page.add_up.Given as goal
 
 abbrev pub invariant-loop-square : goal.invariant-loop-square

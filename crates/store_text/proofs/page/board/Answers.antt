@@ -1,5 +1,5 @@
 -- `store_text::page::board` meets its contract. Assumes nothing.
-use Rattle.std.proofs.Common.{ℕ, ap, arith, rules}
+use Rattle.std.proofs.Common.{ℕ, ap, arith}
 use Rattle.ledger_totals.proofs.Point.{after_room}
 use Rattle.store_text.specs.Board.{total_of, most_of, laid}
 use Rattle.store_text.specs.Page.{board_head, squares_shown, board_end, board_text}

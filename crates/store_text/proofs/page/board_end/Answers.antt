@@ -1,10 +1,6 @@
 -- `store_text::page::board_end` meets its contract. Assumes nothing.
-use Rattle.std.proofs.Common.{ℕ, sym, subst, arith, rules}
-use Rattle.text_out.specs.Text.{Adds}
-use Rattle.store_text.specs.Page.{board_end}
-use Rattle.store_text.specs.declared.Form.{Form}
+use Rattle.std.proofs.Common.{arith}
 use Rattle.text_out.proofs.Added.{length_20}
-use Rattle.store_text.specs.Table.{letters_row}
 use Rattle.store_text.proofs.page.board_end.Goals as goal
 
 pub letters-requires : goal.letters-requires

@@ -1,5 +1,5 @@
 -- `store_text::page::board_head` meets its contract. Assumes nothing.
-use Rattle.std.proofs.Common.{arith, rules}
+use Rattle.std.proofs.Common.{arith}
 use Rattle.text_out.proofs.Added.{adds_4, length_20}
 use Rattle.store_text.specs.Page.{board_head}
 use Rattle.store_text.proofs.Fits.{length_board_begin, length_piece, length_words}

@@ -1,7 +1,7 @@
 -- `store_text::page::boards` meets its contract. Assumes nothing.
-use Rattle.std.proofs.Common.{◌≡◌, ◌-◌, length, arith, rules}
+use Rattle.std.proofs.Common.{arith, rules}
 use Rattle.store_text.specs.Page.{board_text}
-use Rattle.store_text.proofs.Laid.{Laying, laying_none, laying_room, laying_more, laying_all}
+use Rattle.store_text.proofs.Laid.{laying_none, laying_room, laying_more}
 use Rattle.store_text.proofs.Fits.{length_board}
 use Rattle.store_text.proofs.page.boards.Goals as goal
 

@@ -1,7 +1,6 @@
-use Rattle.std.proofs.Common.{◌≡◌, ◌-◌, length, arith, rules}
+use Rattle.std.proofs.Common.{◌≡◌, ◌-◌, length}
 use Rattle.store_text.specs.Page.{board_text}
-use Rattle.store_text.proofs.Laid.{Laying, laying_none, laying_room, laying_more, laying_all}
-use Rattle.store_text.proofs.Fits.{length_board}
+use Rattle.store_text.proofs.Laid.{Laying}
 use Rattle.store_text.proofs.page.boards.Given as goal
 
 abbrev pub invariant-loop-piece : goal.invariant-loop-piece

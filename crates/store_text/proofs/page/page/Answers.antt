@@ -1,5 +1,5 @@
 -- `store_text::page::page` meets its contract. Assumes nothing.
-use Rattle.std.proofs.Common.{get_or, arith, rules}
+use Rattle.std.proofs.Common.{get_or, arith}
 use Rattle.ledger_totals.proofs.Point.{after_room}
 use Rattle.store_text.specs.Page.{board_text, page_of}
 use Rattle.text_out.proofs.Added.{adds_3}

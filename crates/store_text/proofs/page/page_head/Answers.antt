@@ -1,5 +1,5 @@
 -- `store_text::page::page_head` meets its contract. Assumes nothing.
-use Rattle.std.proofs.Common.{arith, rules}
+use Rattle.std.proofs.Common.{arith}
 use Rattle.text_in.specs.Text.{text}
 use Rattle.text_out.proofs.Added.{adds_4}
 use Rattle.ledger_totals.proofs.Fits.{length_named}

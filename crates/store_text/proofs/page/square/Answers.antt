@@ -1,5 +1,5 @@
 -- `store_text::page::square` meets its contract. Assumes nothing.
-use Rattle.std.proofs.Common.{arith, rules}
+use Rattle.std.proofs.Common.{arith}
 use Rattle.ledger_totals.proofs.Point.{after_room}
 use Rattle.store_text.specs.Page.{square_shown}
 use Rattle.text_out.proofs.Added.{adds_3}

@@ -1,8 +1,8 @@
 -- `store_text::page::squares` meets its contract. Assumes nothing.
-use Rattle.std.proofs.Common.{◌≡◌, ℕ, ◌-◌, length, ap, ◌∙◌, arith, rules}
+use Rattle.std.proofs.Common.{ℕ, ap, ◌∙◌, arith, rules}
 use Rattle.store_text.specs.Board.{count_on}
 use Rattle.store_text.specs.Page.{square_shown, squares_shown}
-use Rattle.store_text.proofs.Laid.{by_text, Laying, laying_none, laying_room, laying_more, laying_all}
+use Rattle.store_text.proofs.Laid.{by_text, laying_none, laying_room, laying_more}
 use Rattle.store_text.proofs.Fits.{length_squares}
 use Rattle.store_text.proofs.page.squares.Goals as goal
 

@@ -1,8 +1,6 @@
-use Rattle.std.proofs.Common.{◌≡◌, ℕ, ◌-◌, length, ap, ◌∙◌, arith, rules}
-use Rattle.store_text.specs.Board.{count_on}
-use Rattle.store_text.specs.Page.{square_shown, squares_shown}
-use Rattle.store_text.proofs.Laid.{by_text, Laying, laying_none, laying_room, laying_more, laying_all}
-use Rattle.store_text.proofs.Fits.{length_squares}
+use Rattle.std.proofs.Common.{◌≡◌, ◌-◌, length}
+use Rattle.store_text.specs.Page.{squares_shown}
+use Rattle.store_text.proofs.Laid.{Laying}
 use Rattle.store_text.proofs.page.squares.Given as goal
 
 abbrev pub invariant-loop-i : goal.invariant-loop-i

@@ -1,5 +1,5 @@
 -- `store_text::picture::begin` meets its contract. Assumes nothing.
-use Rattle.std.proofs.Common.{arith, rules}
+use Rattle.std.proofs.Common.{arith}
 use Rattle.text_out.proofs.Added.{adds_4}
 use Rattle.store_text.specs.Picture.{picture_begin}
 use Rattle.store_text.proofs.picture.begin.Goals as goal

@@ -1,5 +1,5 @@
 -- `store_text::picture::board` meets its contract. Assumes nothing.
-use Rattle.std.proofs.Common.{◌+◌, ◌*◌, ◌/◌, ◌%◌, ap, arith, rules}
+use Rattle.std.proofs.Common.{◌+◌, ◌*◌, ◌/◌, ◌%◌, ap, arith}
 use Rattle.text_in.specs.Text.{text}
 use Rattle.ledger_totals.proofs.Fits.{length_named}
 use Rattle.ledger_totals.proofs.Point.{after_room}

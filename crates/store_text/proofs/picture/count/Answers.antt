@@ -1,5 +1,5 @@
 -- `store_text::picture::count` meets its contract. Assumes nothing.
-use Rattle.std.proofs.Common.{ℕ, ◌+◌, ap, arith, rules}
+use Rattle.std.proofs.Common.{ℕ, ◌+◌, ap, arith}
 use Rattle.text_in.specs.Text.{text}
 use Rattle.text_out.proofs.Added.{adds_4}
 use Rattle.ledger_totals.proofs.Fits.{length_named}

@@ -1,5 +1,5 @@
 -- `store_text::picture::letters` meets its contract. Assumes nothing.
-use Rattle.std.proofs.Common.{arith, rules}
+use Rattle.std.proofs.Common.{arith}
 use Rattle.text_out.proofs.Added.{adds_then}
 use Rattle.store_text.specs.Picture.{letters_drawn}
 use Rattle.store_text.proofs.picture.letters.Goals as goal

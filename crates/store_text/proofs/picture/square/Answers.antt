@@ -1,5 +1,5 @@
 -- `store_text::picture::square` meets its contract. Assumes nothing.
-use Rattle.std.proofs.Common.{arith, rules}
+use Rattle.std.proofs.Common.{arith}
 use Rattle.text_out.proofs.Added.{adds_then}
 use Rattle.ledger_totals.proofs.Point.{after_room}
 use Rattle.store_text.proofs.Fits.{length_square, length_if_any}

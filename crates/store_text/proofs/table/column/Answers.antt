@@ -1,6 +1,4 @@
 -- `store_text::table::column` meets its contract. Assumes nothing.
-use Rattle.std.proofs.Common.{ℕ, replicate, sym, arith, length-take-le, rules}
-use lib.ListN.{length-replicate}
 use Rattle.store_text.proofs.Tests.{column_adds}
 use Rattle.store_text.proofs.table.column.Goals as goal
 

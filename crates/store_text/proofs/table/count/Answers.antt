@@ -1,8 +1,8 @@
 -- `store_text::table::count` meets its contract. Assumes nothing.
-use Rattle.std.proofs.Common.{◌+◌, ◌≤◌, Bool, cond, length, replicate, sym, ap, ◌∙◌, arith, length-take-le, rules, eq-eqb, ne_eqb}
+use Rattle.std.proofs.Common.{◌+◌, ◌≤◌, Bool, cond, length, replicate, sym, ap, ◌∙◌, arith, ne_eqb}
 use Rattle.text_in.specs.Text.{text}
 use Rattle.text_out.specs.Text.{decimal_of}
-use Rattle.text_out.proofs.Added.{adds_or, adds_to, adds_length, adds_front, length_20}
+use Rattle.text_out.proofs.Added.{adds_or, adds_front, length_20}
 use Rattle.store_text.specs.Table.{in_column}
 use Rattle.store_text.proofs.Laid.{by_text}
 use Rattle.store_text.proofs.table.count.Goals as goal

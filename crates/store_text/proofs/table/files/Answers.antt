@@ -1,7 +1,7 @@
 -- `store_text::table::files` meets its contract. Assumes nothing.
-use Rattle.std.proofs.Common.{◌≡◌, ◌-◌, length, arith, rules}
+use Rattle.std.proofs.Common.{arith, rules}
 use Rattle.store_text.specs.Table.{in_column, file_word}
-use Rattle.store_text.proofs.Laid.{Laying, laying_none, laying_room, laying_more, laying_all}
+use Rattle.store_text.proofs.Laid.{laying_none, laying_room, laying_more}
 use Rattle.store_text.proofs.Fits.{length_files}
 use Rattle.store_text.proofs.table.files.Goals as goal
 

@@ -1,7 +1,6 @@
-use Rattle.std.proofs.Common.{◌≡◌, ◌-◌, length, arith, rules}
+use Rattle.std.proofs.Common.{◌≡◌, ◌-◌, length}
 use Rattle.store_text.specs.Table.{in_column, file_word}
-use Rattle.store_text.proofs.Laid.{Laying, laying_none, laying_room, laying_more, laying_all}
-use Rattle.store_text.proofs.Fits.{length_files}
+use Rattle.store_text.proofs.Laid.{Laying}
 use Rattle.store_text.proofs.table.files.Given as goal
 
 abbrev pub invariant-loop-file : goal.invariant-loop-file

@@ -1,6 +1,5 @@
 -- `store_text::table::letters` meets its contract. Assumes nothing.
-use Rattle.std.proofs.Common.{arith, rules}
-use Rattle.ledger_totals.proofs.Point.{after_room}
+use Rattle.std.proofs.Common.{arith}
 use Rattle.store_text.specs.Table.{in_column, file_word, letters_row}
 use Rattle.text_out.proofs.Added.{adds_3}
 use Rattle.store_text.proofs.Laid.{length_laid}

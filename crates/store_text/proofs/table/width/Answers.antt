@@ -1,5 +1,5 @@
 -- `store_text::table::width` meets its contract. Assumes nothing.
-use Rattle.std.proofs.Common.{◌+◌, ◌≤◌, length, replicate, ◌∙◌, zero-add, arith, rules}
+use Rattle.std.proofs.Common.{◌+◌, ◌≤◌, length, replicate, ◌∙◌, zero-add, arith}
 use Rattle.text_out.specs.Text.{decimal_of}
 use Rattle.text_out.proofs.Added.{adds_or, adds_to, length_20}
 use Rattle.store_text.proofs.table.width.Goals as goal

@@ -1,5 +1,5 @@
 -- `store_text::words::spaced` meets its contract. Assumes nothing.
-use Rattle.std.proofs.Common.{arith, rules}
+use Rattle.std.proofs.Common.{arith}
 use Rattle.text_out.proofs.Added.{adds_then, length_20}
 use Rattle.store_text.proofs.words.spaced.Goals as goal
 

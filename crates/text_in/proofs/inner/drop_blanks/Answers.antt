@@ -1,12 +1,9 @@
 -- `text_in::inner::drop_blanks` meets its contract. Assumes nothing.
-use mathlib.Core.Path.{◌≡◌, refl, sym, ◌∙◌}
-use native.Mathlib.Omega.{arith}
+use mathlib.Core.Path.{sym, ◌∙◌}
 use borrow.Author.Rules.{rules}
 use borrow.Author.Tests.{not-true, not-false}
-use lib.ListN.{length}
-use lib.Seq.{length-take-le}
-use Rattle.text_in.specs.Text.{is_blank, without_last}
-use Rattle.text_in.proofs.Texts.{back_shorter, last_more, last_stop, last_none}
+use Rattle.text_in.specs.Text.{is_blank}
+use Rattle.text_in.proofs.Texts.{last_more, last_stop, last_none}
 use Rattle.text_in.proofs.inner.drop_blanks.Goals as goal
 
 pub returns-then-not-blank : goal.returns-then-not-blank

@@ -1,11 +1,7 @@
-use mathlib.Core.Path.{◌≡◌, sym}
+use mathlib.Core.Path.{◌≡◌}
 use Prim.Native.Nat.{◌+◌, ◌-◌, ◌≤◌}
-use native.Mathlib.Nat.{zero-add}
-use native.Mathlib.Omega.{arith}
-use borrow.Author.Rules.{rules}
 use lib.ListN.{length, drop}
 use Rattle.text_in.specs.Text.{before}
-use Rattle.text_in.proofs.Texts.{before_more, before_stop, before_end}
 use Rattle.text_in.proofs.inner.find.Given as goal
 
 abbrev pub invariant-loop-i : goal.invariant-loop-i

@@ -1,11 +1,5 @@
 -- `text_in::inner::is` meets its contract. Assumes nothing.
-use mathlib.Core.Path.{◌≡◌, refl}
-use Prim.Native.Nat.{◌-◌, ◌≤◌}
-use native.Mathlib.Omega.{arith}
-use borrow.Author.Rules.{rules}
-use lib.ListN.{length, drop}
-use Rattle.laws.specs.Tests.{same}
-use Rattle.text_in.proofs.Texts.{same_length, same_more, same_stop, same_end}
+use Rattle.text_in.proofs.Texts.{same_length}
 use Rattle.text_in.proofs.inner.is.Goals as goal
 
 pub returns-then-s-word : goal.returns-then-s-word

@@ -1,10 +1,7 @@
-use mathlib.Core.Path.{◌≡◌, refl}
+use mathlib.Core.Path.{◌≡◌}
 use Prim.Native.Nat.{◌-◌, ◌≤◌}
-use native.Mathlib.Omega.{arith}
-use borrow.Author.Rules.{rules}
 use lib.ListN.{length, drop}
 use Rattle.laws.specs.Tests.{same}
-use Rattle.text_in.proofs.Texts.{same_length, same_more, same_stop, same_end}
 use Rattle.text_in.proofs.inner.is.Given as goal
 
 abbrev pub invariant-loop-i : goal.invariant-loop-i

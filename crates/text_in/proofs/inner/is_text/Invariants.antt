@@ -1,11 +1,8 @@
-use mathlib.Core.Path.{◌≡◌, refl}
+use mathlib.Core.Path.{◌≡◌}
 use mathlib.Core.Bool.{◌&&◌}
 use Prim.Native.Nat.{◌-◌, ◌≤◌}
-use native.Mathlib.Omega.{arith}
-use borrow.Author.Rules.{rules}
 use lib.ListN.{length, drop}
 use Rattle.text_in.specs.Text.{is_text, every}
-use Rattle.text_in.proofs.Texts.{every_more, every_end}
 use Rattle.text_in.proofs.inner.is_text.Given as goal
 
 abbrev pub invariant-loop-i : goal.invariant-loop-i

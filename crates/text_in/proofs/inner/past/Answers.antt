@@ -4,7 +4,6 @@ use native.Mathlib.Omega.{arith}
 use Prim.Native.Nat.{ℕ, ◌+◌, ◌≤◌}
 use lib.ListN.{length}
 use Rattle.text_in.proofs.Parts.{before_found, past_none, past_there}
-use borrow.Author.Rules.{rules}
 use Rattle.text_in.proofs.inner.past.Goals as goal
 
 pub returns-then-end-s : goal.returns-then-end-s

@@ -1,10 +1,9 @@
 -- `text_in::inner::skip_blanks` meets its contract. Assumes nothing.
-use mathlib.Core.Path.{◌≡◌, refl, sym, ◌∙◌}
+use mathlib.Core.Path.{sym, ◌∙◌}
 use borrow.Author.Rules.{rules}
 use borrow.Author.Tests.{not-true, not-false}
-use lib.ListN.{length}
-use Rattle.text_in.specs.Text.{is_blank, without}
-use Rattle.text_in.proofs.Texts.{front_shorter, without_more, without_stop, without_none}
+use Rattle.text_in.specs.Text.{is_blank}
+use Rattle.text_in.proofs.Texts.{without_more, without_stop, without_none}
 use Rattle.text_in.proofs.inner.skip_blanks.Goals as goal
 
 pub returns-then-not-blank : goal.returns-then-not-blank

@@ -1,9 +1,6 @@
-use mathlib.Core.Path.{◌≡◌, refl, sym, ◌∙◌}
-use borrow.Author.Rules.{rules}
-use borrow.Author.Tests.{not-true, not-false}
+use mathlib.Core.Path.{◌≡◌}
 use lib.ListN.{length}
 use Rattle.text_in.specs.Text.{is_blank, without}
-use Rattle.text_in.proofs.Texts.{front_shorter, without_more, without_stop, without_none}
 use Rattle.text_in.proofs.inner.skip_blanks.Given as goal
 
 abbrev pub invariant-loop-t : goal.invariant-loop-t

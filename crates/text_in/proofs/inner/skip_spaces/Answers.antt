@@ -1,10 +1,9 @@
 -- `text_in::inner::skip_spaces` meets its contract. Assumes nothing.
-use mathlib.Core.Path.{◌≡◌, refl, sym, ◌∙◌}
+use mathlib.Core.Path.{sym, ◌∙◌}
 use borrow.Author.Rules.{rules}
 use borrow.Author.Tests.{eq-eqb, ne_eqb}
-use lib.ListN.{length}
-use Rattle.text_in.specs.Text.{is_space, without}
-use Rattle.text_in.proofs.Texts.{front_shorter, without_more, without_stop, without_none}
+use Rattle.text_in.specs.Text.{is_space}
+use Rattle.text_in.proofs.Texts.{without_more, without_stop, without_none}
 use Rattle.text_in.proofs.inner.skip_spaces.Goals as goal
 
 pub returns-then-t-ne32 : goal.returns-then-t-ne32

@@ -1,9 +1,6 @@
-use mathlib.Core.Path.{◌≡◌, refl, sym, ◌∙◌}
-use borrow.Author.Rules.{rules}
-use borrow.Author.Tests.{eq-eqb, ne_eqb}
+use mathlib.Core.Path.{◌≡◌}
 use lib.ListN.{length}
 use Rattle.text_in.specs.Text.{is_space, without}
-use Rattle.text_in.proofs.Texts.{front_shorter, without_more, without_stop, without_none}
 use Rattle.text_in.proofs.inner.skip_spaces.Given as goal
 
 abbrev pub invariant-loop-t : goal.invariant-loop-t

@@ -4,7 +4,6 @@ use Prim.Native.Nat.{ℕ, ◌-◌}
 use native.Mathlib.Omega.{arith}
 use lib.ListN.{length, take, drop}
 use Rattle.text_in.proofs.Parts.{past_le, cut_after}
-use borrow.Author.Rules.{rules}
 use Rattle.text_in.proofs.inner.text_after.Goals as goal
 
 pub slice_bounds-result-count : goal.slice_bounds-result-count

@@ -4,7 +4,6 @@ use lib.ListN.{take}
 use Prim.Native.Nat.{ℕ}
 use lib.Seq.{length-take-le}
 use Rattle.text_in.proofs.Parts.{before_found, before_take}
-use borrow.Author.Rules.{rules}
 use Rattle.text_in.proofs.inner.text_before.Goals as goal
 
 pub slice_bounds-result-end : goal.slice_bounds-result-end

@@ -1,6 +1,5 @@
 -- `text_in::inner::trim` meets its contract. Assumes nothing.
 use mathlib.Core.Path.{◌∙◌, ap}
-use borrow.Author.Rules.{rules}
 use Rattle.text_in.specs.Text.{is_blank, without_last, trim}
 use Rattle.text_in.proofs.inner.trim.Goals as goal
 

@@ -1,5 +1,4 @@
 -- `trace_mobility::inner::attacked` meets its contract. Assumes nothing.
-use borrow.Author.Rules.{rules}
 use Rattle.trace_mobility.proofs.Masks.{of_pawns, of_knights, of_kings}
 use Rattle.trace_mobility.proofs.inner.attacked.Goals as goal
 

@@ -1,18 +1,9 @@
-use mathlib.Core.Path.{◌≡◌, refl, sym, ap, ◌∙◌}
-use mathlib.Core.List.{[], ◌∷◌}
-use Prim.Native.Nat.{ℕ, suc, ◌+◌, ◌*◌, ◌^◌, ◌<◌, ◌≤◌}
-use native.Mathlib.Omega.{arith}
-use borrow.Author.Rules.{rules}
+use mathlib.Core.Path.{◌≡◌}
+use Prim.Native.Nat.{ℕ, ◌+◌, ◌*◌, ◌^◌, ◌<◌, ◌≤◌}
 use lib.ListN.{length}
 use Rattle.laws.specs.Sums.{counted}
-use Rattle.laws.proofs.Sums.{counted_none, counted_one}
 use Rattle.bits.specs.Bitboard.{has, how_many, squares}
-use Rattle.bits.specs.Answers.{lowest}
-use Rattle.bits.proofs.Counts.{many_le}
-use Rattle.bits.proofs.Squares.{squares_le}
-use Rattle.bits.proofs.Each.{next_at, next_done}
 use Rattle.attack.specs.Attacks.{attacks}
-use Rattle.trace_mobility.proofs.Sums.{attacked_counted}
 use Rattle.trace_mobility.proofs.inner.one_by_one.Given as goal
 
 -- how many squares a piece on s attacks

@@ -1,6 +1,5 @@
 -- `trace_mobility::inner::shared` meets its contract. Assumes nothing.
 use native.Mathlib.Omega.{arith}
-use borrow.Author.Rules.{rules}
 use lib.Bits.{bit_and}
 use Rattle.bits.specs.Bitboard.{has}
 use Rattle.bits.proofs.Counts.{many_le}

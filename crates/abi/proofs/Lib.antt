@@ -1,0 +1,3 @@
+pub mod LineRead
+pub mod Least
+pub mod Determined

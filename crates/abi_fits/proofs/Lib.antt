@@ -1,0 +1,3 @@
+pub mod Traced
+pub mod Fitted
+pub mod Determined

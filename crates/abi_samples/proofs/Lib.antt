@@ -1,0 +1,2 @@
+pub mod Sampled
+pub mod Determined

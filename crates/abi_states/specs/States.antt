@@ -1,0 +1,42 @@
+-- A position's state as a record for C. Definitions only.
+use Rattle.std.specs.Prelude.{cond, ℕ, eqb}
+use Rattle.position_further.specs.declared.Passant.{Passant}
+use Rattle.position_further.specs.declared.Passant.TheVariants.{Nowhere, On}
+use Rattle.position.specs.declared.State.{State}
+use Rattle.abi_states.specs.declared.State.{State as Stated}
+
+-- 255, which no square has, where there is no en passant square
+abbrev pub passant_from : ℕ → Passant
+passant_from n = cond (eqb n 255) Nowhere (On n)
+
+abbrev pub passant_number : Passant → ℕ
+passant_number Nowhere = 255
+passant_number (On s) = s
+
+-- the state that a record says
+unfoldable pub state_taken : Stated → State
+state_taken r = record {
+  side = r.side;
+  rights = record {
+    white_short = r.white_short;
+    white_long = r.white_long;
+    black_short = r.black_short;
+    black_long = r.black_long;
+  };
+  passant = passant_from r.passant;
+  halfmoves = r.halfmoves;
+  moves = r.moves;
+}
+
+-- the record of a state
+abbrev pub state_told : State → Stated
+state_told s = record {
+  side = s.side;
+  white_short = s.rights.white_short;
+  white_long = s.rights.white_long;
+  black_short = s.rights.black_short;
+  black_long = s.rights.black_long;
+  passant = passant_number s.passant;
+  halfmoves = s.halfmoves;
+  moves = s.moves;
+}

@@ -1,0 +1,2 @@
+// The sum over a whole collection, however it is cut into calls. No code.
+#![tactic(auto)]

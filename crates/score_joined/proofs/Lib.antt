@@ -1,0 +1,5 @@
+pub mod Differences
+pub mod Counts
+pub mod Determined
+pub mod Parts
+pub mod Examples

@@ -1,0 +1,4 @@
+pub mod Answered
+pub mod Whole
+pub mod Examples
+pub mod Determined

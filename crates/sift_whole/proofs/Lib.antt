@@ -1,0 +1,4 @@
+pub mod Machine
+pub mod Cut
+pub mod Samples
+pub mod Examples

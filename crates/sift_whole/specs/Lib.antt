@@ -1,0 +1,2 @@
+pub mod Sifted
+pub mod Calls

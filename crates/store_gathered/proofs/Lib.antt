@@ -1,0 +1,4 @@
+pub mod Pieces
+pub mod Read
+pub mod Gathered
+pub mod Examples

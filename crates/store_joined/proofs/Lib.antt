@@ -1,0 +1,9 @@
+pub mod Added
+pub mod Doors
+pub mod Determined
+pub mod Pieces
+pub mod Firsts
+pub mod Read
+pub mod Counted
+pub mod Parts
+pub mod Examples

@@ -1,0 +1,3 @@
+pub mod Summaries
+pub mod Promises
+pub mod Parts

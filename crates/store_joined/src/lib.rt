@@ -1,0 +1,47 @@
+// The summaries of two stores put together: the summary of one store with the other behind it.
+#![tactic(auto)]
+
+ghost use Rattle.std.specs.Prelude.{◌≡◌, length};
+ghost use Rattle.store_joined.specs.Summaries.{summary_of_both};
+ghost use Rattle.store_joined.specs.Promises.{JoinsSummaries};
+
+use refusal::Refusal;
+use store_counts::{RECORDS, SUMMARY};
+use store_record::Stored;
+
+// As many records as a summary counts.
+const MOST: u64 = 10_000_000;
+
+// Each sum of both. Sums wrap.
+fn add(summary: &mut [u64], more: &[u64])
+    requires { (length summary.old ≡ 770) × (length more.now ≡ 770) }
+    ensures { summary.new ≡ summary_of_both summary.old more.now }
+{
+    let mut place: usize = 0;
+    while place < SUMMARY {
+        summary[place] = std::num::wrapping_add_u64(summary[place], more[place]);
+        place += 1;
+    }
+}
+
+// The summary of another store added: SHAPE, MANY.
+pub fn join(summary: &mut [u64], more: &[u64]) -> Stored
+    ensures { JoinsSummaries summary.old more.now result summary.new }
+{
+    if summary.len() != SUMMARY {
+        return Stored::Refused(Refusal::Shape);
+    }
+    if more.len() != SUMMARY {
+        return Stored::Refused(Refusal::Shape);
+    }
+    let records = summary[RECORDS];
+    let added = more[RECORDS];
+    if MOST < records {
+        return Stored::Refused(Refusal::Many);
+    }
+    if MOST - records < added {
+        return Stored::Refused(Refusal::Many);
+    }
+    add(summary, more);
+    Stored::Done
+}

@@ -150,6 +150,18 @@ function read_allowed(    line, at, word) {
     close(allowed_file)
 }
 
+# ---- what is kept: laws that the prover once cited and now finds without, `CRATE/NAME` on a line of its own
+
+function read_kept(    line) {
+    while ((getline line < kept_file) > 0) {
+        if (line ~ /^[ \t]*(#|$)/) continue
+        if (line !~ /^[a-z0-9_]+\/[^ \t]+$/) bad_line(line, "is no `CRATE/NAME`")
+        else if (("uncited", line) in allowed) bad_line(line, "stands twice")
+        else { allowed["uncited", line] = line; allowed_list[++allowed_count] = "uncited" SUBSEP line }
+    }
+    close(kept_file)
+}
+
 function bad_line(line, text) { print "names: \"" line "\" " text; all_findings++ }
 
 function find_stale(    i) {
@@ -228,6 +240,7 @@ BEGIN {
     read_crates()
     read_docs()
     read_allowed()
+    read_kept()
 }
 
 {

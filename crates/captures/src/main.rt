@@ -30,10 +30,15 @@ enum Turn {
 
 fn main(rt: HostRuntime) {
     let mut chunk = [0u8; CHUNK];
-    let mut out = [0u8; OUT];
+    let mut out = room();
     if write_asked(&rt, &mut chunk, &mut out) {
         stream_io::say_whole(&rt, rt.stdout(), rt.stderr(), b"captures: standard output");
     }
+}
+
+// The room for the rows of one read.
+fn room() -> [u8; OUT] {
+    [0u8; OUT]
 }
 
 // What the arguments ask for: whether all of it is written.

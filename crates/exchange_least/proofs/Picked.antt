@@ -3,8 +3,9 @@ use mathlib.Core.Path.{◌≡◌, refl, sym, ap, ◌∙◌, subst}
 use mathlib.Core.Logic.{◌⊎◌, inl, inr, ⊎_elim}
 use mathlib.Core.Bool.{Bool, true, false, cond, ◌&&◌}
 use mathlib.Core.List.{List, [], ◌∷◌}
-use Prim.Native.Nat.{ℕ, suc, ◌^◌, ◌<◌}
+use Prim.Native.Nat.{ℕ, suc, ◌+◌, ◌^◌, ◌<◌}
 use native.Mathlib.Nat.{lt_of_le_of_lt}
+use native.Mathlib.Numerals.{add-one}
 use native.Mathlib.Omega.{arith}
 use lib.Bits.{bit_and, and_lt, and_le_l}
 use lib.Dec.{T, eqb}
@@ -30,14 +31,29 @@ three bbs kind colour attacks occ b ha ho e =
     is_those (bit_and (bit_and attacks occ) b) (λ k. has attacks k && has occ k && has (standing bbs kind colour) k)
     (lt_of_le_of_lt (and_le_l (bit_and attacks occ) b) (and_lt 64 attacks occ ha ho)) (λ k h. rw e (simp has_and))
 
--- ---- the kinds from the last to the first
-from_here : (kinds bbs : List ℕ) (colour attacks occ i : ℕ) → i < length kinds
-    → least_of (drop i kinds) bbs colour attacks occ
-    ≡ cond (eqb (still_there bbs (get_or kinds i 0) colour attacks occ) 0) (least_of (drop (suc i) kinds) bbs colour attacks occ)
-    (attacker (lowest_of (still_there bbs (get_or kinds i 0) colour attacks occ)) (get_or kinds i 0))
-unfolding least_of
-from_here kinds bbs colour attacks occ i h = rw (drop-cons kinds i 0 h) refl
+-- ---- one kind after the other
+module _ (kinds bbs : List ℕ) (colour attacks occ i : ℕ) (h : i < length kinds) where
+  abbrev there : ℕ
+  there = still_there bbs (get_or kinds i 0) colour attacks occ
 
+  from_here : least_of (drop i kinds) bbs colour attacks occ
+      ≡ cond (eqb there 0) (least_of (drop (suc i) kinds) bbs colour attacks occ) (attacker (lowest_of there) (get_or kinds i 0))
+  unfolding least_of
+  from_here = rw (drop-cons kinds i 0 h) refl
+
+  -- none of the kind at i: the kinds after it are asked
+  pub passed : there ≡ 0 → least_of (drop i kinds) bbs colour attacks occ ≡ least_of (drop (i + 1) kinds) bbs colour attacks occ
+  passed e = rw (from_here, eq-eqb there 0 e, add-one) refl
+
+  -- some of the kind at i: the lowest
+  pub found : (there ≡ 0 → ⊥) → least_of (drop i kinds) bbs colour attacks occ ≡ attacker (lowest_of there) (get_or kinds i 0)
+  found e = rw (from_here, ne_eqb there 0 e) refl
+
+pub none_left : (kinds bbs : List ℕ) (colour attacks occ i : ℕ) → drop i kinds ≡ [] → least_of (drop i kinds) bbs colour attacks occ ≡ nobody
+unfolding least_of
+none_left kinds bbs colour attacks occ i e = rw e refl
+
+-- ---- the kinds from the last to the first
 one_before : (there kind : ℕ) (later : Found) (who : Attacker) → who_of later ≡ who
     → who_of (found_before there kind later) ≡ cond (eqb there 0) who (attacker (lowest_of there) kind)
 one_before there kind later who e = go (eqb there 0) refl

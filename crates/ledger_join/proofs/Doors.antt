@@ -58,10 +58,12 @@ module _ (s : Joining) (chunk : List ℕ) (room : ℕ) (e : is_ample s (length c
         lt-ltb (s.loaded + s.refused + ends chunk) (2 ^ 64) (omega (arith, ends_le chunk)),
       )
 
+  pub ample_room : ends chunk ≤ room / 64
+  ample_room = let h = leb-true (length chunk) (room / 64) (and_left (leb (length chunk) (room / 64)) (counts_fit s (length chunk)) e) in
+      omega (arith, ends_le chunk)
+
   pub ample_takes : I.Takes ≡ fit_of s chunk room
-  ample_takes =
-      let h = leb-true (length chunk) (room / 64) (and_left (leb (length chunk) (room / 64)) (counts_fit s (length chunk)) e) in
-      rw (ample_fit, le-leb (ends chunk) (room / 64) (omega (arith, ends_le chunk)))
+  ample_takes = rw (ample_fit, le-leb (ends chunk) (room / 64) ample_room)
 
 module _ (s : Joining) (chunk : List ℕ) (room : ℕ) where
   pub fit_many : counts_fit s (ends chunk) ≡ false → I.Many ≡ fit_of s chunk room

@@ -47,7 +47,7 @@ sources_of() { # CRATE..
 made_of() { # CRATE: one checksum of the toolchain's id, the lines of crates.txt, the sources, and the files that `beside` names
     lines=$(crates_of "$1")
     {
-        "$rt" version
+        "$rt" version </dev/null
         echo "$machine"
         printf '%s\n' "$lines"
         # shellcheck disable=SC2046

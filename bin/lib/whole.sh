@@ -1,6 +1,6 @@
 # Runs a program and says whether its output is whole: for bin/run, and for bin/lib/run-installed, which takes its place where programs are installed.
 #
-# A program has no status of its own. Once its last row is written it writes `whole` and a line feed to descriptor 3, a pipe to this script.
+# A program gives no status of its own. Once its last row is written it writes `whole` and a line feed to descriptor 3, a pipe to this script.
 
 # The program is killed when its shell is, and that shell when this script is, however that happens. What it says on descriptor 3 and how
 # it ended come back by pipe, so no disk has to have room for it. A standard output that is closed is closed for the program too.

@@ -16,7 +16,7 @@ use std::io::{Cursor, Error, ErrorKind, Read, Result, Stderr, Stdout, Write};
 use std::os::fd::AsFd;
 use std::rt::{Env, Files};
 
-// Where a program says that all it had to write is written: a pipe of who started it. A status of its own it has none.
+// Where a program says that all it had to write is written: a pipe of who started it. A status of its own it gives none.
 const STATUS: i32 = 3;
 
 // So often it is said again where a signal breaks the call off: nobody may listen there.
@@ -25,7 +25,9 @@ const TIMES: u32 = 64;
 // Standard output by its name, for what only a file can be asked.
 const OUTPUT: &str = "/proc/self/fd/1";
 
-// The numbers that the system gives: there is no such argument, the name is too long, the name is no text.
+// The numbers that the system gives: there is no such descriptor, there is no such argument, the name is too long, the name is no text.
+const EBADF: i32 = 9;
+
 const EINVAL: i32 = 22;
 
 const ENAMETOOLONG: i32 = 36;
@@ -338,26 +340,38 @@ pub fn say_whole<R: Files>(rt: &R, output: Stdout, errors: Stderr, what: &[u8]) 
     }
 }
 
-// Whether what was written is kept, and the output still open. std tells of no close that fails, so a file is asked before.
+// Whether output is still open, and what was written is kept. std tells of no close that fails, so a file is asked before.
 fn settle<R: Files>(rt: &R, output: Stdout) -> Result<()> {
-    keep(rt)?;
-    output.as_fd().try_clone_to_owned()?;
-    Ok(())
+    is_open(output)?;
+    keep(rt)
 }
 
-// A pipe and a terminal keep nothing; and what can't be opened a second time, or knows no such call, can't be asked.
+// Only one error says that it is not; that there is no room for a second descriptor says nothing of the first.
+fn is_open(output: Stdout) -> Result<()> {
+    match output.as_fd().try_clone_to_owned() {
+        Err(error) if error.raw_os_error() == Some(EBADF) => Err(error),
+        _ => Ok(()),
+    }
+}
+
+// A pipe and a terminal keep nothing. What can't be opened a second time can't be asked, and is not said to be whole; a file that knows no
+// such call keeps what it was given.
 fn keep<R: Files>(rt: &R) -> Result<()> {
-    let Ok(known) = fs::metadata(rt, OUTPUT) else {
-        return Ok(());
-    };
+    let known = fs::metadata(rt, OUTPUT)?;
     if !known.is_file() {
         return Ok(());
     }
-    let Ok(file) = OpenOptions::new().append(true).open(rt, OUTPUT) else {
-        return Ok(());
-    };
+    let file = again(rt)?;
     match file.sync_data() {
         Err(error) if error.kind() != ErrorKind::InvalidInput => Err(error),
         _ => Ok(()),
+    }
+}
+
+// To write, or where only reading is allowed, to read: asking needs neither.
+fn again<R: Files>(rt: &R) -> Result<R::File> {
+    match OpenOptions::new().append(true).open(rt, OUTPUT) {
+        Ok(file) => Ok(file),
+        Err(_) => fs::open(rt, OUTPUT),
     }
 }

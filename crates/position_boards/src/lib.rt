@@ -28,12 +28,9 @@ fn shared(bitboards: &[u64]) -> u64
 {
     let mut once: u64 = 0;
     let mut twice: u64 = 0;
-    let mut n: usize = 0;
-    while n < Piece::COUNT {
-        let b = bitboards[PIECES + n];
+    for &b in &bitboards[PIECES..Piece::BOARDS] {
         twice = once & b | twice;
         once = b | once;
-        n += 1;
     }
     twice
 }
@@ -44,10 +41,8 @@ fn unite(bitboards: &[u64], color: usize) -> u64
     ensures { result ≡ colour_squares bitboards.now color }
 {
     let mut all: u64 = 0;
-    let mut n: usize = 0;
-    while n < Kind::COUNT {
+    for n in 0..Kind::COUNT {
         all = bitboards[PIECES + Color::COUNT * n + color] | all;
-        n += 1;
     }
     all
 }
@@ -99,11 +94,7 @@ fn boards_of(squares: &[u64; PLACES]) -> [u64; Piece::BOARDS]
     let mut boards: [u64; Piece::BOARDS] = [0; Piece::BOARDS];
     boards[WHITE_BOARD] = unite(squares, WHITE_BOARD);
     boards[BLACK_BOARD] = unite(squares, BLACK_BOARD);
-    let mut code: usize = PIECES;
-    while code < Piece::BOARDS {
-        boards[code] = squares[code];
-        code += 1;
-    }
+    boards[PIECES..].copy_from_slice(&squares[PIECES..Piece::BOARDS]);
     boards
 }
 

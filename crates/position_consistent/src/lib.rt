@@ -29,11 +29,8 @@ fn plane(bitboards: &[u64], digit: usize) -> u64
     ensures { result ≡ plane_of bitboards.now digit }
 {
     let mut all: u64 = 0;
-    let mut n: usize = 0;
-    while n < Piece::COUNT {
-        let code = PIECES + n;
+    for code in PIECES..Piece::BOARDS {
         all = chosen(bitboards[code], code, digit) | all;
-        n += 1;
     }
     all
 }
@@ -72,11 +69,9 @@ fn file_amiss(codes: u64, board: &[u8], file: usize) -> u8
     ensures { eqb result 0 ≡ file_right board.now codes file }
 {
     let mut amiss: u8 = 0;
-    let mut rank: usize = 0;
-    while rank < RANKS {
+    for rank in 0..RANKS {
         let code = code_at(codes, rank);
         amiss = board[FILES * rank + file] ^ code | amiss;
-        rank += 1;
     }
     amiss
 }
@@ -87,11 +82,9 @@ fn bytes_amiss(board: &[u8], ones: u64, twos: u64, fours: u64, eights: u64) -> u
     ensures { eqb result 0 ≡ files_right board.now ones twos fours eights }
 {
     let mut amiss: u8 = 0;
-    let mut file: usize = 0;
-    while file < FILES {
+    for file in 0..FILES {
         let codes = file_codes(ones, twos, fours, eights, file);
         amiss = file_amiss(codes, board, file) | amiss;
-        file += 1;
     }
     amiss
 }

@@ -24,10 +24,8 @@ fn occupied(bitboards: &[u64]) -> u64
     ensures { result ≡ shared_by bitboards.now 1 }
 {
     let mut once: u64 = 0;
-    let mut n: usize = 0;
-    while n < Piece::COUNT {
-        once = bitboards[PIECES + n] | once;
-        n += 1;
+    for &b in &bitboards[PIECES..Piece::BOARDS] {
+        once = b | once;
     }
     once
 }
@@ -55,14 +53,12 @@ fn lowest_byte(bitboards: &[u64], board: &[u8]) -> u8
     ensures { result ≡ lowest_wrong (agrees bitboards.now board.now) }
 {
     let pieces = occupied(bitboards);
-    let mut k: usize = 0;
-    while k < Square::COUNT {
-        if !byte_right(bitboards, pieces, board[k], k) {
+    for (k, &byte) in board.iter().enumerate() {
+        if !byte_right(bitboards, pieces, byte, k) {
             return k as u8;
         }
-        k += 1;
     }
-    k as u8
+    Square::COUNT as u8
 }
 
 // The lowest square; 64 where there is none.

@@ -34,10 +34,8 @@ fn word(board: &[u8; Square::COUNT], rank: usize) -> u64
     ensures { (result ≡ rank_word board.now rank) × Row board.now rank 8 }
 {
     let mut word: u64 = 0;
-    let mut file: usize = 0;
-    while file < FILES {
+    for file in 0..FILES {
         word |= wide(board[FILES * rank + file]) << (FILES * file);
-        file += 1;
     }
     word
 }
@@ -88,15 +86,12 @@ fn sliced(words: &[u64; RANKS]) -> Digits
     let mut c: u64 = 0;
     let mut d: u64 = 0;
     let mut all: u64 = 0;
-    let mut rank: usize = 0;
-    while rank < RANKS {
-        let word = words[rank];
+    for (rank, &word) in words.iter().enumerate() {
         a |= gathered(word, 0) << (FILES * rank);
         b |= gathered(word, 1) << (FILES * rank);
         c |= gathered(word, 2) << (FILES * rank);
         d |= gathered(word, 3) << (FILES * rank);
         all |= word;
-        rank += 1;
     }
     Digits { a, b, c, d, all }
 }
@@ -113,10 +108,8 @@ fn beyond(board: &[u8; Square::COUNT]) -> u64
     ensures { result ≡ beyond_of board.now }
 {
     let mut plane: u64 = 0;
-    let mut rank: usize = 0;
-    while rank < RANKS {
+    for rank in 0..RANKS {
         plane |= gathered(high(word(board, rank)), 4) << (FILES * rank);
-        rank += 1;
     }
     plane
 }

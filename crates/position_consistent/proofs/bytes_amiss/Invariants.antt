@@ -1,7 +1,7 @@
 use mathlib.Core.Path.{◌≡◌}
 use mathlib.Core.Bool.{Bool}
 use mathlib.Core.List.{List}
-use Prim.Native.Nat.{ℕ, ◌≤◌, ◌-◌}
+use Prim.Native.Nat.{ℕ}
 use lib.Dec.{eqb}
 use Rattle.laws.specs.Tests.{all_below}
 use Rattle.position_consistent.specs.PrivateTested.{file_codes, file_right}
@@ -11,7 +11,4 @@ abbrev pub right-on : List ℕ → ℕ → ℕ → ℕ → ℕ → ℕ → Bool
 right-on board ones twos fours eights file = file_right board (file_codes ones twos fours eights file) file
 
 abbrev pub invariant-loop-file : goal.invariant-loop-file
-invariant-loop-file l = (l.file ≤ 8) × (eqb l.amiss 0 ≡ all_below l.file (right-on l.board l.ones l.twos l.fours l.eights))
-
-abbrev pub decreases-loop-file : goal.decreases-loop-file
-decreases-loop-file l = 8 - l.file
+invariant-loop-file l = eqb l.amiss 0 ≡ all_below l.file (right-on l.board l.ones l.twos l.fours l.eights)

@@ -177,11 +177,10 @@ fn follow(
     squares[0] = from;
     by[0] = first;
     taken[0] = value;
-    let mut n: usize = 1;
     let mut last = begun.last;
     let mut there = begun.there;
     let mut color = other(side);
-    while n < MOST {
+    for n in 1..MOST {
         let a = capturer(bitboards, kinds, color, to, there);
         let Attacker::At(square, kind) = a else {
             return Listed {
@@ -195,7 +194,6 @@ fn follow(
         squares[n] = square;
         by[n] = kind;
         taken[n] = made.taken;
-        n += 1;
         last = made.last;
         there = made.there;
         color = made.color;
@@ -204,7 +202,7 @@ fn follow(
         from: squares,
         kind: by,
         taken,
-        count: n,
+        count: MOST,
     }
 }
 

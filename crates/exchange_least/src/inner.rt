@@ -43,9 +43,7 @@ pub fn pick(bitboards: &[u64], kinds: &[u8], color: u8, attacks: u64, occupied: 
     ensures { Picks kinds.now bitboards.now color attacks occupied result }
 {
     let mut found = Found { there: 0, kind: 0 };
-    let mut i = kinds.len();
-    while 0 < i {
-        i -= 1;
+    for i in (0..kinds.len()).rev() {
         let kind = kinds[i];
         let there = still_there(bitboards, kind, color, attacks, occupied);
         found = before(there, kind, found);

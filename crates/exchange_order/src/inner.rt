@@ -28,10 +28,8 @@ pub fn each_once(order: &[u8; Kind::COUNT]) -> bool
     ensures { EachOnce order.now result }
 {
     let mut counts: u32 = 0;
-    let mut i: usize = 0;
-    while i < Kind::COUNT {
-        counts += unit(order[i]);
-        i += 1;
+    for &kind in order {
+        counts += unit(kind);
     }
     counts == ONE_EACH
 }

@@ -28,9 +28,7 @@ pub fn settle(values: &[u16]) -> i32
     }
     // What the captures from k on are worth if the first of them is made only where that pays.
     let mut next: u32 = 0;
-    let mut k = values.len();
-    while 1 < k {
-        k -= 1;
+    for k in (1..values.len()).rev() {
         next = less(values[k] as u32, next);
     }
     (values[0] as i32) - (next as i32)
@@ -55,9 +53,7 @@ pub fn stop(values: &[u16]) -> Stopped
     }
     let mut pays: u32 = 0;
     let mut found: usize = 0;
-    let mut k = values.len();
-    while 1 < k {
-        k -= 1;
+    for k in (1..values.len()).rev() {
         pays = less(values[k] as u32, pays);
         found = earlier(pays, k, found);
     }

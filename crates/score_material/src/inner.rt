@@ -28,11 +28,9 @@ pub fn material(bitboards: &[u64], color: u8) -> u32
     ensures { SideWorth bitboards.now color result }
 {
     let mut sum: u32 = 0;
-    let mut kind: u8 = 0;
-    while kind < KINDS {
+    for kind in 0..KINDS {
         let n = number(bitboards, kind, color);
         sum += value(n, kind);
-        kind += 1;
     }
     sum
 }

@@ -1,5 +1,6 @@
 -- `exchange::inner::follow` meets its contract. The loop's invariant: the first n captures stand in the arrays, zeros after them, and those to come
--- are the ones that the definition has from here on. The measure is the room that is left. Assumes nothing.
+-- are the ones that the definition has from here on. Assumes nothing.
+use mathlib.Core.Path.{◌≡◌}
 use native.Mathlib.Omega.{arith}
 use Rattle.exchange.proofs.Listing.{listing_first, listing_more, listing_stops, listing_full, by_other}
 use Rattle.exchange.proofs.inner.follow.Goals as goal
@@ -25,5 +26,6 @@ loop-n-preserved c =
 pub returns : goal.returns
 returns c =
     let a = c.args in
-    by_other a.mode a.kinds.now a.bitboards.now a.to a.side a.from a.begun c.other-color.ensures
-    (listing_full a.mode a.kinds.now a.bitboards.now a.to c.loop-n.invariant (omega arith))
+    let e : c.loop-n.n ≡ 32 = omega arith in
+    rw e at (by_other a.mode a.kinds.now a.bitboards.now a.to a.side a.from a.begun c.other-color.ensures
+    (listing_full a.mode a.kinds.now a.bitboards.now a.to c.loop-n.invariant (omega arith)))

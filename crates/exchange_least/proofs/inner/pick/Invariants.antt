@@ -1,13 +1,9 @@
 use mathlib.Core.Path.{◌≡◌}
-use Prim.Native.Nat.{◌^◌, ◌≤◌, ◌<◌}
-use lib.ListN.{length, drop}
+use Prim.Native.Nat.{◌^◌, ◌<◌}
+use lib.ListN.{drop}
 use Rattle.exchange_least.specs.Least.{least_of}
 use Rattle.exchange_least.specs.PrivateFound.{who_of}
 use Rattle.exchange_least.proofs.inner.pick.Given as goal
 
 abbrev pub invariant-loop-i : goal.invariant-loop-i
-invariant-loop-i l =
-    (l.i ≤ length l.kinds) × (l.found.there < 2 ^ 64) × (who_of l.found ≡ least_of (drop l.i l.kinds) l.bitboards l.color l.attacks l.occupied)
-
-abbrev pub decreases-loop-i : goal.decreases-loop-i
-decreases-loop-i l = l.i
+invariant-loop-i l = (l.found.there < 2 ^ 64) × (who_of l.found ≡ least_of (drop l.i l.kinds) l.bitboards l.color l.attacks l.occupied)

@@ -11,16 +11,15 @@ pub returns-then-values-eq0 : goal.returns-then-values-eq0
 returns-then-values-eq0 c = settled_none c.args.values.now c.if-values-eq0.true
 
 pub loop-k-init : goal.loop-k-init
-loop-k-init c = (omega arith, omega arith, no_gain c.args.values.now, omega arith)
+loop-k-init c = (omega arith, no_gain c.args.values.now, omega arith)
 
 pub loop-k-preserved : goal.loop-k-preserved
 loop-k-preserved c =
     let l = c.loop-k in
     let values = c.args.values.now in
-    let f = c.shared_slice_known-in-loop-k-1.given (l.k - 1) in (
+    let f = c.type_inv.values (l.k - 1) in (
       omega arith,
-      omega arith,
-      c.less-next.ensures ∙ back values l.k l.invariant.0 l.invariant.1 _ l.next refl l.invariant.2,
+      c.less-next.ensures ∙ back values l.k l.invariant.0 l.auto.k _ l.next refl l.invariant.1,
       omega (arith, c.less-next.ensures, f),
     )
 
@@ -28,6 +27,6 @@ pub returns : goal.returns
 returns c =
     let l = c.loop-k in
     let values = c.args.values.now in
-    let f = c.shared_slice_known-2-1.given 0 in
+    let f = c.type_inv.values 0 in
     let e : l.k ≡ 1 = omega arith in
-    whole values (get_or values 0 0) l.next (omega arith) (omega (arith, f)) l.invariant.3 refl (l.invariant.2 ∙ ap (gain values) e)
+    whole values (get_or values 0 0) l.next (omega arith) (omega (arith, f)) l.invariant.2 refl (l.invariant.1 ∙ ap (gain values) e)

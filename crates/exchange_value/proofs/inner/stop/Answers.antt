@@ -13,19 +13,18 @@ pub returns-then-values-eq0 : goal.returns-then-values-eq0
 returns-then-values-eq0 c = stop_none c.args.values.now c.if-values-eq0.true
 
 pub loop-k-init : goal.loop-k-init
-loop-k-init c = let values = c.args.values.now in (omega arith, omega arith, no_gain values, omega arith, none_found values)
+loop-k-init c = let values = c.args.values.now in (omega arith, no_gain values, omega arith, none_found values)
 
 pub loop-k-preserved : goal.loop-k-preserved
 loop-k-preserved c =
     let l = c.loop-k in
     let values = c.args.values.now in
-    let f = c.shared_slice_known-in-loop-k-1.given (l.k - 1) in
-    let e = c.less-pays.ensures ∙ back values l.k l.invariant.0 l.invariant.1 _ l.pays refl l.invariant.2 in (
-      omega arith,
+    let f = c.type_inv.values (l.k - 1) in
+    let e = c.less-pays.ensures ∙ back values l.k l.invariant.0 l.auto.k _ l.pays refl l.invariant.1 in (
       omega arith,
       e,
       omega (arith, c.less-pays.ensures, f),
-      c.earlier-found.ensures ∙ found_back values l.k l.invariant.0 l.invariant.1 _ l.found e l.invariant.4,
+      c.earlier-found.ensures ∙ found_back values l.k l.invariant.0 l.auto.k _ l.found e l.invariant.3,
     )
 
 pub returns-then-found-eq0 : goal.returns-then-found-eq0
@@ -33,11 +32,11 @@ returns-then-found-eq0 c =
     let l = c.loop-k in
     let values = c.args.values.now in
     let e : l.k ≡ 1 = omega arith in
-    stop_out values l.found (omega arith) (l.invariant.4 ∙ ap (Earliest.found values) e) c.if-found-eq0.true
+    stop_out values l.found (omega arith) (l.invariant.3 ∙ ap (Earliest.found values) e) c.if-found-eq0.true
 
 pub returns : goal.returns
 returns c =
     let l = c.loop-k in
     let values = c.args.values.now in
     let e : l.k ≡ 1 = omega arith in
-    stop_at values l.found (omega arith) (l.invariant.4 ∙ ap (Earliest.found values) e) c.if-found-eq0.false
+    stop_at values l.found (omega arith) (l.invariant.3 ∙ ap (Earliest.found values) e) c.if-found-eq0.false

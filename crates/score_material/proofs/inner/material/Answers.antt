@@ -10,7 +10,7 @@ use Rattle.score_material.proofs.Pieces.{count_le, worth_of_holds}
 use Rattle.score_material.proofs.inner.material.Goals as goal
 
 pub loop-kind-init : goal.loop-kind-init
-loop-kind-init c = let a = c.args in (omega arith, sym (sum_none (λ k. count a.bitboards.now k a.color * value_of k)), omega arith)
+loop-kind-init c = let a = c.args in (sym (sum_none (λ k. count a.bitboards.now k a.color * value_of k)), omega arith)
 
 pub value-sum-requires : goal.value-sum-requires
 value-sum-requires c =
@@ -22,9 +22,8 @@ loop-kind-preserved c =
     let l = c.loop-kind in
     let a = c.args in
     let f : ℕ → ℕ = λ k. count a.bitboards.now k a.color * value_of k in (
-      omega arith,
-      ap₂ ◌+◌ l.invariant.1 (c.value-sum.ensures.0 ∙ ap (λ (n : ℕ). n * value_of l.kind) c.number-n.ensures) ∙ sym (sum_more f l.kind),
-      omega (arith, c.value-sum.ensures.1, l.invariant.2),
+      ap₂ ◌+◌ l.invariant.0 (c.value-sum.ensures.0 ∙ ap (λ (n : ℕ). n * value_of l.kind) c.number-n.ensures) ∙ sym (sum_more f l.kind),
+      omega (arith, c.value-sum.ensures.1, l.invariant.1),
     )
 
 pub returns : goal.returns
@@ -32,4 +31,4 @@ returns c =
     let l = c.loop-kind in
     let a = c.args in
     let e : l.kind ≡ 6 = omega arith in
-    l.invariant.1 ∙ ap (λ (k : ℕ). sum_n k (λ j. count a.bitboards.now j a.color * value_of j)) e ∙ worth_of_holds a.bitboards.now a.color
+    l.invariant.0 ∙ ap (λ (k : ℕ). sum_n k (λ j. count a.bitboards.now j a.color * value_of j)) e ∙ worth_of_holds a.bitboards.now a.color

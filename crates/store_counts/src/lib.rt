@@ -74,10 +74,8 @@ fn move_by(summary: &mut [u64], bytes: &[u8], once: u64, points: u64)
     requires { Sized summary.old bytes.now }
     ensures { summary.new ≡ summary_moved summary.old once points bytes.now }
 {
-    let mut k: usize = 0;
-    while k < Square::COUNT {
+    for k in 0..Square::COUNT {
         mark(summary, code_on(bytes, k), k, once);
-        k += 1;
     }
     summary[RECORDS] = sum(summary[RECORDS], once);
     summary[POINTS] = sum(summary[POINTS], points);

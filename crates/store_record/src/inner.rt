@@ -44,12 +44,10 @@ fn unpack(piece: &[u8]) -> [u8; Square::COUNT]
     ensures { result ≡ board_in piece.now }
 {
     let mut board = [Piece::EMPTY; Square::COUNT];
-    let mut i: usize = 0;
-    while i < SIDE {
+    for i in 0..SIDE {
         let pair = piece[i];
         board[2 * i] = pair % 16;
         board[2 * i + 1] = pair / 16 % 16;
-        i += 1;
     }
     board
 }
@@ -71,14 +69,12 @@ fn is_byte(byte: u8) -> bool
 fn lowest_stray(board: &[u8; Square::COUNT]) -> u8
     ensures { result ≡ lowest_wrong (is_code board.now) }
 {
-    let mut k: usize = 0;
-    while k < Square::COUNT {
-        if !is_byte(board[k]) {
+    for (k, &byte) in board.iter().enumerate() {
+        if !is_byte(byte) {
             return k as u8;
         }
-        k += 1;
     }
-    k as u8
+    Square::COUNT as u8
 }
 
 // LENGTH, CODE, SIDE, RESULT. The square of CODE is looked for only where the bitboards tell that there is one.
@@ -144,10 +140,8 @@ pub fn pack(board: &[u8], side: u8, half: u8) -> [u8; RECORD]
     ensures { Packs board.now side half result }
 {
     let mut record = [0u8; RECORD];
-    let mut i: usize = 0;
-    while i < SIDE {
+    for i in 0..SIDE {
         record[i] = pair(at(board, 2 * i), at(board, 2 * i + 1));
-        i += 1;
     }
     record[SIDE] = side;
     record[HALF] = half;

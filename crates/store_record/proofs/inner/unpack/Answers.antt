@@ -6,12 +6,12 @@ use Rattle.store_record.proofs.inner.unpack.Goals as goal
 
 pub loop-i-init : goal.loop-i-init
 unfolding tabulate
-loop-i-init c = (omega arith, squares_none c.args.piece.now)
+loop-i-init c = squares_none c.args.piece.now
 
 pub loop-i-preserved : goal.loop-i-preserved
 loop-i-preserved c =
     let l = c.loop-i in
-    (omega arith, squares_more c.args.piece.now l.board l.i l.invariant.1 (omega arith))
+    squares_more c.args.piece.now l.board l.i l.invariant (omega arith)
 
 pub returns : goal.returns
-returns c = let l = c.loop-i in squares_all c.args.piece.now l.board l.i (omega arith) l.invariant.1
+returns c = let l = c.loop-i in squares_all c.args.piece.now l.board l.i (omega arith) l.invariant

@@ -17,10 +17,8 @@ fn add(summary: &mut [u64], more: &[u64])
     requires { (length summary.old ≡ 770) × (length more.now ≡ 770) }
     ensures { summary.new ≡ summary_of_both summary.old more.now }
 {
-    let mut place: usize = 0;
-    while place < SUMMARY {
+    for place in 0..SUMMARY {
         summary[place] = std::num::wrapping_add_u64(summary[place], more[place]);
-        place += 1;
     }
 }
 

@@ -40,12 +40,10 @@ fn add_up(summary: &[u64], piece: usize) -> Sums
 {
     let mut total: u64 = 0;
     let mut most: u64 = 0;
-    let mut square = 0;
-    while square < Square::COUNT {
+    for square in 0..Square::COUNT {
         let n = count_on(summary, piece, square);
         total = std::num::wrapping_add_u64(total, n);
         most = larger(most, n);
-        square += 1;
     }
     Sums { total, most }
 }
@@ -161,11 +159,9 @@ fn squares(form: Form, summary: &[u64], piece: usize, most: u64, out: &mut [u8],
     ensures { Adds out.old at (laid 64 (squares_shown form summary.now piece most)) out.new result }
 {
     let mut end = at;
-    let mut i = 0;
-    while i < Square::COUNT {
+    for i in 0..Square::COUNT {
         let n = count_on(summary, piece, drawn(i));
         end = square(form, most, n, i, out, end);
-        i += 1;
     }
     end
 }
@@ -197,10 +193,8 @@ fn boards(form: Form, summary: &[u64], out: &mut [u8], at: usize) -> usize
     ensures { Adds out.old at (laid 12 (board_text form summary.now)) out.new result }
 {
     let mut end = at;
-    let mut piece = 0;
-    while piece < Piece::COUNT {
+    for piece in 0..Piece::COUNT {
         end = board(form, summary, piece, out, end);
-        piece += 1;
     }
     end
 }

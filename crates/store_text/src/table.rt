@@ -62,11 +62,9 @@ fn files(out: &mut [u8], at: usize, width: usize) -> usize
     ensures { Adds out.old at (laid 8 (λ file. in_column width (file_word file))) out.new result }
 {
     let mut end = at;
-    let mut file: u8 = 0;
-    while file < FILES {
+    for file in 0..FILES {
         let letter = [b'a' + file];
         end = column(out, end, &letter, width);
-        file += 1;
     }
     end
 }

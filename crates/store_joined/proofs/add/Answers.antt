@@ -7,4 +7,4 @@ pub returns : goal.returns
 returns c =
     let l = c.loop-place in
     let a = c.args in
-    all_added a.summary.now a.more.now l.place l.summary l.invariant.1 (omega arith)
+    all_added a.summary.now a.more.now l.place l.summary l.invariant (omega arith)

@@ -1,10 +1,6 @@
-use Rattle.std.proofs.Common.{◌≡◌, ◌-◌, length}
 use Rattle.store_text.specs.Table.{in_column, file_word}
 use Rattle.store_text.proofs.Laid.{Laying}
 use Rattle.store_text.proofs.table.files.Given as goal
 
 abbrev pub invariant-loop-file : goal.invariant-loop-file
-invariant-loop-file l = Laying 8 (λ k. in_column l.width (file_word k)) l.initial.out l.at l.out l.end l.file × (length l.out ≡ length l.initial.out)
-
-abbrev pub decreases-loop-file : goal.decreases-loop-file
-decreases-loop-file l = 8 - l.file
+invariant-loop-file l = Laying 8 (λ k. in_column l.width (file_word k)) l.initial.out l.at l.out l.end l.file

@@ -1,13 +1,11 @@
--- A table filled by a loop, one entry a turn: it has the entries below a bound, and 0 from there on. And a part of a list, as the table of its values.
--- Assumes nothing.
+-- A table filled by a loop, one entry a turn: it has the entries below a bound, and 0 from there on. Assumes nothing.
 use mathlib.Core.Path.{◌≡◌, refl, sym, ap, ◌∙◌}
 use mathlib.Core.Bool.{Bool, true, false, cond}
-use mathlib.Core.List.{List, [], ◌∷◌}
-use Prim.Native.Nat.{ℕ, zero, suc, ◌+◌, ◌≤◌, ◌<◌}
+use mathlib.Core.List.{List}
+use Prim.Native.Nat.{ℕ, suc, ◌≤◌, ◌<◌}
 use native.Mathlib.Omega.{arith}
 use lib.Dec.{ltb}
-use lib.ListN.{get_or, set, length, take, drop}
-use Rattle.std.proofs.lemmas.List.{get_or-drop, length-drop}
+use lib.ListN.{get_or, set}
 use borrow.Author.Tests.{lt-ltb, le-ltb, ltb-true, ltb-false}
 use Rattle.laws.specs.Tables.{tabulate}
 use Rattle.laws.proofs.Tables.{tabulate_same, tabulate_set}
@@ -37,17 +35,15 @@ module _ (size : ℕ) (f : ℕ → ℕ) where
       go b h true q = refl
       go b h false q = rest b (ltb-false b bound q) h
 
--- ---- a part of a list, as the table of its values
-pub read_off : (n : ℕ) (l : List ℕ) → n ≤ length l → take n l ≡ tabulate n (λ k. get_or l k 0)
-unfolding tabulate
-read_off zero l h = refl
-read_off (suc n) [] h = absurd (omega arith)
-read_off (suc n) (x ∷ l) h = ap (λ (t : List ℕ). x ∷ t) (read_off n l (omega arith))
+-- ---- the boards of the sorted bytes
+module _ (squares : List ℕ) where
+  abbrev pub board_by : ℕ → ℕ
+  board_by board = cond (ltb board 2) (colour_squares squares board) (get_or squares board 0)
 
--- ---- the boards of the sorted bytes: the colours', and the pieces' as they are
-pub boards_written : (squares pieces : List ℕ) (white black : ℕ) → length squares ≡ 15 → white ≡ colour_squares squares 0 → black ≡ colour_squares squares 1
-    → pieces ≡ take 12 (drop 2 squares) → white ∷ black ∷ pieces ≡ boards_by squares
-unfolding boards_by tabulate
-boards_written squares pieces white black l w b p =
-    let long : 12 ≤ length (drop 2 squares) = omega (arith, length-drop 2 squares) in
-    cc (w, b, p ∙ read_off 12 (drop 2 squares) long ∙ tabulate_same 12 (λ k. get_or (drop 2 squares) k 0) (λ k. get_or squares (2 + k) 0) (λ k h. get_or-drop 2 squares k 0))
+  pub boards_more : (code : ℕ) → 2 ≤ code → code < 14 → set (copied_to 14 board_by code) code (get_or squares code 0) ≡ copied_to 14 board_by (suc code)
+  boards_more code l h =
+      copied_more 14 board_by code (get_or squares code 0) h (sym (ap (λ (t : Bool). cond t (colour_squares squares code) (get_or squares code 0)) (le-ltb code 2 l)))
+
+  pub boards_all : (code : ℕ) → code ≡ 14 → copied_to 14 board_by code ≡ boards_by squares
+  unfolding boards_by
+  boards_all code e = ap (copied_to 14 board_by) e ∙ copied_all 14 board_by 14 (λ b l h. absurd (omega arith))

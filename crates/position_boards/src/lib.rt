@@ -94,7 +94,10 @@ fn boards_of(squares: &[u64; PLACES]) -> [u64; Piece::BOARDS]
     let mut boards: [u64; Piece::BOARDS] = [0; Piece::BOARDS];
     boards[WHITE_BOARD] = unite(squares, WHITE_BOARD);
     boards[BLACK_BOARD] = unite(squares, BLACK_BOARD);
-    boards[PIECES..].copy_from_slice(&squares[PIECES..Piece::BOARDS]);
+    // Board by board, since the library's copy would put them all in memory first.
+    for code in PIECES..Piece::BOARDS {
+        boards[code] = squares[code];
+    }
     boards
 }
 

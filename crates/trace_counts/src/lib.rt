@@ -52,10 +52,8 @@ fn all_within(numbers: &[i32], most: i32) -> bool
     ensures { result ≡ all_within most numbers.now }
 {
     let mut good = true;
-    let mut i: usize = 0;
-    while i < numbers.len() {
-        good = is_within(numbers[i], most) & good;
-        i += 1;
+    for number in numbers {
+        good = is_within(*number, most) & good;
     }
     good
 }

@@ -21,10 +21,8 @@ fn united(entries: &[i32], group: usize) -> i32
     ensures { (of_z w32 result ≡ group_of entries.now group) × Held entries.now (16 * group) 16 }
 {
     let mut union: i32 = 0;
-    let mut j: usize = 0;
-    while j < GROUP {
-        union |= entries[GROUP * group + j];
-        j += 1;
+    for entry in &entries[GROUP * group..GROUP * group + GROUP] {
+        union |= *entry;
     }
     union
 }
@@ -58,12 +56,10 @@ fn tested_groups(entries: &[i32]) -> Reading
 {
     let mut union: i32 = 0;
     let mut groups: u64 = 0;
-    let mut g: usize = 0;
-    while g < GROUPS {
+    for g in 0..GROUPS {
         let here = united(entries, g);
         union |= here;
         groups |= mark(here) << g;
-        g += 1;
     }
     Reading {
         entries: is_entry(union),
@@ -89,10 +85,8 @@ fn digits(entries: &[i32], group: usize) -> u64
     ensures { result ≡ odd_of entries.now group }
 {
     let mut digits: u64 = 0;
-    let mut j: usize = 0;
-    while j < GROUP {
+    for j in 0..GROUP {
         digits |= ((entries[GROUP * group + j] & 1) as u64) << j;
-        j += 1;
     }
     digits
 }

@@ -3,7 +3,6 @@ use mathlib.Core.Path.{◌≡◌, refl}
 use mathlib.Core.Bool.{Bool, ◌&&◌}
 use mathlib.Core.List.{List}
 use Prim.Native.Nat.{ℕ, ◌+◌}
-use native.Mathlib.Omega.{arith}
 use native.Mathlib.Numerals.{add-one}
 use lib.IntN.{ℤ, pos}
 use lib.ListN.{get_or}
@@ -23,14 +22,12 @@ more : (bound : ℤ) (zs : List ℤ) (i : ℕ) (good passed : Bool) → SFits w3
 unfolding all_below
 more bound zs i good passed f e p = rw (add-one, p, e, to_z-of_z w32 (get_or zs i (pos 0)) f)
 
-pub loop-i-init : goal.loop-i-init
+pub loop-number-init : goal.loop-number-init
 unfolding all_below
-loop-i-init c = (omega arith, refl)
+loop-number-init c = refl
 
-pub loop-i-preserved : goal.loop-i-preserved
-loop-i-preserved c =
-    let f : SFits w32 (get_or c.args.numbers.now c.loop-i.i (pos 0)) = search rules in (
-      omega arith,
-      more (held w32 c.args.most) c.args.numbers.now c.loop-i.i c.loop-i.good c.is_within-good.result f
-          c.loop-i.invariant.1 c.is_within-good.ensures,
-    )
+pub loop-number-preserved : goal.loop-number-preserved
+loop-number-preserved c =
+    let l = c.loop-number in
+    let f : SFits w32 (get_or c.args.numbers.now l.number-index (pos 0)) = search rules in
+    more (held w32 c.args.most) c.args.numbers.now l.number-index l.good c.is_within-good.result f l.invariant c.is_within-good.ensures

@@ -32,10 +32,10 @@ odd : (n : ℕ) → nat_abs (to_z w32 (last n)) ≡ n % 2
 odd n = (last-low n).1 ∙ last-is n
 
 pub loop-j-init : goal.loop-j-init
-loop-j-init c = let a = c.args in (omega arith, row_none (odd_at a.entries.now a.group))
+loop-j-init c = row_none (odd_at c.args.entries.now c.args.group)
 
 pub loop-j-preserved : goal.loop-j-preserved
 loop-j-preserved c =
     let l = c.loop-j in
     let a = c.args in
-    (omega arith, row_next (odd_at a.entries.now a.group) l.j l.invariant.1 (odd _))
+    row_next (odd_at a.entries.now a.group) l.j l.invariant (odd _)

@@ -14,7 +14,7 @@ use Rattle.trace_marks.proofs.Tested.{tested, held_begin, held_more, group_lt}
 use Rattle.trace_marks.proofs.tested_groups.Goals as goal
 
 pub loop-g-init : goal.loop-g-init
-loop-g-init c = let e = c.args.entries.now in (omega arith, together_none (group_of e), row_none (λ g. mark_of (group_of e g)), held_begin e 0, omega arith)
+loop-g-init c = let e = c.args.entries.now in (together_none (group_of e), row_none (λ g. mark_of (group_of e g)), held_begin e 0, omega arith)
 
 pub loop-g-preserved : goal.loop-g-preserved
 loop-g-preserved c =
@@ -27,11 +27,10 @@ loop-g-preserved c =
     let lt : of_z w32 u.result < 2 ^ 32 = subst (λ (n : ℕ). n < 2 ^ 32) (sym u.ensures.0) (group_lt e l.g h) in
     let less : bit_or l.union-bits (of_z w32 u.result) < 2 ^ 32 = or_lt 32 l.union-bits (of_z w32 u.result) w.fits lt in
     let now = of_z-to_z w32 (bit_or l.union-bits (of_z w32 u.result)) (record { fits = less }) in (
-      omega arith,
-      now ∙ together_next (group_of e) l.g (was ∙ l.invariant.1) u.ensures.0,
-      row_next (λ g. mark_of (group_of e g)) l.g l.invariant.2 (c.mark.ensures
+      now ∙ together_next (group_of e) l.g (was ∙ l.invariant.0) u.ensures.0,
+      row_next (λ g. mark_of (group_of e g)) l.g l.invariant.1 (c.mark.ensures
           ∙ ap mark_of (of_z-to_z w32 (of_z w32 u.result) (record { fits = lt }) ∙ u.ensures.0)),
-      held_more e l.g l.invariant.3 h,
+      held_more e l.g l.invariant.2 h,
       subst (λ (n : ℕ). n < 2 ^ 32) (sym now) less,
     )
 
@@ -40,8 +39,8 @@ returns c =
     let l = c.loop-g in
     let e = c.args.entries.now in
     let ended : l.g ≡ 48 = omega arith in
-    let all = l.invariant.1 ∙ ap (together (group_of e)) ended in (
+    let all = l.invariant.0 ∙ ap (together (group_of e)) ended in (
       c.is_entry.ensures ∙ ap (λ (n : ℕ). ltb n 2) all
-          ∙ tested e c.requires (subst (λ (g : ℕ). Held e 0 (16 * g)) ended l.invariant.3),
-      l.invariant.2 ∙ ap (groups_of e) ended,
+          ∙ tested e c.requires (subst (λ (g : ℕ). Held e 0 (16 * g)) ended l.invariant.2),
+      l.invariant.1 ∙ ap (groups_of e) ended,
     )

@@ -45,12 +45,10 @@ fn is_sorted(used: usize, bytes: &[u8; BYTES]) -> bool
 {
     let mut good = true;
     let mut least: usize = 0;
-    let mut i: usize = 0;
-    while i < used {
+    for i in 0..used {
         let here = place(bytes, i);
         good = is_in_range(bytes, i) & (least <= here) & good;
         least = here + 1;
-        i += 1;
     }
     good
 }
@@ -61,10 +59,8 @@ fn is_padded(used: usize, bytes: &[u8; BYTES]) -> bool
     ensures { result ≡ all_below 192 (is_unused used bytes.now) }
 {
     let mut good = true;
-    let mut j: usize = PER_ENTRY * used;
-    while j < BYTES {
-        good = (bytes[j] == 0) & good;
-        j += 1;
+    for byte in &bytes[PER_ENTRY * used..] {
+        good = (*byte == 0) & good;
     }
     good
 }

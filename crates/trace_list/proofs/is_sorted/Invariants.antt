@@ -1,11 +1,7 @@
 use mathlib.Core.Path.{◌≡◌}
-use Prim.Native.Nat.{◌≤◌, ◌-◌}
 use Rattle.laws.specs.Tests.{all_below}
 use Rattle.trace_list.specs.Form.{least_at, comes_after}
 use Rattle.trace_list.proofs.is_sorted.Given as goal
 
 abbrev pub invariant-loop-i : goal.invariant-loop-i
-invariant-loop-i l = (l.i ≤ l.used) × (l.least ≡ least_at l.bytes l.i) × (l.good ≡ all_below l.i (comes_after l.bytes))
-
-abbrev pub decreases-loop-i : goal.decreases-loop-i
-decreases-loop-i l = l.used - l.i
+invariant-loop-i l = (l.least ≡ least_at l.bytes l.i) × (l.good ≡ all_below l.i (comes_after l.bytes))

@@ -41,11 +41,9 @@ fn all_weighed(squares: &[f64], x: f64, used: usize, bytes: &[u8; BYTES], start:
     ensures { result ≡ over (P.weighed squares.now x) start (list_places bytes.now used) }
 {
     let mut score = start;
-    let mut i: usize = 0;
-    while i < used {
+    for i in 0..used {
         let at = PER_ENTRY * i;
         score = weighed(squares, x, score, bytes[at], bytes[at + 1], bytes[at + 2]);
-        i += 1;
     }
     score
 }

@@ -1,7 +1,6 @@
 -- `trace_list_double::all_weighed` meets its contract. The loop's invariant: the score is that of the entries passed. Assumes nothing.
 use mathlib.Core.Path.{refl, ap, ◌∙◌}
 use Prim.Native.Nat.{◌*◌}
-use native.Mathlib.Omega.{arith}
 use Rattle.trace_list.proofs.Tests.{place_is}
 use Rattle.trace_list.proofs.There.{is_listed}
 use Rattle.trace_list.proofs.Folds.{fold_none, fold_more}
@@ -11,37 +10,7 @@ use Rattle.trace_list_double.proofs.all_weighed.Goals as goal
 pub loop-i-init : goal.loop-i-init
 loop-i-init c =
     let s = c.args in
-    (omega arith, fold_none s.bytes.now (weighed s.squares.now s.x) s.start)
-
-pub overflow_mul-at : goal.overflow_mul-at
-overflow_mul-at c =
-    let few = (is_listed c.args.used c.args.bytes.now c.requires.1).few in
-    omega arith
-
-pub bounds-bytes-at : goal.bounds-bytes-at
-bounds-bytes-at c =
-    let few = (is_listed c.args.used c.args.bytes.now c.requires.1).few in
-    omega arith
-
-pub overflow_add-at : goal.overflow_add-at
-overflow_add-at c =
-    let few = (is_listed c.args.used c.args.bytes.now c.requires.1).few in
-    omega arith
-
-pub bounds-bytes-at-in-loop-i : goal.bounds-bytes-at-in-loop-i
-bounds-bytes-at-in-loop-i c =
-    let few = (is_listed c.args.used c.args.bytes.now c.requires.1).few in
-    omega arith
-
-pub overflow_add-at-in-loop-i : goal.overflow_add-at-in-loop-i
-overflow_add-at-in-loop-i c =
-    let few = (is_listed c.args.used c.args.bytes.now c.requires.1).few in
-    omega arith
-
-pub bounds-bytes-at-in-loop-i-2 : goal.bounds-bytes-at-in-loop-i-2
-bounds-bytes-at-in-loop-i-2 c =
-    let few = (is_listed c.args.used c.args.bytes.now c.requires.1).few in
-    omega arith
+    ((is_listed s.used s.bytes.now c.requires.1).few, fold_none s.bytes.now (weighed s.squares.now s.x) s.start)
 
 pub weighed-score-requires : goal.weighed-score-requires
 weighed-score-requires c =
@@ -54,7 +23,7 @@ loop-i-preserved c =
     let l = c.loop-i in
     let s = c.args in
     let f = weighed s.squares.now s.x in (
-      omega arith,
+      l.invariant.0,
       fold_more s.bytes.now f s.start l.i l.invariant.1
           (c.weighed-score.ensures ∙ ap (f l.score) (place_is s.bytes.now l.i (3 * l.i) refl refl)),
     )

@@ -47,10 +47,8 @@ fn number(entries: &[i32]) -> usize
     ensures { (result ≡ how_many 768 (is_one_rule entries.now)) × (result ≤ 768) }
 {
     let mut sum: usize = 0;
-    let mut k: usize = 0;
-    while k < Entry::COUNT {
-        sum += one(entries[k]);
-        k += 1;
+    for entry in entries {
+        sum += one(*entry);
     }
     sum
 }
@@ -77,12 +75,9 @@ fn fill(entries: &[i32], bytes: &mut [u8; BYTES])
     ensures { bytes.new ≡ list_bytes (ones_in entries.now) }
 {
     let mut n: usize = 0;
-    let mut k: usize = 0;
-    while k < Entry::COUNT {
-        let at = k;
-        k += 1;
-        if is_one(entries[at]) {
-            put(bytes, n, at);
+    for (k, entry) in entries.iter().enumerate() {
+        if is_one(*entry) {
+            put(bytes, n, k);
             n += 1;
         }
     }
@@ -112,11 +107,7 @@ fn clear_entries(entries: &mut [i32])
     requires { length entries.old ≡ 768 }
     ensures { entries.new ≡ flat_of [] }
 {
-    let mut k: usize = 0;
-    while k < Entry::COUNT {
-        entries[k] = 0;
-        k += 1;
-    }
+    entries.fill(0);
 }
 
 // A 1 at the place of each entry that is used.
@@ -124,12 +115,10 @@ fn mark(used: usize, bytes: &[u8; BYTES], entries: &mut [i32])
     requires { T (is_list used bytes.now) × (entries.old ≡ flat_of []) }
     ensures { entries.new ≡ flat_of (list_places bytes.now used) }
 {
-    let mut i: usize = 0;
-    while i < used {
+    for i in 0..used {
         let at = PER_ENTRY * i;
         let k = places::inner::entry(bytes[at], bytes[at + 1], bytes[at + 2]);
         entries[k] = 1;
-        i += 1;
     }
 }
 

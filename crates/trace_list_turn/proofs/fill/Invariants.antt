@@ -1,12 +1,9 @@
 use mathlib.Core.Path.{◌≡◌}
-use Prim.Native.Nat.{◌≤◌, ◌-◌}
+use Prim.Native.Nat.{◌≤◌}
 use lib.ListN.{length}
 use Rattle.trace_list.specs.Ones.{ones}
 use Rattle.trace_list.specs.Form.{is_one_rule, list_bytes}
 use Rattle.trace_list_turn.proofs.fill.Given as goal
 
 abbrev pub invariant-loop-k : goal.invariant-loop-k
-invariant-loop-k l = (l.k ≤ 768) × (l.n ≤ l.k) × (l.n ≡ length (ones (is_one_rule l.entries) l.k)) × (l.bytes ≡ list_bytes (ones (is_one_rule l.entries) l.k))
-
-abbrev pub decreases-loop-k : goal.decreases-loop-k
-decreases-loop-k l = 768 - l.k
+invariant-loop-k l = (l.n ≤ l.k) × (l.n ≡ length (ones (is_one_rule l.entries) l.k)) × (l.bytes ≡ list_bytes (ones (is_one_rule l.entries) l.k))

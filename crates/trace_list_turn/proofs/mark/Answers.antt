@@ -10,38 +10,7 @@ use Rattle.trace_list_turn.proofs.Ways.{flat_start, flat_on}
 use Rattle.trace_list_turn.proofs.mark.Goals as goal
 
 pub loop-i-init : goal.loop-i-init
-loop-i-init c =
-    (omega arith, ap length c.requires.1 ∙ flat_length _, flat_start c.args.bytes.now c.requires.1)
-
-pub overflow_mul-at : goal.overflow_mul-at
-overflow_mul-at c =
-    let few = (is_listed c.args.used c.args.bytes.now c.requires.0).few in
-    omega arith
-
-pub bounds-bytes-at : goal.bounds-bytes-at
-bounds-bytes-at c =
-    let few = (is_listed c.args.used c.args.bytes.now c.requires.0).few in
-    omega arith
-
-pub overflow_add-at : goal.overflow_add-at
-overflow_add-at c =
-    let few = (is_listed c.args.used c.args.bytes.now c.requires.0).few in
-    omega arith
-
-pub bounds-bytes-at-in-loop-i : goal.bounds-bytes-at-in-loop-i
-bounds-bytes-at-in-loop-i c =
-    let few = (is_listed c.args.used c.args.bytes.now c.requires.0).few in
-    omega arith
-
-pub overflow_add-at-in-loop-i : goal.overflow_add-at-in-loop-i
-overflow_add-at-in-loop-i c =
-    let few = (is_listed c.args.used c.args.bytes.now c.requires.0).few in
-    omega arith
-
-pub bounds-bytes-at-in-loop-i-2 : goal.bounds-bytes-at-in-loop-i-2
-bounds-bytes-at-in-loop-i-2 c =
-    let few = (is_listed c.args.used c.args.bytes.now c.requires.0).few in
-    omega arith
+loop-i-init c = ((is_listed c.args.used c.args.bytes.now c.requires.0).few, flat_start c.args.bytes.now c.requires.1)
 
 pub slice_set_of-entries : goal.slice_set_of-entries
 slice_set_of-entries c =
@@ -49,7 +18,7 @@ slice_set_of-entries c =
     let bs = c.args.bytes.now in
     let at = place_is bs l.i (3 * l.i) refl c.entry-k.ensures in
     let h = place_below c.args.used bs (is_listed c.args.used bs c.requires.0) l.i c.loop-i-test.true in
-    omega (arith, at, h, l.invariant.1)
+    omega (arith, at, h, ap length l.invariant.1 ∙ flat_length _)
 
 pub loop-i-preserved : goal.loop-i-preserved
 loop-i-preserved c =
@@ -57,5 +26,4 @@ loop-i-preserved c =
     let bs = c.args.bytes.now in
     let at = place_is bs l.i (3 * l.i) refl c.entry-k.ensures in
     let h = place_below c.args.used bs (is_listed c.args.used bs c.requires.0) l.i c.loop-i-test.true in
-    let next = flat_on bs l.i at h l.invariant.2 in
-    (omega arith, ap length next ∙ flat_length _, next)
+    (l.invariant.0, flat_on bs l.i at h l.invariant.1)

@@ -55,10 +55,8 @@ fn fill(pst: &[i8], squares: &mut [f64])
     requires { (pst.now ≡ pst_table) × (length squares.old ≡ 768) }
     ensures { squares.new ≡ shipped_squares }
 {
-    let mut place: usize = 0;
-    while place < SquareWeight::COUNT {
-        squares[place] = square_weight(pst, place);
-        place += 1;
+    for (place, weight) in squares.iter_mut().enumerate() {
+        *weight = square_weight(pst, place);
     }
 }
 

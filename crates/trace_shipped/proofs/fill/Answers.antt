@@ -4,4 +4,4 @@ use Rattle.trace_shipped.proofs.Weighed.{shipped_all}
 use Rattle.trace_shipped.proofs.fill.Goals as goal
 
 pub returns : goal.returns
-returns c = let l = c.loop-place in shipped_all l.squares l.place l.invariant.1 (omega arith) l.invariant.2
+returns c = let l = c.loop-place in shipped_all l.squares l.place (omega arith) (omega arith) l.invariant

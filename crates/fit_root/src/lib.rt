@@ -19,8 +19,7 @@ fn whole_root(x: u64) -> u64
     let mut m = x;
     let mut root: u64 = 0;
     let mut rem: u64 = 0;
-    let mut k: u64 = 0;
-    while k < 54 {
+    for _ in 0..54u64 {
         let all = rem * 4 + m / HIDDEN;
         let trial = root * 4 + 1;
         m = (m % HIDDEN) * 4;
@@ -31,7 +30,6 @@ fn whole_root(x: u64) -> u64
             rem = all;
             root = root * 2;
         }
-        k += 1;
     }
     root
 }

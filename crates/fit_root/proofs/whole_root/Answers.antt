@@ -35,21 +35,21 @@ passed x m root rem k d l t = record {
 }
 
 pub overflow_mul-all : goal.overflow_mul-all
-overflow_mul-all c = omega (arith, under _ _ c.loop-k.invariant.short c.loop-k-test.true)
+overflow_mul-all c = omega (arith, under _ _ c.loop.invariant.short c.loop-test.true)
 
 pub overflow_add-all : goal.overflow_add-all
-overflow_add-all c = omega (arith, under _ _ c.loop-k.invariant.short c.loop-k-test.true)
+overflow_add-all c = omega (arith, under _ _ c.loop.invariant.short c.loop-test.true)
 
 pub overflow_mul-trial : goal.overflow_mul-trial
-overflow_mul-trial c = omega (arith, under _ _ c.loop-k.invariant.short c.loop-k-test.true)
+overflow_mul-trial c = omega (arith, under _ _ c.loop.invariant.short c.loop-test.true)
 
 pub overflow_add-trial : goal.overflow_add-trial
-overflow_add-trial c = omega (arith, under _ _ c.loop-k.invariant.short c.loop-k-test.true)
+overflow_add-trial c = omega (arith, under _ _ c.loop.invariant.short c.loop-test.true)
 
-pub loop-k-preserved : goal.loop-k-preserved
-loop-k-preserved c =
-    let l = c.loop-k in
+pub loop-preserved : goal.loop-preserved
+loop-preserved c =
+    let l = c.loop in
     elim c.if-trial-all.branch [
-      | then-trial-all w ↦ rw (w.rem-is, w.root-is) (taken _ _ _ _ _ l.invariant c.loop-k-test.true w.if-trial-all.true)
-      | else-trial-all w ↦ rw (w.rem-is, w.root-is) (passed _ _ _ _ _ l.invariant c.loop-k-test.true w.if-trial-all.false)
+      | then-trial-all w ↦ rw (w.rem-is, w.root-is) (taken _ _ _ _ _ l.invariant c.loop-test.true w.if-trial-all.true)
+      | else-trial-all w ↦ rw (w.rem-is, w.root-is) (passed _ _ _ _ _ l.invariant c.loop-test.true w.if-trial-all.false)
     ]

@@ -83,10 +83,8 @@ fn named_added(parts: &[f64; Weight::NAMED], gradient: &mut [f64])
     requires { length gradient.old ≡ 779 }
     ensures { (gradient.new ≡ first_raised parts.now gradient.old 11) × (length gradient.new ≡ 779) }
 {
-    let mut i: usize = 0;
-    while i < Weight::NAMED {
-        gradient[i] = gradient[i] + parts[i];
-        i += 1;
+    for (i, part) in parts.iter().enumerate() {
+        gradient[i] = gradient[i] + *part;
     }
 }
 
@@ -205,8 +203,7 @@ fn list_added(gradient: &mut [f64], parts: Parts, used: usize, bytes: &[u8; BYTE
 {
     let opening = [parts.white_opening, parts.black_opening];
     let ending = [parts.white_ending, parts.black_ending];
-    let mut i: usize = 0;
-    while i < used {
+    for i in 0..used {
         let at = PER_ENTRY * i;
         let k = places::inner::entry(bytes[at], bytes[at + 1], bytes[at + 2]);
         raise(
@@ -215,7 +212,6 @@ fn list_added(gradient: &mut [f64], parts: Parts, used: usize, bytes: &[u8; BYTE
             opening[k % Color::COUNT],
             ending[k % Color::COUNT],
         );
-        i += 1;
     }
 }
 

@@ -12,37 +12,7 @@ use Rattle.fit_gradient.proofs.list_added.Goals as goal
 
 pub loop-i-init : goal.loop-i-init
 loop-i-init c =
-    (omega arith, c.requires.0, fold_none c.args.bytes.now (mark_one c.args.parts) c.args.gradient.now)
-
-pub overflow_mul-at : goal.overflow_mul-at
-overflow_mul-at c =
-    let few = (is_listed c.args.used c.args.bytes.now c.requires.1).few in
-    omega arith
-
-pub bounds-bytes-at : goal.bounds-bytes-at
-bounds-bytes-at c =
-    let few = (is_listed c.args.used c.args.bytes.now c.requires.1).few in
-    omega arith
-
-pub overflow_add-at : goal.overflow_add-at
-overflow_add-at c =
-    let few = (is_listed c.args.used c.args.bytes.now c.requires.1).few in
-    omega arith
-
-pub bounds-bytes-at-in-loop-i : goal.bounds-bytes-at-in-loop-i
-bounds-bytes-at-in-loop-i c =
-    let few = (is_listed c.args.used c.args.bytes.now c.requires.1).few in
-    omega arith
-
-pub overflow_add-at-in-loop-i : goal.overflow_add-at-in-loop-i
-overflow_add-at-in-loop-i c =
-    let few = (is_listed c.args.used c.args.bytes.now c.requires.1).few in
-    omega arith
-
-pub bounds-bytes-at-in-loop-i-2 : goal.bounds-bytes-at-in-loop-i-2
-bounds-bytes-at-in-loop-i-2 c =
-    let few = (is_listed c.args.used c.args.bytes.now c.requires.1).few in
-    omega arith
+    ((is_listed c.args.used c.args.bytes.now c.requires.1).few, fold_none c.args.bytes.now (mark_one c.args.parts) c.args.gradient.now)
 
 pub raise-requires : goal.raise-requires
 raise-requires c =
@@ -50,7 +20,7 @@ raise-requires c =
     let bs = c.args.bytes.now in
     let at = place_is bs l.i (3 * l.i) refl c.entry-k.ensures in
     let h = place_below c.args.used bs (is_listed c.args.used bs c.requires.1) l.i c.loop-i-test.true in
-    (l.invariant.1, omega (arith, at, h))
+    (omega arith, omega (arith, at, h))
 
 pub loop-i-preserved : goal.loop-i-preserved
 loop-i-preserved c =
@@ -62,8 +32,7 @@ loop-i-preserved c =
     let p = c.args.parts in
     let o = p.white_opening ∷ p.black_opening ∷ [] in
     let d = p.white_ending ∷ p.black_ending ∷ [] in (
-      omega arith,
-      m.ensures.1,
-      fold_more bs (mark_one c.args.parts) c.args.gradient.now l.i l.invariant.2
+      l.invariant.0,
+      fold_more bs (mark_one c.args.parts) c.args.gradient.now l.i l.invariant.1
           (paired o d l.gradient _ c.entry-k.result m.ensures.0 ∙ ap (mark_one p l.gradient) at),
     )

@@ -43,11 +43,9 @@ pub fn powers_of(iteration: u64) -> Powers
 {
     let mut first: f64 = 1.0;
     let mut second: f64 = 1.0;
-    let mut i: u64 = 0;
-    while i < iteration {
+    for _ in 0..iteration {
         first = first * BETA1;
         second = second * BETA2;
-        i += 1;
     }
     Powers { first, second }
 }
@@ -94,8 +92,7 @@ fn walk(
     requires { (length gradient.now ≡ 779) × (length m.old ≡ 779) × (length v.old ≡ 779) × (length weights.old ≡ 779) }
     ensures { fit_from m.new v.new weights.new ≡ stepped powers.first powers.second rate gradient.now (fit_from m.old v.old weights.old) }
 {
-    let mut i: usize = 1;
-    while i < Weight::COUNT {
+    for i in 1..Weight::COUNT {
         let g = gradient[i];
         let first = first_moment(m[i], g);
         let second = second_moment(v[i], g);
@@ -103,7 +100,6 @@ fn walk(
         m[i] = first;
         v[i] = second;
         weights[i] = weight;
-        i += 1;
     }
 }
 

@@ -2,7 +2,6 @@
 use mathlib.Core.Path.{◌≡◌, refl, ap}
 use Prim.Native.Nat.{ℕ, ◌+◌}
 use native.Mathlib.Numerals.{add-one}
-use native.Mathlib.Omega.{arith}
 use lib.Ieee.{Float}
 use Rattle.doubles.specs.Doubles.{◌⊗◌}
 use Rattle.fit_adam.specs.Adam.{beta1, beta2, power}
@@ -13,11 +12,11 @@ more : (beta p : Float) (i : ℕ) → p ≡ power beta i → p ⊗ beta ≡ powe
 unfolding power
 more beta p i e = rw add-one (ap (λ (x : Float). x ⊗ beta) e)
 
-pub loop-i-init : goal.loop-i-init
+pub loop-init : goal.loop-init
 unfolding power
-loop-i-init c = (omega arith, refl, refl)
+loop-init c = (refl, refl)
 
-pub loop-i-preserved : goal.loop-i-preserved
-loop-i-preserved c =
-    let l = c.loop-i in
-    (omega arith, more beta1 l.first l.i l.invariant.1, more beta2 l.second l.i l.invariant.2)
+pub loop-preserved : goal.loop-preserved
+loop-preserved c =
+    let l = c.loop in
+    (more beta1 l.first l.counter l.invariant.0, more beta2 l.second l.counter l.invariant.1)

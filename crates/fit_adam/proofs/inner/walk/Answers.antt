@@ -9,24 +9,21 @@ loop-i-preserved c =
     let l = c.loop-i in
     let f = c.first_moment-first in
     let s = c.second_moment-second in
-    let a = here l.invariant.3 in
-    let b = here l.invariant.4 in
-    let d = here l.invariant.5 in
+    let a = here l.invariant.0 in
+    let b = here l.invariant.1 in
+    let d = here l.invariant.2 in
     let first = rw a at f.ensures in
     let second = rw b at s.ensures in (
-      omega arith,
-      omega arith,
-      l.invariant.2,
-      one_more l.invariant.3 (omega arith) (omega arith) first,
-      one_more l.invariant.4 (omega arith) (omega arith) second,
-      one_more l.invariant.5 (omega arith) (omega arith) (rw (first, second, d) at c.moved_weight-weight.ensures),
+      one_more l.invariant.0 (omega arith) (omega arith) first,
+      one_more l.invariant.1 (omega arith) (omega arith) second,
+      one_more l.invariant.2 (omega arith) (omega arith) (rw (first, second, d) at c.moved_weight-weight.ensures),
     )
 
 pub returns : goal.returns
 returns c =
     let l = c.loop-i in
     let i : l.i ≡ 779 = omega arith in
-    let m = all l.invariant.3 i in
-    let v = all l.invariant.4 i in
-    let w = all l.invariant.5 i in
+    let m = all l.invariant.0 i in
+    let v = all l.invariant.1 i in
+    let w = all l.invariant.2 i in
     cc

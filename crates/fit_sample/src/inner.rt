@@ -44,11 +44,9 @@ fn put_words(out: &mut [u8], at: usize, numbers: &[i32]) -> usize
     ensures { Adds out.old at (words_of numbers.now) out.new result }
 {
     let mut end = at;
-    let mut i = 0;
-    while i < numbers.len() {
-        let bytes = bytes_of(bits(numbers[i]));
+    for number in numbers {
+        let bytes = bytes_of(bits(*number));
         end = text_out::put(out, end, &bytes).or(end);
-        i += 1;
     }
     end
 }

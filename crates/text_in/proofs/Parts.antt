@@ -9,6 +9,10 @@ use native.Mathlib.Numerals.{add-one}
 use lib.Seq.{take_all}
 use lib.Dec.{eqb, ltb, leb-suc-suc}
 use borrow.Author.Tests.{eqb-true, lt-ltb, le-ltb, ltb-true, ltb-false}
+use Rattle.std.specs.List.{position}
+use Rattle.std.specs.Option.{unwrap_or}
+use Rattle.std.proofs.Common.{Some, None}
+use Rattle.std.proofs.lemmas.List.Recursion.{is_position_or_len}
 use Rattle.text_in.specs.Text.{holds, before, past_of, after, without}
 
 -- `&s[a..]` is what is left of s
@@ -24,6 +28,20 @@ module _ (mark : ℕ) where
       go : (t : Bool) → length (before mark s) ≤ length s → length (cond t [] (b ∷ before mark s)) ≤ suc (length s)
       go true h = omega arith
       go false h = omega arith
+
+  -- the place of the byte is the one that the library's `position` finds, or the end
+  pub first_place : (s : List ℕ) → unwrap_or (position (λ b. eqb b mark) s) (length s) ≡ length (before mark s)
+  unfolding before
+  first_place s = rw (← is_position_or_len (λ s. length (before mark s)) (λ b. eqb b mark) refl (λ b s. turn (eqb b mark) b s) s)
+      (go (ltb (length (before mark s)) (length s)) refl)
+    where
+      turn : (t : Bool) (b : ℕ) (s : List ℕ) → length (cond t [] (b ∷ before mark s)) ≡ cond t 0 (1 + length (before mark s))
+      turn true b s = refl
+      turn false b s = omega arith
+
+      go : (t : Bool) → ltb (length (before mark s)) (length s) ≡ t → unwrap_or (cond t (Some (length (before mark s))) None) (length s) ≡ length (before mark s)
+      go true e = refl
+      go false e = omega (arith, ltb-false (length (before mark s)) (length s) e, before_le s)
 
   -- the place that `find` gives is no farther than the end
   pub before_found : (s : List ℕ) {k : ℕ} → k ≡ length (before mark s) → k ≤ length s

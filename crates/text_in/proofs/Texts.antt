@@ -1,17 +1,16 @@
 -- One turn of each loop over a text: a byte looked at from the front, or from the end. Assumes nothing.
 use mathlib.Core.Path.{◌≡◌, refl, sym, ap, ◌∙◌}
-use mathlib.Core.Bool.{Bool, true, false, ◌&&◌, and-false, and-true, and_assoc, and_comm}
+use mathlib.Core.Bool.{Bool, true, false, ◌&&◌, and-true, and_assoc, and_comm}
 use mathlib.Core.List.{List, [], ◌∷◌, reverse, reverse-append, reverse-reverse}
 use Prim.Native.Nat.{ℕ, suc, ◌+◌, ◌-◌, ◌≤◌, ◌<◌}
-use native.Mathlib.Nat.{add-zero, add-suc, suc-add, not-suc-le-zero}
+use native.Mathlib.Nat.{not-suc-le-zero}
 use native.Mathlib.Numerals.{add-one}
 use native.Mathlib.Omega.{arith}
 use lib.ListN.{length, take, drop, get_or, drop_of_length-le, length-drop, length-take}
 use lib.Seq.{drop-cons, take-suc, take_all, take-length}
-use lib.Dec.{eqb}
 use borrow.Author.Tests.{ne_eqb, eq-eqb}
 use Rattle.laws.specs.Tests.{same}
-use Rattle.text_in.specs.Text.{every, before, without, without_last}
+use Rattle.text_in.specs.Text.{every, without, without_last}
 
 -- ---- every byte
 module _ (test : ℕ → Bool) (s : List ℕ) (i : ℕ) (all : Bool) (e : every test s ≡ (all && every test (drop i s))) where
@@ -24,20 +23,6 @@ module _ (test : ℕ → Bool) (s : List ℕ) (i : ℕ) (all : Bool) (e : every 
   pub every_end : length s ≤ i → all ≡ every test s
   unfolding every
   every_end h = sym (e ∙ rw (drop_of_length-le s h, and-true))
-
--- ---- the first such byte
-module _ (mark : ℕ) (s : List ℕ) (i : ℕ) (e : length (before mark s) ≡ i + length (before mark (drop i s))) where
-  pub before_more : i < length s → (get_or s i 0 ≡ mark → ⊥) → length (before mark s) ≡ (i + 1) + length (before mark (drop (i + 1) s))
-  unfolding before
-  before_more h n = e ∙ rw (drop-cons s i 0, add-one, ne_eqb _ _ n, add-suc, suc-add)
-
-  pub before_stop : i < length s → get_or s i 0 ≡ mark → i ≡ length (before mark s)
-  unfolding before
-  before_stop h q = sym (e ∙ rw (drop-cons s i 0, eq-eqb _ _ q, add-zero))
-
-  pub before_end : length s ≤ i → i ≡ length (before mark s)
-  unfolding before
-  before_end h = sym (e ∙ rw (drop_of_length-le s h, add-zero))
 
 -- ---- the bytes at the front
 pub front_shorter : (t : List ℕ) → 0 < length t → length (take (length t - 1) (drop 1 t)) < length t
@@ -89,12 +74,6 @@ module _ (test : ℕ → Bool) (t : List ℕ) where
       none (b ∷ l) k = absurd (not-suc-le-zero k)
 
 -- ---- two texts
-pub same_length : (s t : List ℕ) → (length s ≡ length t → ⊥) → false ≡ same s t
-same_length [] [] n = absurd (n refl)
-same_length [] (y ∷ t) n = refl
-same_length (x ∷ s) [] n = refl
-same_length (x ∷ s) (y ∷ t) n = sym (ap (λ (b : Bool). eqb x y && b) (sym (same_length s t (λ q. n (ap suc q)))) ∙ and-false (eqb x y))
-
 module _ (s t : List ℕ) (i : ℕ) (e : same s t ≡ same (drop i s) (drop i t)) where
   pub same_more : i < length s → i < length t → get_or s i 0 ≡ get_or t i 0 → same s t ≡ same (drop (i + 1) s) (drop (i + 1) t)
   same_more h k q = e ∙ rw (drop-cons s i 0 h, drop-cons t i 0 k, add-one, eq-eqb _ _ q)

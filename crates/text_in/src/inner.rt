@@ -1,5 +1,5 @@
 // The parts of a text: total, and no door.
-ghost use Rattle.std.specs.Prelude.{◌≡◌};
+ghost use Rattle.std.specs.Prelude.{◌≡◌, ◌==◌, position};
 ghost use Rattle.text_in.specs.Text.{is_text, is_blank};
 ghost use Rattle.text_in.specs.Promises.{IsText, Finds, Before, Past, After, Trims, SkipsSpaces, Is, SkipsBlanks, DropsBlanks};
 
@@ -17,26 +17,23 @@ pub fn is_text(s: &[u8]) -> bool
     ensures { IsText s.now result }
 {
     let mut all = true;
-    let mut i = 0;
-    while i < s.len() {
-        all = plain(s[i]) & all;
-        i += 1;
+    for b in s {
+        all = plain(*b) & all;
     }
     all
+}
+
+fn place(s: &[u8], mark: u8) -> Option<usize>
+    ensures { result ≡ position (λ b. b == mark) s.now }
+{
+    s.iter().position(|b| *b == mark)
 }
 
 // Where a byte stands first; the length where it does not.
 pub fn find(s: &[u8], mark: u8) -> usize
     ensures { Finds s.now mark result }
 {
-    let mut i = 0;
-    while i < s.len() {
-        if s[i] == mark {
-            return i;
-        }
-        i += 1;
-    }
-    i
+    place(s, mark).unwrap_or(s.len())
 }
 
 // What comes before the first such byte; all where there is none.
@@ -127,15 +124,5 @@ pub fn skip_spaces(s: &[u8]) -> &[u8]
 pub fn is(s: &[u8], word: &[u8]) -> bool
     ensures { Is s.now word.now result }
 {
-    if s.len() != word.len() {
-        return false;
-    }
-    let mut i = 0;
-    while i < s.len() {
-        if s[i] != word[i] {
-            return false;
-        }
-        i += 1;
-    }
-    true
+    s == word
 }

@@ -4,10 +4,9 @@ use mathlib.Core.List.{List, [], ◌∷◌, ◌++◌, append_assoc, append-nil}
 use mathlib.Core.Bool.{Bool, cond}
 use Prim.Native.Nat.{ℕ, ◌+◌, ◌≤◌, ◌<◌}
 use native.Mathlib.Numerals.{add-one}
-use native.Mathlib.Nat.{add_assoc}
 use native.Mathlib.Omega.{arith}
-use lib.ListN.{length, take, drop, get_or, set, length-append, length-drop, take-append-drop}
-use lib.Seq.{take-suc, take-suc-set, drop-set-lt, drop-drop, take_at, drop_at, length-take-le}
+use lib.ListN.{length, take, drop, set, length-append, length-drop, take-append-drop}
+use lib.Seq.{take-suc-set, drop-set-lt, drop-drop, take_at, drop_at, length-take-le}
 use borrow.Author.Tests.{le-leb, lt-leb}
 use Rattle.text_out.specs.Text.{Wrote, place_of, written_of}
 
@@ -23,12 +22,6 @@ wrote_more old new at r text b l h w =
       front = rw add-one (take-suc-set new r b (omega arith) ∙ ap (λ (t : List ℕ). t ++ (b ∷ [])) w.front ∙ append_assoc (take at old) text (b ∷ []));
       back = drop-set-lt (r + 1) new r b (omega arith) ∙ sym (drop-drop 1 r new) ∙ ap (drop 1) w.back ∙ drop-drop 1 r old;
     }
-
-pub put_again : (old new s : List ℕ) (at i : ℕ) → i < length s → at + length s ≤ length old → length new ≡ length old → Wrote old new at (at + i) (take i s)
-    → Wrote old (set new (at + i) (get_or s i 0)) at (at + (i + 1)) (take (i + 1) s)
-put_again old new s at i h f l w =
-    rw (← add_assoc at i 1, add-one i, take-suc s i 0)
-    (wrote_more old new at (at + i) (take i s) (get_or s i 0) l (omega arith) w)
 
 -- what was written is as long as it says
 pub wrote_length : (old new : List ℕ) (at r : ℕ) (text : List ℕ) → Wrote old new at r text → length (take r new) ≡ r

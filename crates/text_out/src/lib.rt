@@ -23,17 +23,14 @@ impl Placed {
     }
 }
 
-// Byte by byte, where there is room.
+// A text put where there is room.
 fn copy(out: &mut [u8], at: usize, s: &[u8]) -> usize
     requires { at + length s.now ≤ length out.old }
     ensures { Wrote out.old out.new at result s.now }
 {
-    let mut i = 0;
-    while i < s.len() {
-        out[at + i] = s[i];
-        i += 1;
-    }
-    at + i
+    let end = at + s.len();
+    out[at..end].copy_from_slice(s);
+    end
 }
 
 pub fn put(out: &mut [u8], at: usize, s: &[u8]) -> Placed

@@ -1,16 +1,20 @@
--- `text_out::copy` meets its contract: the loop's invariant is that the first i bytes are written. Assumes nothing.
+-- `text_out::copy` meets its contract: the part of the buffer is the text. Assumes nothing.
+use mathlib.Core.Path.{refl}
 use native.Mathlib.Omega.{arith}
-use borrow.Author.Rules.{rules}
-use lib.ListN.{length-set}
-use Rattle.text_out.proofs.Wrote.{put_again}
+use Prim.Native.Nat.{◌+◌, ◌-◌}
+use lib.ListN.{length}
+use Rattle.std.proofs.lemmas.Slice.{take-put_mid, drop-put_mid}
 use Rattle.text_out.proofs.copy.Goals as goal
 
-pub loop-i-preserved : goal.loop-i-preserved
-loop-i-preserved c =
+pub returns : goal.returns
+returns c =
+    let at = c.args.at in
     let old = c.args.out.now in
     let s = c.args.s.now in
-    let l = c.loop-i in (
-      search rules,
-      simp length-set l.invariant.1,
-      put_again old l.out s c.args.at l.i (omega arith) (omega arith) l.invariant.1 l.invariant.2,
-    )
+    let k = at + length s - at in
+    rw c.copy_from_slice.ensures.after record {
+      to = refl;
+      fits = c.requires;
+      front = take-put_mid at k old s (at + length s) refl (omega arith);
+      back = drop-put_mid at k old s (at + length s) (omega arith) (omega arith) (omega arith);
+    }

@@ -1,9 +1,8 @@
 // The lines of a collection, found in pieces of it: whoever reads lines asks for the next line's end, and does with the line what it does.
 #![tactic(auto)]
 
-ghost use Rattle.std.specs.Prelude.{◌≡◌, [], ◌∷◌};
+ghost use Rattle.std.specs.Prelude.{◌≡◌};
 ghost use Rattle.line_cut.specs.Cut.{kept_byte, one_more_rule, bare_of};
-ghost use Rattle.line_cut.specs.Lines.{ends as endsOf};
 ghost use Rattle.line_cut.specs.Promises.{EndsIn, CutsNext};
 
 // The bytes of a line that are kept, which is as many as a line may have.
@@ -29,22 +28,11 @@ pub struct Cut {
 }
 
 // How many lines end in a chunk.
+#[tactic(auto, using(crate::proofs::Counted::ends_counted))]
 pub fn ends(chunk: &[u8]) -> usize
     ensures { EndsIn chunk.now result }
 {
-    let mut n = 0;
-    let mut i = 0;
-    while i < chunk.len() {
-        n += is_end(chunk[i]);
-        i += 1;
-    }
-    n
-}
-
-fn is_end(byte: u8) -> usize
-    ensures { result ≡ endsOf (byte ∷ []) }
-{
-    if byte == b'\n' { 1 } else { 0 }
+    chunk.iter().filter(|byte| **byte == b'\n').count()
 }
 
 // The length of a line without the CR before its LF.
@@ -92,16 +80,14 @@ pub fn next(begun: Begun, line: &mut [u8], chunk: &[u8], from: usize) -> Cut
 {
     let mut held = begun.held;
     let mut cr = begun.cr;
-    let mut i = from;
-    while i < chunk.len() {
+    for i in from..chunk.len() {
         let byte = chunk[i];
-        i += 1;
         if byte == b'\n' {
-            return found(i, 0, false, true, bare(held, cr));
+            return found(i + 1, 0, false, true, bare(held, cr));
         }
         keep_byte(line, held, byte);
         held = one_more(held);
         cr = byte == b'\r';
     }
-    found(i, held, cr, false, 0)
+    found(from.max(chunk.len()), held, cr, false, 0)
 }

@@ -115,11 +115,8 @@ pub fn place(s: &[u8]) -> Placed
     let mut rank: usize = 7;
     let mut file: usize = 0;
     let mut digit = false;
-    let mut i = 0;
-    while i < s.len() {
-        let b = s[i];
-        i += 1;
-        match step(rank, file, digit, b) {
+    for b in s {
+        match step(rank, file, digit, *b) {
             Next::Below => {
                 rank -= 1;
                 file = 0;

@@ -22,17 +22,14 @@ fn figures(s: &[u8]) -> u16
     ensures { result ≡ cond (every is_figure s.now) (decimal_from 0 s.now) 10000 }
 {
     let mut n: u16 = 0;
-    let mut i = 0;
-    while i < s.len() {
-        let b = s[i];
-        if b < b'0' {
+    for b in s {
+        if *b < b'0' {
             return NO_COUNTER;
         }
-        if b > b'9' {
+        if *b > b'9' {
             return NO_COUNTER;
         }
-        n = 10 * n + wide(b - b'0');
-        i += 1;
+        n = 10 * n + wide(*b - b'0');
     }
     n
 }

@@ -45,18 +45,15 @@ fn put_squares(squares: &[u8], line: &mut [u8], at: usize) -> usize
 {
     let mut end = at;
     let mut run: u8 = 0;
-    let mut file = 0;
-    while file < squares.len() {
-        let code = squares[file];
-        file += 1;
-        if code == 0 {
+    for code in squares {
+        if *code == 0 {
             run += 1;
         } else if run == 0 {
-            line[end] = letter(code);
+            line[end] = letter(*code);
             end += 1;
         } else {
             line[end] = b'0' + run;
-            line[end + 1] = letter(code);
+            line[end + 1] = letter(*code);
             end += 2;
             run = 0;
         }
@@ -99,12 +96,10 @@ fn put_ranks(board: &[u8], line: &mut [u8]) -> usize
     ensures { Adds line.old 0 (placement board.now) line.new result }
 {
     let mut end = 0;
-    let mut rank = 7;
-    while rank > 0 {
+    for rank in (1..8).rev() {
         end = put_rank(board, rank, line, end);
         line[end] = b'/';
         end += 1;
-        rank -= 1;
     }
     put_rank(board, 0, line, end)
 }

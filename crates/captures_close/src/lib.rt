@@ -35,10 +35,8 @@ fn write_captures(
     ensures { Adds out.old 0 (rows_up_to n line from.now kind.now taken.now) out.new result }
 {
     let mut at = 0;
-    let mut i = 0;
-    while i < n {
+    for i in 0..n {
         at = captures_row::inner::capture(line, from[i], kind[i], taken[i], out, at).or(at);
-        i += 1;
     }
     at
 }

@@ -95,10 +95,8 @@ fn comes_to(s: &[u8]) -> u64
     ensures { result ≡ comes_to 0 s.now }
 {
     let mut n = 0;
-    let mut i = 0;
-    while i < s.len() {
-        n = with_digit(n, s[i]);
-        i += 1;
+    for b in s {
+        n = with_digit(n, *b);
     }
     n
 }

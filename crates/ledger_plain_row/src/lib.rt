@@ -56,18 +56,19 @@ fn figures(s: &[u8]) -> Number
     ensures { result ≡ number_read (figures_of 18 s.now) }
 {
     let mut n: u64 = 0;
-    let mut i = 0;
-    while i < s.len() {
+    for (i, b) in s.iter().enumerate() {
         if i == FIGURES {
             return Number { size: i, value: n };
         }
-        if !is_figure(s[i]) {
+        if !is_figure(*b) {
             return Number { size: i, value: n };
         }
-        n = 10 * n + digit(s[i]);
-        i += 1;
+        n = 10 * n + digit(*b);
     }
-    Number { size: i, value: n }
+    Number {
+        size: s.len(),
+        value: n,
+    }
 }
 
 fn read(s: &[u8]) -> Number

@@ -43,14 +43,12 @@ pub fn next(held: usize, piece: &mut [u8], chunk: &[u8], from: usize) -> CutPiec
     ensures { CutsPiece held piece.old chunk.now from result piece.new }
 {
     let mut held = held;
-    let mut i = from;
-    while i < chunk.len() {
+    for i in from..chunk.len() {
         keep_byte(piece, held, chunk[i]);
-        i += 1;
         if BEFORE_LAST <= held {
-            return found(i, 0, true);
+            return found(i + 1, 0, true);
         }
         held += 1;
     }
-    found(i, held, false)
+    found(from.max(chunk.len()), held, false)
 }

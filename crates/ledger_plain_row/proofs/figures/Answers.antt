@@ -1,8 +1,8 @@
 -- `ledger_plain_row::figures` meets its contract. Assumes nothing.
-use mathlib.Core.Path.{sym, ap, ◌∙◌}
+use mathlib.Core.Path.{◌≡◌, sym, ap, ◌∙◌}
 use Prim.Native.Nat.{ℕ, ◌+◌, ◌*◌}
 use native.Mathlib.Omega.{arith}
-use lib.ListN.{get_or}
+use lib.ListN.{length, get_or}
 use borrow.Author.Tests.{not-true, not-false}
 use Rattle.ledger_plain_row.proofs.Laws.{run_fits, run_full, run_stop, run_more, run_end, figure_most}
 use Rattle.ledger_plain_row.proofs.figures.Goals as goal
@@ -46,4 +46,8 @@ loop-i-preserved c = let if1 = c.if-i-eq-FIGURES in
     (ap (λ (d : ℕ). 10 * loop.n + d) c.digit.ensures)
 
 pub returns : goal.returns
-returns c = run_end c.args.s.now c.loop-i.n c.loop-i.i c.loop-i.invariant (omega arith)
+returns c =
+    let s = c.args.s.now in
+    let l = c.loop-i in
+    let whole : length s ≡ l.i = omega arith in
+    ap (λ (k : ℕ). record { size = k; value = l.n }) whole ∙ run_end s l.n l.i l.invariant (omega arith)

@@ -79,6 +79,7 @@ fn take(profile: Profile, state: SoFar, line: &mut [u8], chunk: &[u8], out: &mut
     let mut refused = state.refused;
     let mut wrote = 0;
     let mut at = 0;
+    // A loop by hand: `at` moves on by whole lines.
     while at < chunk.len() {
         let cut = line_cut::next(begun, line, chunk, at);
         at = cut.at;

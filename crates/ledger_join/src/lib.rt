@@ -379,6 +379,7 @@ fn take_rows(s: Joining, row: &mut [u8], chunk: &[u8], out: &mut [u8], text: &mu
     let mut wrote = 0;
     let mut i = 0;
     let mut k = spell(text, s.loads + s.refusals);
+    // A loop by hand: `i` moves on by as many bytes as are taken at once.
     while i < chunk.len() {
         let before = state.loads + state.refusals;
         let taken = take_some(state, row, &chunk[i..], &text[..k], out, wrote);

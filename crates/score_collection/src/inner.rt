@@ -90,6 +90,7 @@ pub fn take(gathered: Gathered, line: &mut [u8], chunk: &[u8], expected: &[u32; 
     let mut begun = gathered.begun;
     let mut sum = gathered.sum;
     let mut at = 0;
+    // A loop by hand: `at` moves on by whole lines.
     while at < chunk.len() {
         let cut = line_cut::next(begun, line, chunk, at);
         at = cut.at;

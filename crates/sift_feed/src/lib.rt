@@ -43,6 +43,7 @@ fn take(
     let mut made_end = 0;
     let mut rows_end = 0;
     let mut at = 0;
+    // A loop by hand: `at` moves on by whole lines.
     while at < chunk.len() {
         let cut = line_cut::next(begun, line, chunk, at);
         at = cut.at;

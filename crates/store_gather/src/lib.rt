@@ -81,6 +81,7 @@ fn take(state: GatheredSoFar, piece: &mut [u8], chunk: &[u8], summary: &mut [u64
     let mut number = state.number;
     let mut refusal = state.refusal;
     let mut at = 0;
+    // A loop by hand: `at` moves on by whole pieces.
     while at < chunk.len() {
         let cut = store_cut::next(held, piece, chunk, at);
         at = cut.at;

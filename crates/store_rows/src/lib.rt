@@ -69,6 +69,7 @@ fn take(state: StoreSoFar, piece: &mut [u8], chunk: &[u8], out: &mut [u8]) -> St
     let mut refused = state.refused;
     let mut wrote = 0;
     let mut at = 0;
+    // A loop by hand: `at` moves on by whole pieces.
     while at < chunk.len() {
         let cut = store_cut::next(held, piece, chunk, at);
         at = cut.at;

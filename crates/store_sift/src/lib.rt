@@ -66,6 +66,7 @@ fn take(
     let mut made_end = 0;
     let mut rows_end = 0;
     let mut at = 0;
+    // A loop by hand: `at` moves on by whole pieces.
     while at < chunk.len() {
         let cut = store_cut::next(held, piece, chunk, at);
         at = cut.at;

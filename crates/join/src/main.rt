@@ -44,8 +44,7 @@ fn read_parts(
     out: &mut [u8],
 ) -> Turn {
     let mut state = ledger_join::start();
-    let mut i = 1;
-    while i < count {
+    for i in 1..count {
         match read_part(rt, i, state, row, chunk, out) {
             Turn::More(next) => {
                 state = next;
@@ -57,7 +56,6 @@ fn read_parts(
                 return Turn::Stopped;
             }
         }
-        i += 1;
     }
     Turn::More(state)
 }

@@ -97,8 +97,7 @@ fn read_files(
     out: &mut [u8],
 ) -> Turn {
     let mut state = state;
-    let mut i = files;
-    while i < count {
+    for i in files..count {
         match read_file(rt, profile, i, state, line, chunk, out) {
             Turn::More(next) => {
                 state = next;
@@ -110,7 +109,6 @@ fn read_files(
                 return Turn::Stopped;
             }
         }
-        i += 1;
     }
     Turn::More(state)
 }

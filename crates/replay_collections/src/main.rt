@@ -41,20 +41,17 @@ fn write_all(rt: &HostRuntime, chunk: &mut [u8]) -> io::Result<()> {
     let mut line = [0u8; line_cut::LINE];
     let mut other = [0u8; line_cut::LINE];
     let mut state = start();
-    let mut more = true;
-    let mut reads: u32 = 0;
-    while more && reads < 1000000 {
-        reads += 1;
+    for _ in 0..1000000 {
         let what = b"replay_collections: standard input";
         match stream_io::read(rt.stderr(), &mut rt.stdin(), chunk, what) {
             Taken::Bytes(n) => {
                 state = each(rt, state, &mut line, &mut other, &chunk[..n])?;
             }
             Taken::End => {
-                more = false;
+                return Ok(());
             }
             Taken::Failed => {
-                more = false;
+                return Ok(());
             }
         }
     }
@@ -69,10 +66,8 @@ fn each(
     bytes: &[u8],
 ) -> io::Result<Both> {
     let mut now = state;
-    let mut i = 0;
-    while i < bytes.len() {
-        now = one(rt, now, line, other, bytes[i])?;
-        i += 1;
+    for byte in bytes {
+        now = one(rt, now, line, other, *byte)?;
     }
     Ok(now)
 }
@@ -100,10 +95,8 @@ fn one(
 fn spaces(rt: &impl Print, state: Both, line: &mut [u8], other: &mut [u8]) -> io::Result<Both> {
     let blank = [b' '; 1000];
     let mut now = state;
-    let mut k: u32 = 0;
-    while k < 1000 {
+    for _ in 0..1000 {
         now = feed(rt, now, line, other, &blank)?;
-        k += 1;
     }
     Ok(now)
 }

@@ -23,15 +23,7 @@ pub(crate) fn put(list: &mut [f64], place: u64, x: f64) {
         list[place as usize] = x;
         return;
     }
-    fill(list, x);
-}
-
-pub(crate) fn fill(list: &mut [f64], x: f64) {
-    let mut i = 0;
-    while i < list.len() {
-        list[i] = x;
-        i += 1;
-    }
+    list.fill(x);
 }
 
 // The shipped weights: the eleven that have a name, then the squares'.
@@ -44,10 +36,8 @@ pub(crate) fn ship(weights: &mut [f64]) {
 }
 
 fn name(named: &[f64; Weight::NAMED], weights: &mut [f64]) {
-    let mut i: usize = 0;
-    while i < Weight::NAMED {
-        put(weights, i as u64, named[i]);
-        i += 1;
+    for (i, x) in named.iter().enumerate() {
+        put(weights, i as u64, *x);
     }
 }
 
@@ -70,10 +60,8 @@ fn mixed(state: u64) -> u64 {
 // All of a list in one number: from 1 on, each double's bits xored in, and mixed.
 pub(crate) fn all(list: &[f64]) -> u64 {
     let mut state: u64 = 1;
-    let mut i = 0;
-    while i < list.len() {
-        state = mixed(state ^ bits(list[i]));
-        i += 1;
+    for x in list {
+        state = mixed(state ^ bits(*x));
     }
     state
 }

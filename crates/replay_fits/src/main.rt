@@ -157,9 +157,9 @@ fn stepped(answer: Stepped) -> Reply {
 
 // Sums and moments of zeros, and the shipped weights.
 fn afresh(sums: &mut [f64], first: &mut [f64], second: &mut [f64], weights: &mut [f64]) -> Reply {
-    lists::fill(sums, 0.0);
-    lists::fill(first, 0.0);
-    lists::fill(second, 0.0);
+    sums.fill(0.0);
+    first.fill(0.0);
+    second.fill(0.0);
     lists::ship(weights);
     Reply::Done
 }

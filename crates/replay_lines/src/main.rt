@@ -187,15 +187,12 @@ fn next(rt: &impl Print, n: u64) -> io::Result<()> {
 
 // How many blanks a text begins with: the position field comes after them.
 fn blanks(text: &[u8]) -> usize {
-    let mut i = 0;
-    while i < text.len() {
-        let b = text[i];
-        if b != b' ' && b != b'\t' && b != b'\r' {
+    for (i, b) in text.iter().enumerate() {
+        if *b != b' ' && *b != b'\t' && *b != b'\r' {
             return i;
         }
-        i += 1;
     }
-    i
+    text.len()
 }
 
 // A space and a code for each square.
@@ -204,10 +201,8 @@ const ROW: usize = 65;
 // The 64 codes from a1 to h8, a hexadecimal digit each.
 fn codes(rt: &impl Print, board: [u8; Square::COUNT]) -> io::Result<()> {
     let mut digits = [b' '; ROW];
-    let mut k = 0;
-    while k < Square::COUNT {
-        digits[k + 1] = hex(board[k]);
-        k += 1;
+    for (k, code) in board.iter().enumerate() {
+        digits[k + 1] = hex(*code);
     }
     write(rt, &digits)
 }

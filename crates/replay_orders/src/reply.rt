@@ -62,15 +62,11 @@ pub(crate) fn captures(
     count: usize,
 ) -> io::Result<()> {
     natural(rt, count as u64)?;
-    let mut i: usize = 0;
-    while i < MOST {
-        if i < count {
-            write(rt, b" ")?;
-            attacker(rt, squares[i], kinds[i])?;
-            write(rt, b" ")?;
-            natural(rt, wide(taken[i]))?;
-        }
-        i += 1;
+    for i in 0..count.min(MOST) {
+        write(rt, b" ")?;
+        attacker(rt, squares[i], kinds[i])?;
+        write(rt, b" ")?;
+        natural(rt, wide(taken[i]))?;
     }
     write(rt, b" ")
 }

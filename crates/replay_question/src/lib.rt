@@ -40,10 +40,8 @@ fn digits(s: &[u8]) -> u64
     ensures { result ≡ digits 0 s.now }
 {
     let mut n: u64 = 0;
-    let mut i = 0;
-    while i < s.len() {
-        n = with_digit(n, s[i]);
-        i += 1;
+    for b in s {
+        n = with_digit(n, *b);
     }
     n
 }
@@ -93,15 +91,12 @@ pub fn position(question: &[u8]) -> &[u8]
     ensures { GivesPosition question.now result.now }
 {
     let mut part = question;
-    let mut i = 0;
-    while i < question.len() {
-        let b = question[i];
-        i += 1;
-        if b == b'/' {
+    for (i, b) in question.iter().enumerate() {
+        if *b == b'/' {
             return part;
         }
-        if b == b' ' {
-            part = &question[i..];
+        if *b == b' ' {
+            part = &question[i + 1..];
         }
     }
     part

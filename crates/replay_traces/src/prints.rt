@@ -1,5 +1,4 @@
 // What is said to a question of traces, on standard output.
-use places::entry::Entry;
 use refusal::Refusal;
 use std::io;
 use trace_counts::Trace;
@@ -24,40 +23,21 @@ fn number(rt: &impl Print, n: i32) -> io::Result<()> {
 
 // A space after each.
 fn numbers(rt: &impl Print, list: &[i32]) -> io::Result<()> {
-    let mut i = 0;
-    while i < list.len() {
-        number(rt, list[i])?;
+    for n in list {
+        number(rt, *n)?;
         write(rt, b" ")?;
-        i += 1;
     }
     Ok(())
 }
 
 fn ones(entries: &[i32]) -> usize {
-    let mut n: usize = 0;
-    let mut i = 0;
-    while i < entries.len() {
-        n = more(n, entries[i]);
-        i += 1;
-    }
-    n
-}
-
-fn more(n: usize, entry: i32) -> usize {
-    if entry == 1 {
-        if n < Entry::COUNT {
-            return n + 1;
-        }
-    }
-    n
+    entries.iter().filter(|entry| **entry == 1).count()
 }
 
 // The place of each 1, a space before it.
 fn places(rt: &impl Print, entries: &[i32]) -> io::Result<()> {
-    let mut i = 0;
-    while i < entries.len() {
-        place(rt, i, entries[i])?;
-        i += 1;
+    for (i, entry) in entries.iter().enumerate() {
+        place(rt, i, *entry)?;
     }
     Ok(())
 }

@@ -109,10 +109,8 @@ fn named(list: &[f64; NAMED]) -> Weights {
 // The state after eleven draws.
 pub(crate) fn after_named(seed: u64) -> u64 {
     let mut state = seed;
-    let mut n: u8 = 0;
-    while n < 11 {
+    for _ in 0..11 {
         state = draw(state);
-        n += 1;
     }
     state
 }
@@ -120,11 +118,9 @@ pub(crate) fn after_named(seed: u64) -> u64 {
 // Weights, a draw each.
 pub(crate) fn squares(kind: u64, from: u64, squares: &mut [f64]) {
     let mut state = from;
-    let mut i = 0;
-    while i < squares.len() {
+    for square in squares.iter_mut() {
         state = draw(state);
-        squares[i] = weight(kind, state);
-        i += 1;
+        *square = weight(kind, state);
     }
 }
 
@@ -149,11 +145,9 @@ fn side(r: u64) -> i32 {
 // The numbers of a trace, a draw each; the state after them comes back.
 pub(crate) fn numbers(seed: u64, numbers: &mut [i32]) -> u64 {
     let mut state = seed;
-    let mut i = 0;
-    while i < numbers.len() {
+    for (i, n) in numbers.iter_mut().enumerate() {
         state = draw(state);
-        numbers[i] = number(i, state);
-        i += 1;
+        *n = number(i, state);
     }
     state
 }
@@ -162,11 +156,9 @@ pub(crate) fn numbers(seed: u64, numbers: &mut [i32]) -> u64 {
 pub(crate) fn entries(from: u64, entries: &mut [i32]) {
     let mut state = draw(from);
     let sparse = state % 8;
-    let mut i = 0;
-    while i < entries.len() {
+    for entry in entries.iter_mut() {
         state = draw(state);
-        entries[i] = one(state, sparse);
-        i += 1;
+        *entry = one(state, sparse);
     }
 }
 
@@ -193,10 +185,8 @@ fn both(list: &[i32], white: usize, black: usize) -> [i32; 2] {
 
 fn mobility(list: &[i32]) -> [i32; MOBILITY] {
     let mut mobility = [0i32; MOBILITY];
-    let mut i = 0;
-    while i < MOBILITY {
-        mobility[i] = at(list, FIRST_MOBILITY + i);
-        i += 1;
+    for (i, n) in mobility.iter_mut().enumerate() {
+        *n = at(list, FIRST_MOBILITY + i);
     }
     mobility
 }

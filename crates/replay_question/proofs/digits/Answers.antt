@@ -4,14 +4,14 @@ use Rattle.replay_question.specs.Question.{digits}
 use Rattle.replay_question.proofs.Folds.{digits_more, digits_end}
 use Rattle.replay_question.proofs.digits.Goals as goal
 
-pub loop-i-preserved : goal.loop-i-preserved
-loop-i-preserved c =
-    let l = c.loop-i in
+pub loop-b-preserved : goal.loop-b-preserved
+loop-b-preserved c =
+    let l = c.loop-b in
     let s = c.args.s.now in
-    (omega arith, digits_more s (digits 0 s) l.i l.n l.invariant.1 (omega arith) c.with_digit-n.result c.with_digit-n.ensures)
+    digits_more s (digits 0 s) l.b-index l.n l.invariant (omega arith) c.with_digit-n.result c.with_digit-n.ensures
 
 pub returns : goal.returns
 returns c =
-    let l = c.loop-i in
+    let l = c.loop-b in
     let s = c.args.s.now in
-    digits_end s (digits 0 s) l.i l.n l.invariant.1 (omega arith)
+    digits_end s (digits 0 s) l.b-index l.n l.invariant (omega arith)

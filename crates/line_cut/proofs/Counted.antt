@@ -2,21 +2,28 @@
 use mathlib.Core.Path.{◌≡◌, refl, sym, ap, ◌∙◌}
 use mathlib.Core.Bool.{Bool, true, false, cond}
 use mathlib.Core.List.{List, [], ◌∷◌, ◌++◌}
-use Prim.Native.Nat.{ℕ, suc, ◌+◌, ◌≤◌}
+use Prim.Native.Nat.{ℕ, suc, ◌+◌, ◌≤◌, ◌<◌}
 use native.Mathlib.Nat.{zero-add}
 use native.Mathlib.Numerals.{add-one}
 use native.Mathlib.Omega.{arith}
 use lib.Dec.{eqb}
-use lib.ListN.{length, drop}
+use lib.ListN.{length, drop, get_or, drop_of_length-le}
+use lib.Seq.{drop-cons}
 use borrow.Author.Tests.{eq-eqb}
-use Rattle.std.specs.List.{count_by}
-use Rattle.std.proofs.lemmas.List.Recursion.{is_count_by}
 use Rattle.line_cut.specs.Lines.{lf, ends}
 use Rattle.line_cut.specs.Cut.{Open, Found, found_later, pushed, line_emptied, bare_of, find_of}
 
 pub ends_one : (b : ℕ) → b ≡ 10 → 1 ≡ ends (b ∷ [])
 unfolding ends
 ends_one b e = rw (eq-eqb b 10 e)
+
+ends_cons : (b : ℕ) (s : List ℕ) → ends (b ∷ s) ≡ ends (b ∷ []) + ends s
+unfolding ends
+ends_cons b s = go (eqb b lf)
+  where
+    go : (t : Bool) → cond t (ends s + 1) (ends s) ≡ cond t (0 + 1) 0 + ends s
+    go true = omega arith
+    go false = omega arith
 
 pub ends_le : (s : List ℕ) → ends s ≤ length s
 unfolding ends
@@ -27,14 +34,17 @@ ends_le (b ∷ s) = go (eqb b lf) (ends_le s)
     go true h = omega arith
     go false h = omega arith
 
--- as the library counts them
-pub ends_counted : (s : List ℕ) → ends s ≡ count_by (λ b. eqb b lf) s
+module _ (s : List ℕ) (i : ℕ) (h : i < length s) where
+  ends_at : ends (drop i s) ≡ ends (get_or s i 0 ∷ []) + ends (drop (i + 1) s)
+  ends_at = ap ends (drop-cons s i 0 h) ∙ ends_cons (get_or s i 0) (drop (suc i) s) ∙ ap (λ (k : ℕ). ends (get_or s i 0 ∷ []) + ends (drop k s)) (sym (add-one i))
+
+  -- one turn of the count
+  pub ends_turn : (n k : ℕ) → n + ends (drop i s) ≡ ends s → k ≡ ends (get_or s i 0 ∷ []) → n + k + ends (drop (i + 1) s) ≡ ends s
+  ends_turn n k e q = let a = ends_at in omega arith
+
+pub ends_last : (s : List ℕ) (n i : ℕ) → length s ≤ i → n + ends (drop i s) ≡ ends s → n ≡ ends s
 unfolding ends
-ends_counted = is_count_by ends (λ b. eqb b lf) refl (λ b s. go (eqb b lf) s)
-  where
-    go : (t : Bool) (s : List ℕ) → cond t (ends s + 1) (ends s) ≡ cond t (1 + ends s) (ends s)
-    go true s = omega arith
-    go false s = refl
+ends_last s n i h e = let a : ends (drop i s) ≡ 0 = ap ends (drop_of_length-le s h) in omega arith
 
 -- ---- one text after another
 pub ends_append : (s t : List ℕ) → ends (s ++ t) ≡ ends s + ends t

@@ -1,8 +1,9 @@
 // The lines of a collection, found in pieces of it: whoever reads lines asks for the next line's end, and does with the line what it does.
 #![tactic(auto)]
 
-ghost use Rattle.std.specs.Prelude.{◌≡◌};
+ghost use Rattle.std.specs.Prelude.{◌≡◌, [], ◌∷◌};
 ghost use Rattle.line_cut.specs.Cut.{kept_byte, one_more_rule, bare_of};
+ghost use Rattle.line_cut.specs.Lines.{ends as endsOf};
 ghost use Rattle.line_cut.specs.Promises.{EndsIn, CutsNext};
 
 // The bytes of a line that are kept, which is as many as a line may have.
@@ -28,11 +29,21 @@ pub struct Cut {
 }
 
 // How many lines end in a chunk.
-#[tactic(auto, using(crate::proofs::Counted::ends_counted))]
 pub fn ends(chunk: &[u8]) -> usize
     ensures { EndsIn chunk.now result }
 {
-    chunk.iter().filter(|byte| **byte == b'\n').count()
+    let mut n = 0;
+    for byte in chunk {
+        n += is_end(*byte);
+    }
+    n
+}
+
+#[tactic(auto, unfolding(crate::specs::Lines::ends))]
+fn is_end(byte: u8) -> usize
+    ensures { result ≡ endsOf (byte ∷ []) }
+{
+    if byte == b'\n' { 1 } else { 0 }
 }
 
 // The length of a line without the CR before its LF.

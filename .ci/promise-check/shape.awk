@@ -177,13 +177,14 @@ function definition_names(item, name,    text, group, n, i, word) {
     return n - 1
 }
 
-function record_names(item, name,    text, word, n, i, names, count, implicit) {
+function record_names(item, name,    text, word, n, i, names, count, implicit, depth) {
     text = signature[item]
     if (!match(text, / where( |$)/)) return 0
     body_of_definition = substr(text, RSTART + RLENGTH)
     n = term_words(substr(text, 1, RSTART), word)
     for (i = 1; i <= n; i++) {
-        if (word[i] ~ /^[({]$/) { names = 1; implicit = word[i] == "{" }
+        if (word[i] ~ /^[({]$/) { if (++depth == 1) { names = 1; implicit = word[i] == "{" } }
+        else if (word[i] ~ /^[)}]$/) depth--
         else if (word[i] == ":") names = 0
         else if (names && !implicit) name[++count] = word[i]
     }

@@ -10,8 +10,10 @@ use Rattle.abi.specs.Promises.{EvalsEnding, EvalsMaterial, Evals, PieceAttacks, 
 use Rattle.line.specs.declared.Part.{Part}
 use Rattle.abi_codes.specs.declared.Code.{Code}
 use Rattle.abi_states.specs.declared.State.{State as Stated}
-use Rattle.line_parse.specs.declared.Read.{Read}
 use Rattle.abi.specs.declared.lines.Line.{Line}
+use Rattle.std.specs.Prelude.{Result}
+use Rattle.refusal.specs.declared.Refusal.{Refusal}
+use Rattle.position.specs.declared.State.{State}
 
 -- ---- scores
 pub eval_ending : (bitboards board : List ℕ) (state : Stated) (verdict : ℕ) (r s : Code) (v w : ℕ)
@@ -62,7 +64,7 @@ pub read_line : (line bitboards board : List ℕ) (r s : Line) (b b' y y' : List
     → (r ≡ s) × (b ≡ b') × (y ≡ y')
 read_line line bitboards board r s b b' y y' p q = (one p.said q.said, one p.boards q.boards, one p.bytes q.bytes)
 
-pub line_of : (read : Read) (r s : Line) → GivesLine read r → GivesLine read s → r ≡ s
+pub line_of : (read : Result (State × ℕ) Refusal) (r s : Line) → GivesLine read r → GivesLine read s → r ≡ s
 line_of read r s = one
 
 abbrev part : ℕ → ℕ → Part

@@ -1,6 +1,6 @@
 -- What each door promises, for all inputs: the number that comes back and every lent number afterwards. Definitions only.
-use Rattle.std.specs.Prelude.{◌≡◌, Bool, List, [], ℕ, ℤ, length}
-use Rattle.refusal.specs.Answer.{Answer, given, refused}
+use Rattle.std.specs.Prelude.{◌≡◌, Bool, List, [], ℕ, ℤ, length, Result}
+use Rattle.refusal.specs.Answer.{Answer, given, refused, answered}
 use Rattle.chess.specs.Named.{white}
 use Rattle.position.specs.Checked.{of_side}
 use Rattle.position.specs.declared.State.{State}
@@ -11,8 +11,7 @@ use Rattle.exchange.specs.Answers.{see_of}
 use Rattle.line_parse.specs.Line.{Line}
 use Rattle.line.specs.Field.{field_of, start_of}
 use Rattle.line.specs.declared.Part.{Part}
-use Rattle.line_parse.specs.Promises.{paper, by_value, board_after}
-use Rattle.line_parse.specs.declared.Read.{Read as LineRead}
+use Rattle.line_parse.specs.Promises.{by_value, board_after}
 use Rattle.line.specs.Promises.{read_of, bitboards_after}
 use Rattle.score.specs.Score.{eval_of}
 use Rattle.score_verdict.specs.Verdict.{ending_of}
@@ -25,6 +24,7 @@ use Rattle.exchange_start.specs.declared.Mode.{Mode}
 use Rattle.abi_modes.specs.Modes.{in_mode}
 use Rattle.abi_states.specs.States.{state_taken, state_told}
 use Rattle.abi_states.specs.declared.State.{State as Stated}
+use Rattle.refusal.specs.declared.Refusal.{Refusal}
 
 -- ---- scores
 abbrev pub EvalsEnding : List ℕ → List ℕ → Stated → ℕ → Code → ℕ → Type 0
@@ -75,8 +75,8 @@ abbrev pub line_record : Answer (State × ℕ) → Read
 line_record (given p) = record { code = code 0 []; state = state_told p.0; half = p.1 }
 line_record (refused n v) = record { code = code n v; state = state_told (of_side white); half = 0 }
 
-abbrev pub GivesLine : LineRead → Read → Type 0
-GivesLine read r = r ≡ line_record (paper read)
+abbrev pub GivesLine : Result (State × ℕ) Refusal → Read → Type 0
+GivesLine read r = r ≡ line_record (answered read)
 
 -- whatever the line is said to be
 pub record ReadsSaid (a : Answer Line) (bitboards board : List ℕ) (r : Read) (bitboards' board' : List ℕ) : Type 0 where

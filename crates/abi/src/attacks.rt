@@ -4,8 +4,6 @@ ghost use Rattle.abi.specs.Promises.{PieceAttacks, AttacksTo, IsAttacked, IsChec
 use crate::GIVEN;
 use abi_codes::{Code, refused};
 use abi_states::{State, taken};
-use attack::Found;
-use attack_to::Told;
 
 // The squares that a piece attacks: SHAPE, SQUARE.
 pub fn chess_piece_attacks(piece: u8, square: u8, occupied: u64, squares: &mut u64) -> Code
@@ -13,8 +11,8 @@ pub fn chess_piece_attacks(piece: u8, square: u8, occupied: u64, squares: &mut u
 {
     let answer = attack::piece_attacks(piece, square, occupied);
     match answer {
-        Found::Refused(refusal) => refused(refusal),
-        Found::Squares(b) => {
+        Err(refusal) => refused(refusal),
+        Ok(b) => {
             *squares = b;
             GIVEN
         }
@@ -34,8 +32,8 @@ pub fn chess_attacks_to(
 {
     let answer = attack_to::attacks_to(bitboards, board, taken(state), square, occupied);
     match answer {
-        Found::Refused(refusal) => refused(refusal),
-        Found::Squares(b) => {
+        Err(refusal) => refused(refusal),
+        Ok(b) => {
             *squares = b;
             GIVEN
         }
@@ -55,8 +53,8 @@ pub fn chess_is_attacked(
 {
     let answer = attack_to::is_attacked(bitboards, board, taken(state), square, color);
     match answer {
-        Told::Refused(refusal) => refused(refusal),
-        Told::Is(is) => {
+        Err(refusal) => refused(refusal),
+        Ok(is) => {
             *attacked = is;
             GIVEN
         }
@@ -75,8 +73,8 @@ pub fn chess_is_check(
 {
     let answer = attack_to::is_check(bitboards, board, taken(state), color);
     match answer {
-        Told::Refused(refusal) => refused(refusal),
-        Told::Is(is) => {
+        Err(refusal) => refused(refusal),
+        Ok(is) => {
             *check = is;
             GIVEN
         }

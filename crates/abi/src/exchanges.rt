@@ -3,11 +3,9 @@ ghost use Rattle.abi.specs.Promises.{Lvp, SeeIn, See};
 
 use crate::GIVEN;
 use abi_codes::{Code, refused};
-use abi_modes::{Named, mode_of};
+use abi_modes::mode_of;
 use abi_states::{State, taken};
 use chess::kind::Kind;
-use exchange::Exchanged;
-use exchange_least::Least;
 use exchange_start::Mode;
 
 // Whether there is an attacker of the colour, in `attacks` and in `occupied`, and the square and kind of the least in the order; 0 beside none:
@@ -36,14 +34,14 @@ pub fn chess_lvp(
         occupied,
     );
     match answer {
-        Least::Refused(refusal) => refused(refusal),
-        Least::Nobody => {
+        Err(refusal) => refused(refusal),
+        Ok(None) => {
             *found = false;
             *square = 0;
             *kind = 0;
             GIVEN
         }
-        Least::At(s, k) => {
+        Ok(Some((s, k))) => {
             *found = true;
             *square = s;
             *kind = k;
@@ -67,8 +65,8 @@ fn see(
 {
     let answer = exchange::see(mode, bitboards, board, taken(state), order, from, to);
     match answer {
-        Exchanged::Refused(refusal) => refused(refusal),
-        Exchanged::Worth(z) => {
+        Err(refusal) => refused(refusal),
+        Ok(z) => {
             *worth = z;
             GIVEN
         }
@@ -91,7 +89,7 @@ pub fn chess_see(
 {
     let named = mode_of(mode);
     match named {
-        Named::Refused(refusal) => refused(refusal),
-        Named::In(mode) => see(mode, bitboards, board, state, order, from, to, worth),
+        Err(refusal) => refused(refusal),
+        Ok(mode) => see(mode, bitboards, board, state, order, from, to, worth),
     }
 }

@@ -6,8 +6,8 @@ use abi_codes::{Code, refused};
 use abi_states::{State, given};
 use chess::color::WHITE;
 use line::Part;
-use line_parse::Read;
 use position::of_side;
+use refusal::Refusal;
 
 // What a reader says beside the boards: 0, the state and the half points; or a refusal, and a state and half points that say nothing.
 #[repr(C)]
@@ -19,16 +19,16 @@ pub struct Line {
 }
 
 // No door: for whatever reader, of lines or of records.
-pub fn line_of(read: Read) -> Line
+pub fn line_of(read: Result<(position::State, u8), Refusal>) -> Line
     ensures { GivesLine read result }
 {
     match read {
-        Read::Refused(refusal) => Line {
+        Err(refusal) => Line {
             code: refused(refusal),
             state: given(of_side(WHITE)),
             half: 0,
         },
-        Read::Position(state, half) => Line {
+        Ok((state, half)) => Line {
             code: GIVEN,
             state: given(state),
             half,

@@ -5,8 +5,7 @@ use crate::GIVEN;
 use abi_codes::{Code, refused};
 use abi_states::{State, taken};
 use score::Scored;
-use score_material::Material;
-use score_verdict::{Ending, Verdict};
+use score_verdict::Verdict;
 
 // Verdicts as numbers; none where there is a score.
 pub const NONE: u8 = 0;
@@ -23,13 +22,13 @@ pub fn chess_eval_ending(bitboards: &[u64], board: &[u8], state: State, verdict:
 {
     let answer = score_verdict::eval_ending(bitboards, board, taken(state));
     match answer {
-        Ending::Refused(refusal) => refused(refusal),
-        Ending::Is(is) => {
+        Err(refusal) => refused(refusal),
+        Ok(is) => {
             match is {
-                Verdict::Lost => *verdict = LOST,
-                Verdict::Won => *verdict = WON,
-                Verdict::Drawn => *verdict = DRAWN,
-                Verdict::None => *verdict = NONE,
+                Some(Verdict::Lost) => *verdict = LOST,
+                Some(Verdict::Won) => *verdict = WON,
+                Some(Verdict::Drawn) => *verdict = DRAWN,
+                None => *verdict = NONE,
             }
             GIVEN
         }
@@ -48,8 +47,8 @@ pub fn chess_eval_material(
 {
     let answer = score_material::eval_material(bitboards, board, taken(state), color);
     match answer {
-        Material::Refused(refusal) => refused(refusal),
-        Material::Is(z) => {
+        Err(refusal) => refused(refusal),
+        Ok(z) => {
             *material = z;
             GIVEN
         }
@@ -68,23 +67,23 @@ pub fn chess_eval(
 {
     let answer = score::eval(bitboards, board, taken(state));
     match answer {
-        Scored::Refused(refusal) => refused(refusal),
-        Scored::Lost => {
+        Err(refusal) => refused(refusal),
+        Ok(Scored::Lost) => {
             *verdict = LOST;
             *score = 0;
             GIVEN
         }
-        Scored::Won => {
+        Ok(Scored::Won) => {
             *verdict = WON;
             *score = 0;
             GIVEN
         }
-        Scored::Drawn => {
+        Ok(Scored::Drawn) => {
             *verdict = DRAWN;
             *score = 0;
             GIVEN
         }
-        Scored::Score(z) => {
+        Ok(Scored::Score(z)) => {
             *verdict = NONE;
             *score = z;
             GIVEN

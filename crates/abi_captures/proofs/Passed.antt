@@ -6,7 +6,6 @@ use lib.ListN.{length}
 use Rattle.refusal.specs.Answer.{Answer, given, refusal_of}
 use Rattle.refusal.specs.declared.Refusal.{Refusal}
 use Rattle.position.specs.declared.State.{State}
-use Rattle.position.specs.declared.Checked.TheVariants.{Fit, Refused}
 use Rattle.exchange_start.specs.declared.Mode.{Mode}
 use Rattle.exchange_start.proofs.Begun.{tells, passes_on}
 use Rattle.exchange_value.specs.Stop.{Stop}
@@ -21,12 +20,11 @@ use Rattle.exchange_told.proofs.Behind.{told_is}
 use Rattle.abi_states.specs.States.{state_taken}
 use Rattle.abi_states.specs.declared.State.{State as Stated}
 use Rattle.abi_modes.specs.Modes.{in_mode, NamesMode}
-use Rattle.abi_modes.specs.declared.Named.{Named}
-use Rattle.abi_modes.specs.declared.Named.TheVariants as N
 use Rattle.abi_modes.proofs.Asked.{in_mode_holds, not_named}
 use Rattle.abi_codes.specs.Codes.{answer_number, lent_after}
 use Rattle.abi_codes.specs.declared.Code.{Code}
 use Rattle.abi_captures.specs.Promises.{stop_number, stop_in, TellsSaid}
+use Rattle.std.specs.Prelude.{Result, Ok, Err}
 
 module _ (mode : Mode) (kinds bbs bytes : List ℕ) (state : Stated) (from to : ℕ) (squares by taken : List ℕ) (count stop : ℕ) (t : Told) (s : State)
     (is : s ≡ state_taken state)
@@ -40,7 +38,7 @@ module _ (mode : Mode) (kinds bbs bytes : List ℕ) (state : Stated) (from to : 
   abbrev cs : List Capture
   cs = captures_of mode kinds bbs bytes (state_taken state) from to
 
-  pub passed_refused : (q : Refusal) → t.checked ≡ Refused q → (r : Code) → r ≡ answer_number (refusal_of {A = List Capture} q)
+  pub passed_refused : (q : Refusal) → t.checked ≡ Err q → (r : Code) → r ≡ answer_number (refusal_of {A = List Capture} q)
       → TellsSaid told squares by taken count stop r squares by taken count stop
   passed_refused q e r h =
       let p : refusal_of q ≡ told = passes_on mode kinds bbs bytes (state_taken state) from to t.checked promise.0 cs q e
@@ -54,7 +52,7 @@ module _ (mode : Mode) (kinds bbs bytes : List ℕ) (state : Stated) (from to : 
         stops = ap (lent_after stop_in stop) p;
       }
 
-  pub passed_told : t.checked ≡ Fit → (r : Code) (n point : ℕ) → r ≡ answer_number (given cs) → n ≡ t.listed.count → point ≡ stop_number (stopped t.stop) n
+  pub passed_told : t.checked ≡ Ok tt → (r : Code) (n point : ℕ) → r ≡ answer_number (given cs) → n ≡ t.listed.count → point ≡ stop_number (stopped t.stop) n
       → TellsSaid told squares by taken count stop r t.listed.from t.listed.kind t.listed.taken n point
   passed_told e r n point h en ep =
       let p : given cs ≡ told = tells mode kinds bbs bytes (state_taken state) from to t.checked promise.0 cs e
@@ -72,9 +70,9 @@ module _ (mode : Mode) (kinds bbs bytes : List ℕ) (state : Stated) (from to : 
       }
 
 -- ---- the mode's number
-module _ (number : ℕ) (m : Named) (names : NamesMode number m) (said : Mode → Answer (List Capture)) where
+module _ (number : ℕ) (m : Result Mode Refusal) (names : NamesMode number m) (said : Mode → Answer (List Capture)) where
   -- no mode: everything lent stays
-  pub not_said : (q : Refusal) → m ≡ N.Refused q → (squares by taken : List ℕ) (count stop : ℕ) (r : Code) → r ≡ answer_number (refusal_of {A = List Capture} q)
+  pub not_said : (q : Refusal) → m ≡ Err q → (squares by taken : List ℕ) (count stop : ℕ) (r : Code) → r ≡ answer_number (refusal_of {A = List Capture} q)
       → TellsSaid (in_mode number said) squares by taken count stop r squares by taken count stop
   not_said q e squares by taken count stop r h =
       let p : refusal_of q ≡ in_mode number said = not_named number m names said q e in
@@ -88,7 +86,7 @@ module _ (number : ℕ) (m : Named) (names : NamesMode number m) (said : Mode �
       }
 
   -- what is told in the mode that was named
-  pub said_in : (mode : Mode) → m ≡ N.In mode → (squares by taken : List ℕ) (count stop : ℕ) (r : Code) (squares' by' taken' : List ℕ) (count' stop' : ℕ)
+  pub said_in : (mode : Mode) → m ≡ Ok mode → (squares by taken : List ℕ) (count stop : ℕ) (r : Code) (squares' by' taken' : List ℕ) (count' stop' : ℕ)
       → TellsSaid (said mode) squares by taken count stop r squares' by' taken' count' stop'
       → TellsSaid (in_mode number said) squares by taken count stop r squares' by' taken' count' stop'
   said_in mode e squares by taken count stop r squares' by' taken' count' stop' h =

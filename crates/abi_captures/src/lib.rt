@@ -8,20 +8,18 @@ ghost use Rattle.exchange_told.specs.Told.{told_of};
 ghost use Rattle.abi_states.specs.States.{state_taken};
 
 use abi_codes::{Code, GIVEN, refused};
-use abi_modes::{Named, mode_of};
+use abi_modes::mode_of;
 use abi_states::State;
 use chess::kind::Kind;
 use exchange::inner::MOST;
 use exchange_start::Mode;
-use exchange_value::inner::Stopped;
-use position::Checked;
 
-fn stop_number(stop: Stopped, count: usize) -> usize
+fn stop_number(stop: Option<usize>, count: usize) -> usize
     ensures { result ≡ stop_number (stopped stop) count }
 {
     match stop {
-        Stopped::PlayedOut => count,
-        Stopped::Before(i) => i,
+        None => count,
+        Some(i) => i,
     }
 }
 
@@ -52,7 +50,7 @@ fn captures(
         to,
     );
     let checked = told.checked;
-    if let Checked::Refused(refusal) = checked {
+    if let Err(refusal) = checked {
         return refused(refusal);
     }
     let listed = told.listed;
@@ -90,8 +88,8 @@ pub fn chess_captures(
 {
     let named = mode_of(mode);
     match named {
-        Named::Refused(refusal) => refused(refusal),
-        Named::In(mode) => captures(
+        Err(refusal) => refused(refusal),
+        Ok(mode) => captures(
             mode, bitboards, board, state, order, from, to, squares, kinds, taken, count, stop,
         ),
     }

@@ -3,7 +3,7 @@
 
 ghost use Rattle.abi_codes.specs.Promises.{GivesCode, GivesFlag};
 
-use refusal::{Beside, Refusal};
+use refusal::Refusal;
 
 // What comes back: 0, or the number of the refusal, and the square that it names.
 #[repr(C)]
@@ -25,13 +25,9 @@ pub const GIVEN: Code = Code {
 pub fn refused(refusal: Refusal) -> Code
     ensures { GivesCode refusal result }
 {
-    let number = refusal.number();
-    match refusal.square() {
-        Beside::Nothing => Code {
-            number,
-            square: NO_SQUARE,
-        },
-        Beside::Square(square) => Code { number, square },
+    Code {
+        number: refusal.number(),
+        square: refusal.square().unwrap_or(NO_SQUARE),
     }
 }
 

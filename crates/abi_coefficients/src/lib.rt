@@ -4,7 +4,6 @@
 ghost use Rattle.abi_coefficients.specs.Promises.{WeighsByTable};
 
 use abi_codes::{Code, GIVEN, refused};
-use fit_coefficient::Weighed;
 
 // What a line lets expect, in points, and its coefficient, by its double, its half points, K and how many lines there are: SHAPE (no lines), RESULT.
 pub fn chess_table_coefficient(
@@ -19,8 +18,8 @@ pub fn chess_table_coefficient(
 {
     let answer = fit_coefficient::weigh(value, half, k, lines);
     match answer {
-        Weighed::Refused(refusal) => refused(refusal),
-        Weighed::Line(share) => {
+        Err(refusal) => refused(refusal),
+        Ok(share) => {
             *expected = share.expected;
             *coefficient = share.coefficient;
             GIVEN

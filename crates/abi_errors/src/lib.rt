@@ -11,8 +11,8 @@ use abi_codes::{Code, GIVEN, flag, refused};
 use line_cut::Begun;
 use refusal::Refusal;
 use score::Scored;
-use score_collection::{Ended, Gathered, Piece, Sum};
-use score_errors::{Added, Totals};
+use score_collection::{Gathered, Sum};
+use score_errors::Totals;
 
 // Lines with a score, lines apart, the sum.
 pub const TOTALS: usize = 3;
@@ -74,13 +74,13 @@ fn state_of(gathered: Gathered) -> [u64; STATE]
 }
 
 // A line's answer: its score, or that it has none, for which `over` stands as well as a verdict would.
-fn answer_of(some: bool, score: i16) -> Scored
+fn answer_of(some: bool, score: i16) -> Result<Scored, Refusal>
     ensures { scoredPaper result ≡ answer_from some score }
 {
     if some {
-        return Scored::Score(score);
+        return Ok(Scored::Score(score));
     }
-    Scored::Refused(Refusal::Score)
+    Err(Refusal::Score)
 }
 
 // The expected result of a score, in millionths of a point.
@@ -103,11 +103,11 @@ pub fn chess_error_add(
     let answer = answer_of(some, score);
     let added = score_errors::add(totals_of(totals), side, answer, half);
     match added {
-        Added::Line(next) => {
+        Ok(next) => {
             *totals = numbers_of(next);
             GIVEN
         }
-        Added::Refused(refusal) => refused(refusal),
+        Err(refusal) => refused(refusal),
     }
 }
 
@@ -117,11 +117,11 @@ pub fn chess_error_feed(state: &mut [u64; STATE], line: &mut [u8], piece: &[u8])
 {
     let fed = score_collection::feed(gathered_of(state), line, piece);
     match fed {
-        Piece::Lines(next) => {
+        Ok(next) => {
             *state = state_of(next);
             GIVEN
         }
-        Piece::Refused(refusal) => refused(refusal),
+        Err(refusal) => refused(refusal),
     }
 }
 
@@ -136,11 +136,11 @@ pub fn chess_error_end(
 {
     let ended = score_collection::end(gathered_of(state), line);
     match ended {
-        Ended::Sum(sums, count) => {
+        Ok((sums, count)) => {
             *totals = numbers_of(sums);
             *lines = count;
             GIVEN
         }
-        Ended::Refused(refusal) => refused(refusal),
+        Err(refusal) => refused(refusal),
     }
 }

@@ -4,8 +4,6 @@ ghost use Rattle.abi_fits.specs.Promises.{AddsGradient, StepsAdam};
 use crate::GIVEN;
 use abi_codes::{Code, refused};
 use abi_records::{COUNTS, MOBILITY};
-use fit_adam::Stepped;
-use fit_gradient::Added;
 
 // A line's part of the gradient, added to 779 sums: SHAPE, TRACE.
 pub fn chess_gradient_add(
@@ -22,8 +20,8 @@ pub fn chess_gradient_add(
     let trace = abi_records::trace_of(counts, mobility, sign, pieces);
     let answer = fit_gradient::add(trace, entries, coefficient, gradient);
     match answer {
-        Added::Refused(refusal) => refused(refusal),
-        Added::Done => GIVEN,
+        Err(refusal) => refused(refusal),
+        Ok(()) => GIVEN,
     }
 }
 
@@ -40,7 +38,7 @@ pub fn chess_adam_step(
 {
     let answer = fit_adam::step(gradient, m, v, weights, iteration, rate);
     match answer {
-        Stepped::Refused(refusal) => refused(refusal),
-        Stepped::Done => GIVEN,
+        Err(refusal) => refused(refusal),
+        Ok(()) => GIVEN,
     }
 }

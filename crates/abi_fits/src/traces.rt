@@ -5,9 +5,6 @@ use crate::GIVEN;
 use abi_codes::{Code, refused};
 use abi_records::{COUNTS, MOBILITY, NAMED};
 use abi_states::{State, taken};
-use position::Checked;
-use trace_double::Doubled;
-use trace_shipped::Written;
 
 // The trace of a position: SHAPE, also where there are not 768 entries, OVERLAP, UNION, BYTEBOARD, RIGHTS, PASSANT, COUNTER.
 pub fn chess_compute_trace(
@@ -24,7 +21,7 @@ pub fn chess_compute_trace(
 {
     let traced = trace::compute_trace(bitboards, board, taken(state), entries);
     let checked = traced.checked;
-    if let Checked::Refused(refusal) = checked {
+    if let Err(refusal) = checked {
         return refused(refusal);
     }
     let trace = traced.trace;
@@ -54,8 +51,8 @@ pub fn chess_trace_eval(
     let trace = abi_records::trace_of(counts, mobility, sign, pieces);
     let answer = trace_double::eval(trace, entries, abi_records::weights_of(weights), squares);
     match answer {
-        Doubled::Refused(refusal) => refused(refusal),
-        Doubled::Is(x) => {
+        Err(refusal) => refused(refusal),
+        Ok(x) => {
             *value = x;
             GIVEN
         }
@@ -67,7 +64,7 @@ pub fn chess_shipped_weights(weights: &mut [f64; NAMED], squares: &mut [f64]) ->
     ensures { Ships weights.old squares.old result weights.new squares.new }
 {
     let written = trace_shipped::square_weights(squares);
-    if let Written::Refused(refusal) = written {
+    if let Err(refusal) = written {
         return refused(refusal);
     }
     *weights = abi_records::named_of(trace_shipped::weights());

@@ -1,30 +1,28 @@
 // The doors for C and Rust to the sums and the summaries of parts, joined. Each gives 0, or a refusal and changes nothing.
 #![tactic(auto)]
 
-ghost use Rattle.std.specs.Prelude.{◌≡◌};
+ghost use Rattle.std.specs.Prelude.{◌≡◌, Ok};
 ghost use Rattle.abi_errors.specs.Numbers.{totals_from};
-ghost use Rattle.score_collection.specs.declared.Ended.TheVariants as E;
 ghost use Rattle.abi_joins.specs.Promises.{ErrorsJoined, SummaryJoined};
 
 use abi_codes::{Code, GIVEN, refused};
-use score_collection::Ended;
+use refusal::Refusal;
 use score_errors::Totals;
-use store_record::Stored;
 
 // Lines with a score, lines apart, the sum.
 pub const TOTALS: usize = 3;
 
-fn sum_of(totals: &[u64; TOTALS], lines: u64) -> Ended
-    ensures { result ≡ E.Sum (totals_from totals.now) lines }
+fn sum_of(totals: &[u64; TOTALS], lines: u64) -> Result<(Totals, u64), Refusal>
+    ensures { result ≡ Ok ((totals_from totals.now), lines) }
 {
-    Ended::Sum(
+    Ok((
         Totals {
             scored: totals[0],
             apart: totals[1],
             sum: totals[2],
         },
         lines,
-    )
+    ))
 }
 
 // The totals of another part and its refused lines, added to those before it: MANY.
@@ -39,12 +37,12 @@ pub fn chess_error_join(
     let before = sum_of(totals, *lines);
     let joined = score_joined::join(before, sum_of(more, others));
     match joined {
-        Ended::Sum(sums, count) => {
+        Ok((sums, count)) => {
             *totals = [sums.scored, sums.apart, sums.sum];
             *lines = count;
             GIVEN
         }
-        Ended::Refused(refusal) => refused(refusal),
+        Err(refusal) => refused(refusal),
     }
 }
 
@@ -54,7 +52,7 @@ pub fn chess_join_summary(summary: &mut [u64], more: &[u64]) -> Code
 {
     let answer = store_joined::join(summary, more);
     match answer {
-        Stored::Done => GIVEN,
-        Stored::Refused(refusal) => refused(refusal),
+        Ok(()) => GIVEN,
+        Err(refusal) => refused(refusal),
     }
 }

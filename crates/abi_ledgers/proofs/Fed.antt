@@ -6,14 +6,14 @@ use lib.ListN.{length}
 use Rattle.ledger_feed.specs.Machine.{Machine}
 use Rattle.line_profile.specs.declared.Profile.TheVariants as P
 use Rattle.ledger_feed.specs.Promises as Rows
-use Rattle.ledger_feed.specs.Promises.{Came, turned, many, full, came, Feeds, fed, feed_of}
+use Rattle.ledger_feed.specs.Promises.{Came, turned, many, full, came, Feeds, feed_of, came_as}
 use Rattle.ledger_feed.specs.declared.SoFar.{SoFar}
-use Rattle.ledger_feed.specs.declared.Fed.{Fed}
-use Rattle.ledger_finish.specs.Promises.{Finishes, finish_paper, finish_of, length_of}
-use Rattle.ledger_finish.specs.declared.Finished.{Finished}
+use Rattle.ledger_finish.specs.Promises.{Finishes, finish_of, length_of}
 use Rattle.abi_ledgers.specs.Ledger.{state_from, state_numbers, came_number, lent_after_came}
 use Rattle.abi_codes.specs.declared.Code.{Code}
 use Rattle.abi_ledgers.specs.Promises.{FeedsLedger, FinishesLedger}
+use Rattle.std.specs.Prelude.{Result}
+use Rattle.ledger_feed.specs.declared.Unwritten.{Unwritten}
 
 -- ---- what comes back by value is a part of what the machine has
 value_code : (a : Came Machine) → came_number (Rows.came_by_value a) ≡ came_number a
@@ -36,14 +36,14 @@ wrote_after old (turned n l) = refl
 wrote_after old many = refl
 wrote_after old full = refl
 
-pub fed_through : (state line chunk out : List ℕ) (wrote : ℕ) {s : SoFar} {r x : Fed} {n : Code} {state' line' out' : List ℕ} {wrote' : ℕ}
-    → s ≡ state_from state → Feeds P.Any s line chunk out r line' out' → r ≡ x → n ≡ came_number (fed x)
-    → state' ≡ lent_after_came (λ (p : SoFar × ℕ). state_numbers p.0) state (fed x) → wrote' ≡ lent_after_came (λ (p : SoFar × ℕ). p.1) wrote (fed x)
+pub fed_through : (state line chunk out : List ℕ) (wrote : ℕ) {s : SoFar} {r x : Result (SoFar × ℕ) Unwritten} {n : Code} {state' line' out' : List ℕ} {wrote' : ℕ}
+    → s ≡ state_from state → Feeds P.Any s line chunk out r line' out' → r ≡ x → n ≡ came_number (came_as x)
+    → state' ≡ lent_after_came (λ (p : SoFar × ℕ). state_numbers p.0) state (came_as x) → wrote' ≡ lent_after_came (λ (p : SoFar × ℕ). p.1) wrote (came_as x)
     → FeedsLedger state line chunk out wrote n state' line' out' wrote'
 fed_through state line chunk out wrote {r = r} {line' = line'} {out' = out'} q f m h g k =
     let a : Came Machine = feed_of P.Any (state_from state) line chunk out in
     let p : Feeds P.Any (state_from state) line chunk out r line' out' = subst (λ (t : SoFar). Feeds P.Any t line chunk out r line' out') q f in
-    let e = sym (ap fed m) ∙ p.answer in
+    let e = sym (ap came_as m) ∙ p.answer in
     record {
       code = h ∙ ap came_number e ∙ value_code a;
       lent = g ∙ ap (lent_after_came (λ (z : SoFar × ℕ). state_numbers z.0) state) e ∙ state_after state a;
@@ -65,14 +65,14 @@ length_after old (turned n l) = refl
 length_after old many = refl
 length_after old full = refl
 
-pub finished_through : (state line out : List ℕ) (wrote : ℕ) {s : SoFar} {r x : Finished} {n : Code} {out' : List ℕ} {wrote' : ℕ}
-    → s ≡ state_from state → Finishes P.Any s line out r out' → r ≡ x → n ≡ came_number (finish_paper x)
-    → wrote' ≡ lent_after_came (λ (n : ℕ). n) wrote (finish_paper x)
+pub finished_through : (state line out : List ℕ) (wrote : ℕ) {s : SoFar} {r x : Result ℕ Unwritten} {n : Code} {out' : List ℕ} {wrote' : ℕ}
+    → s ≡ state_from state → Finishes P.Any s line out r out' → r ≡ x → n ≡ came_number (came_as x)
+    → wrote' ≡ lent_after_came (λ (n : ℕ). n) wrote (came_as x)
     → FinishesLedger state line out wrote n out' wrote'
 finished_through state line out wrote {r = r} {out' = out'} q f m h k =
     let a : Came (List ℕ) = finish_of P.Any (state_from state) line out in
     let p : Finishes P.Any (state_from state) line out r out' = subst (λ (t : SoFar). Finishes P.Any t line out r out') q f in
-    let e = sym (ap finish_paper m) ∙ p.answer in
+    let e = sym (ap came_as m) ∙ p.answer in
     record {
       code = h ∙ ap came_number e ∙ length_code a;
       rows = p.rows;

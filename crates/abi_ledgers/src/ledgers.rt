@@ -2,8 +2,7 @@
 ghost use Rattle.abi_ledgers.specs.Promises.{ReadsState, GivesState, FeedsLedger, FinishesLedger};
 
 use abi_codes::{Code, GIVEN, NO_SQUARE, flag, refused};
-use ledger_feed::{Fed, SoFar};
-use ledger_finish::Finished;
+use ledger_feed::{SoFar, Unwritten};
 use line_profile::Profile;
 
 // Bytes held of the line that has not ended, whether the last was a CR, loaded rows, refused rows.
@@ -61,14 +60,14 @@ pub fn chess_ledger_feed(
 {
     let fed = ledger_feed::feed(Profile::Any, state_of(state), line, chunk, out);
     match fed {
-        Fed::Rows(next, n) => {
+        Ok((next, n)) => {
             *state = numbers_of(next);
             *wrote = n;
             GIVEN
         }
-        Fed::Full => FULL,
-        Fed::Many => MANY,
-        Fed::Refused(refusal) => refused(refusal),
+        Err(Unwritten::Full) => FULL,
+        Err(Unwritten::Many) => MANY,
+        Err(Unwritten::Refused(refusal)) => refused(refusal),
     }
 }
 
@@ -83,12 +82,12 @@ pub fn chess_ledger_finish(
 {
     let finished = ledger_finish::finish(Profile::Any, state_of(state), line, out);
     match finished {
-        Finished::Rows(n) => {
+        Ok(n) => {
             *wrote = n;
             GIVEN
         }
-        Finished::Full => FULL,
-        Finished::Many => MANY,
-        Finished::Refused(refusal) => refused(refusal),
+        Err(Unwritten::Full) => FULL,
+        Err(Unwritten::Many) => MANY,
+        Err(Unwritten::Refused(refusal)) => refused(refusal),
     }
 }

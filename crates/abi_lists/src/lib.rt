@@ -7,11 +7,7 @@ ghost use Rattle.abi_lists.specs.Promises.{EvalsList, ListsTrace, FlattensList, 
 use abi_codes::{Code, refused};
 use abi_records::{COUNTS, MOBILITY, NAMED};
 use abi_states::{State, taken};
-use fit_gradient::Added;
-use position::Checked;
-use trace_double::Doubled;
 use trace_list::BYTES;
-use trace_list_turn::{Flattened, Listed};
 
 // What every door here gives that does not refuse.
 const GIVEN: Code = abi_codes::GIVEN;
@@ -34,8 +30,8 @@ pub fn chess_list_eval(
     let named = abi_records::weights_of(weights);
     let answer = trace_list_double::eval_list(trace, used, list, named, squares);
     match answer {
-        Doubled::Refused(refusal) => refused(refusal),
-        Doubled::Is(x) => {
+        Err(refusal) => refused(refusal),
+        Ok(x) => {
             *value = x;
             GIVEN
         }
@@ -57,8 +53,8 @@ pub fn chess_list_of(
     let trace = abi_records::trace_of(counts, mobility, sign, pieces);
     let answer = trace_list_turn::list_of(trace, entries, list);
     match answer {
-        Listed::Refused(refusal) => refused(refusal),
-        Listed::Used(n) => {
+        Err(refusal) => refused(refusal),
+        Ok(n) => {
             *used = n;
             GIVEN
         }
@@ -80,8 +76,8 @@ pub fn chess_flat_of(
     let trace = abi_records::trace_of(counts, mobility, sign, pieces);
     let answer = trace_list_turn::flat_of(trace, used, list, entries);
     match answer {
-        Flattened::Refused(refusal) => refused(refusal),
-        Flattened::Done => GIVEN,
+        Err(refusal) => refused(refusal),
+        Ok(()) => GIVEN,
     }
 }
 
@@ -101,8 +97,8 @@ pub fn chess_list_add(
     let trace = abi_records::trace_of(counts, mobility, sign, pieces);
     let answer = fit_gradient::add_list(trace, used, list, coefficient, gradient);
     match answer {
-        Added::Refused(refusal) => refused(refusal),
-        Added::Done => GIVEN,
+        Err(refusal) => refused(refusal),
+        Ok(()) => GIVEN,
     }
 }
 
@@ -122,7 +118,7 @@ pub fn chess_compute_list(
 {
     let traced = trace_list_computed::compute_list(bitboards, board, taken(state), list);
     let checked = traced.checked;
-    if let Checked::Refused(refusal) = checked {
+    if let Err(refusal) = checked {
         return refused(refusal);
     }
     let trace = traced.trace;

@@ -10,21 +10,15 @@ const FIRST: u8 = 0;
 
 const SECOND: u8 = 1;
 
-#[derive(Clone, Copy)]
-pub enum Named {
-    In(Mode),
-    Refused(Refusal),
-}
-
 // 0 and 1; any other number is SHAPE.
-pub fn mode_of(number: u8) -> Named
+pub fn mode_of(number: u8) -> Result<Mode, Refusal>
     ensures { NamesMode number result }
 {
     if number == FIRST {
-        return Named::In(Mode::First);
+        return Ok(Mode::First);
     }
     if number == SECOND {
-        return Named::In(Mode::Second);
+        return Ok(Mode::Second);
     }
-    Named::Refused(Refusal::Shape)
+    Err(Refusal::Shape)
 }

@@ -7,15 +7,14 @@ use abi::lines::{Line, line_of};
 use abi_codes::{Code, GIVEN, refused};
 use abi_states::{State, taken};
 use line_profile::Profile;
-use position::Checked;
 
 // Whether a position may come from real play: SHAPE, OVERLAP, UNION, BYTEBOARD, RIGHTS, PASSANT, COUNTER, KINGS, PAWNS, PIECES, RANK, CHECK.
 pub fn chess_profile(bitboards: &[u64], board: &[u8], state: State) -> Code
     ensures { JudgesDoor bitboards.now board.now state result }
 {
     match position_profile::judge(bitboards, board, taken(state)) {
-        Checked::Refused(refusal) => refused(refusal),
-        Checked::Fit => GIVEN,
+        Err(refusal) => refused(refusal),
+        Ok(()) => GIVEN,
     }
 }
 

@@ -6,8 +6,7 @@ ghost use Rattle.abi_samples.specs.Promises.{FeedsSamples, FinishesSamples};
 
 use abi_codes::{Code, GIVEN, refused};
 use abi_ledgers::ledgers::{FULL, MANY, NUMBERS, numbers_of, state_of};
-use sift_feed::Sifted;
-use sift_finish::Finished;
+use ledger_feed::Unwritten;
 use sift_form::Form;
 
 // A sample for each loaded line that ends in the chunk, and the row of each refused one: SHAPE (not 256 bytes for the line), the ledger's own MANY,
@@ -25,15 +24,15 @@ pub fn chess_samples_feed(
 {
     let fed = sift_feed::feed(state_of(state), Form::Sample, line, chunk, samples, rows);
     match fed {
-        Sifted::Lines(next, m, n) => {
+        Ok((next, m, n)) => {
             *state = numbers_of(next);
             *sampled = m;
             *wrote = n;
             GIVEN
         }
-        Sifted::Full => FULL,
-        Sifted::Many => MANY,
-        Sifted::Refused(refusal) => refused(refusal),
+        Err(Unwritten::Full) => FULL,
+        Err(Unwritten::Many) => MANY,
+        Err(Unwritten::Refused(refusal)) => refused(refusal),
     }
 }
 
@@ -51,13 +50,13 @@ pub fn chess_samples_finish(
 {
     let finished = sift_finish::finish(state_of(state), Form::Sample, line, samples, rows);
     match finished {
-        Finished::Rows(m, n) => {
+        Ok((m, n)) => {
             *sampled = m;
             *wrote = n;
             GIVEN
         }
-        Finished::Full => FULL,
-        Finished::Many => MANY,
-        Finished::Refused(refusal) => refused(refusal),
+        Err(Unwritten::Full) => FULL,
+        Err(Unwritten::Many) => MANY,
+        Err(Unwritten::Refused(refusal)) => refused(refusal),
     }
 }

@@ -4,14 +4,14 @@ use mathlib.Core.Bool.{Bool, true, false, cond}
 use Prim.Native.Nat.{ℕ}
 use lib.Dec.{eqb, eqb→eq}
 use Rattle.laws.proofs.Truth.{true_T}
-use Rattle.position_further.specs.declared.Passant.TheVariants.{Nowhere, On}
 use Rattle.abi_states.specs.States.{passant_from, passant_number, state_taken, state_told}
 use Rattle.abi_states.specs.declared.State.{State as Stated}
+use Rattle.std.specs.Prelude.{None, Some}
 
 number_back : (n : ℕ) → passant_number (passant_from n) ≡ n
 number_back n = go (eqb n 255) refl
   where
-    go : (t : Bool) → eqb n 255 ≡ t → passant_number (cond t Nowhere (On n)) ≡ n
+    go : (t : Bool) → eqb n 255 ≡ t → passant_number (cond t None (Some n)) ≡ n
     go true e = sym (eqb→eq n 255 (true_T e))
     go false e = refl
 

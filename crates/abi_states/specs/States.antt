@@ -1,17 +1,15 @@
 -- A position's state as a record for C. Definitions only.
-use Rattle.std.specs.Prelude.{cond, ℕ, eqb}
-use Rattle.position_further.specs.declared.Passant.{Passant}
-use Rattle.position_further.specs.declared.Passant.TheVariants.{Nowhere, On}
+use Rattle.std.specs.Prelude.{cond, ℕ, eqb, Option, None, Some}
 use Rattle.position.specs.declared.State.{State}
 use Rattle.abi_states.specs.declared.State.{State as Stated}
 
 -- 255, which no square has, where there is no en passant square
-abbrev pub passant_from : ℕ → Passant
-passant_from n = cond (eqb n 255) Nowhere (On n)
+abbrev pub passant_from : ℕ → Option ℕ
+passant_from n = cond (eqb n 255) None (Some n)
 
-abbrev pub passant_number : Passant → ℕ
-passant_number Nowhere = 255
-passant_number (On s) = s
+abbrev pub passant_number : Option ℕ → ℕ
+passant_number None = 255
+passant_number (Some s) = s
 
 -- the state that a record says
 unfoldable pub state_taken : Stated → State

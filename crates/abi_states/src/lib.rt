@@ -6,7 +6,7 @@ ghost use Rattle.abi_states.specs.States.{passant_from, passant_number};
 ghost use Rattle.abi_states.specs.Promises.{TakesState, TellsState};
 
 use abi_codes::NO_SQUARE;
-use position_further::{Passant, Rights};
+use position_further::Rights;
 
 // The side, a flag for each right, the en passant square or 255 for none, and the counters: no right can be nonsense, any other number is refused
 // where the position is tested.
@@ -23,21 +23,21 @@ pub struct State {
     pub moves: u16,
 }
 
-fn passant(number: u8) -> Passant
+fn passant(number: u8) -> Option<u8>
     ensures { result ≡ passant_from number }
 {
     if number == NO_SQUARE {
-        return Passant::Nowhere;
+        return None;
     }
-    Passant::On(number)
+    Some(number)
 }
 
-fn number(passant: Passant) -> u8
+fn number(passant: Option<u8>) -> u8
     ensures { result ≡ passant_number passant }
 {
     match passant {
-        Passant::Nowhere => NO_SQUARE,
-        Passant::On(square) => square,
+        None => NO_SQUARE,
+        Some(square) => square,
     }
 }
 

@@ -6,7 +6,6 @@ ghost use Rattle.abi_stores.specs.Promises.{RecordRead, RecordWritten};
 use abi::lines::{Line, line_of};
 use abi_codes::{Code, GIVEN, refused};
 use abi_states::{State, taken};
-use store_record::Stored;
 
 // The position, its state and the half points of a record, by its number from 0: SHAPE, LENGTH, ABSENT, CODE, SIDE, RESULT.
 pub fn chess_read_record(run: &[u8], number: u64, bitboards: &mut [u64], board: &mut [u8]) -> Line
@@ -27,7 +26,7 @@ pub fn chess_write_record(
 {
     let answer = store_record::write_record(bitboards, board, taken(state), half, place);
     match answer {
-        Stored::Done => GIVEN,
-        Stored::Refused(refusal) => refused(refusal),
+        Ok(()) => GIVEN,
+        Err(refusal) => refused(refusal),
     }
 }

@@ -5,7 +5,6 @@ ghost use Rattle.abi_summaries.specs.Promises.{RecordAdded, RecordReplaced};
 
 use abi_codes::{Code, GIVEN, refused};
 use abi_states::{State, taken};
-use store_record::Stored;
 
 // A record more, and its counts: SHAPE, OVERLAP, UNION, BYTEBOARD, RIGHTS, PASSANT, COUNTER, RESULT, LENGTH, MANY, ROOM.
 pub fn chess_add_record(
@@ -20,8 +19,8 @@ pub fn chess_add_record(
 {
     let answer = store_summary::add_record(bitboards, board, taken(state), half, run, summary);
     match answer {
-        Stored::Done => GIVEN,
-        Stored::Refused(refusal) => refused(refusal),
+        Ok(()) => GIVEN,
+        Err(refusal) => refused(refusal),
     }
 }
 
@@ -47,7 +46,7 @@ pub fn chess_replace_record(
         summary,
     );
     match answer {
-        Stored::Done => GIVEN,
-        Stored::Refused(refusal) => refused(refusal),
+        Ok(()) => GIVEN,
+        Err(refusal) => refused(refusal),
     }
 }

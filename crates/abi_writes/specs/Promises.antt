@@ -1,16 +1,14 @@
 -- What the door promises, for all inputs: the number that comes back and everything lent afterwards. Definitions only.
-use Rattle.std.specs.Prelude.{◌≡◌, cond, List, ℕ, eqb}
+use Rattle.std.specs.Prelude.{◌≡◌, cond, List, ℕ, eqb, Option, None, Some}
 use Rattle.line_write.specs.Write.{wanted_text, write_of, buffer_after}
-use Rattle.line_write.specs.declared.Wanted.{Wanted}
-use Rattle.line_write.specs.declared.Wanted.TheVariants.{Nothing, Half}
 use Rattle.abi_codes.specs.Codes.{answer_number, lent_after, as_it_is}
 use Rattle.abi_codes.specs.declared.Code.{Code}
 use Rattle.abi_states.specs.States.{state_taken}
 use Rattle.abi_states.specs.declared.State.{State as Stated}
 
 -- "on request": 0 requests no result, any other number one
-abbrev pub wanted_of : ℕ → ℕ → Wanted
-wanted_of request half = cond (eqb request 0) Nothing (Half half)
+abbrev pub wanted_of : ℕ → ℕ → Option ℕ
+wanted_of request half = cond (eqb request 0) None (Some half)
 
 pub record WritesPosition (bitboards board : List ℕ) (state : Stated) (request half : ℕ) (out : List ℕ) (bytes : ℕ) (r : Code) (out' : List ℕ)
     (bytes' : ℕ) : Type 0 where

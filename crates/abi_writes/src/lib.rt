@@ -6,16 +6,15 @@ ghost use Rattle.abi_writes.specs.Promises.{wanted_of, WritesPosition};
 
 use abi_codes::{Code, GIVEN, refused};
 use abi_states::{State, taken};
-use line_write::{Wanted, Written};
 
 // Request and half points are two numbers here: where no result is requested the half points are not looked at.
-fn wanted(request: u8, half: u8) -> Wanted
+fn wanted(request: u8, half: u8) -> Option<u8>
     ensures { result ≡ wanted_of request half }
 {
     if request == 0 {
-        return Wanted::Nothing;
+        return None;
     }
-    Wanted::Half(half)
+    Some(half)
 }
 
 // The text of a position at the front of `out`, with `;` and a result where `request` is not 0; how many bytes it has: SHAPE, OVERLAP, UNION,
@@ -32,8 +31,8 @@ pub fn chess_write_line(
     ensures { WritesPosition bitboards.now board.now state request half out.old length.old result out.new length.new }
 {
     match line_write::write_line(bitboards, board, taken(state), wanted(request, half), out) {
-        Written::Refused(refusal) => refused(refusal),
-        Written::Bytes(n) => {
+        Err(refusal) => refused(refusal),
+        Ok(n) => {
             *length = n;
             GIVEN
         }

@@ -1,24 +1,15 @@
 -- Each public function is determined by its promise: two results that it allows are equal. Assumes nothing.
-use mathlib.Core.Path.{◌≡◌, refl, ap}
+use mathlib.Core.Path.{◌≡◌}
 use mathlib.Core.List.{List}
 use Prim.Native.Nat.{ℕ}
-use Rattle.refusal.proofs.Paper.{one, retract, read_back_rule, number_back}
-use Rattle.attack.specs.Answers.{found}
+use Rattle.refusal.proofs.Paper.{one, answered_same}
 use Rattle.attack.specs.Promises.{PieceAttacks, Other, Standing, Occupied, AttacksWith, AttacksFrom}
-use Rattle.attack.specs.declared.Found.{Found}
-use Rattle.attack.specs.declared.Found.TheVariants as F
-
--- ---- answers that read the same are one
-found_back : (r : Found) → read_back_rule F.Squares F.Refused (found r) ≡ r
-found_back (F.Squares b) = refl
-found_back (F.Refused q) = ap F.Refused (number_back q)
-
-pub found_one : (r s : Found) → found r ≡ found s → r ≡ s
-found_one = retract found (read_back_rule F.Squares F.Refused) found_back
+use Rattle.std.specs.Prelude.{Result}
+use Rattle.refusal.specs.declared.Refusal.{Refusal}
 
 -- ---- the door
-pub piece_attacks : (piece square occ : ℕ) (r s : Found) → PieceAttacks piece square occ r → PieceAttacks piece square occ s → r ≡ s
-piece_attacks piece square occ r s p q = found_one r s (one p q)
+pub piece_attacks : (piece square occ : ℕ) (r s : Result ℕ Refusal) → PieceAttacks piece square occ r → PieceAttacks piece square occ s → r ≡ s
+piece_attacks piece square occ r s p q = answered_same r s (one p q)
 
 -- ---- the inner functions
 pub inner_other : (colour r s : ℕ) → Other colour r → Other colour s → r ≡ s

@@ -1,13 +1,14 @@
 -- What each function promises, for all inputs. Definitions only.
-use Rattle.std.specs.Prelude.{◌≡◌, List, ℕ}
+use Rattle.std.specs.Prelude.{◌≡◌, List, ℕ, Result}
 use Rattle.attack.specs.Attacks.{standing, occupied, other, attacks}
 use Rattle.attack.specs.PrivateLent.{attacks_with}
-use Rattle.attack.specs.Answers.{piece_attacks_of, found}
-use Rattle.attack.specs.declared.Found.{Found}
+use Rattle.attack.specs.Answers.{piece_attacks_of}
+use Rattle.refusal.specs.declared.Refusal.{Refusal}
+use Rattle.refusal.specs.Answer.{answered}
 
 -- ---- the door
-abbrev pub PieceAttacks : ℕ → ℕ → ℕ → Found → Type 0
-PieceAttacks piece square occupied r = found r ≡ piece_attacks_of piece square occupied
+abbrev pub PieceAttacks : ℕ → ℕ → ℕ → Result ℕ Refusal → Type 0
+PieceAttacks piece square occupied r = answered r ≡ piece_attacks_of piece square occupied
 
 -- ---- the inner functions
 abbrev pub Other : ℕ → ℕ → Type 0

@@ -12,13 +12,6 @@ use refusal::Refusal;
 
 pub mod inner;
 
-// Squares as a bitboard.
-#[derive(Clone, Copy)]
-pub enum Found {
-    Squares(u64),
-    Refused(Refusal),
-}
-
 fn pawn_row(color: u8) -> usize
     ensures { result ≡ pawn_row color }
 {
@@ -40,18 +33,18 @@ fn row(kind: u8, color: u8) -> usize
     }
 }
 
-// The squares that a piece attacks: SHAPE, SQUARE.
-pub fn piece_attacks(piece: u8, square: u8, occupied: u64) -> Found
+// The squares that a piece attacks, as a bitboard: SHAPE, SQUARE.
+pub fn piece_attacks(piece: u8, square: u8, occupied: u64) -> Result<u64, Refusal>
     ensures { PieceAttacks piece square occupied result }
 {
     if piece < chess::piece::FIRST {
-        return Found::Refused(Refusal::Shape);
+        return Err(Refusal::Shape);
     }
     if piece > chess::piece::LAST {
-        return Found::Refused(Refusal::Shape);
+        return Err(Refusal::Shape);
     }
     if square > chess::square::LAST {
-        return Found::Refused(Refusal::Square);
+        return Err(Refusal::Square);
     }
-    Found::Squares(inner::attacks_from(chess::inner::kind(piece), piece % 2, square, occupied))
+    Ok(inner::attacks_from(chess::inner::kind(piece), piece % 2, square, occupied))
 }

@@ -1,14 +1,12 @@
 -- What each door answers, refusals in document 01's order ("`is_check`: 1, 2. Other attacks ..: 1, 2, 4, as far as they take such inputs"), and the
 -- code's answers on the paper. Definitions only.
 use Rattle.std.specs.Prelude.{Bool, List, ℕ}
-use Rattle.refusal.specs.Answer.{Answer, given, refusal_of}
+use Rattle.refusal.specs.Answer.{Answer, given}
 use Rattle.bits.specs.Answers.{on_board}
 use Rattle.position.specs.Checked.{checked}
 use Rattle.position.specs.declared.State.{State}
 use Rattle.attack.specs.Answers.{with_colour}
 use Rattle.attack_to.specs.Attackers.{attackers, is_attacked, is_check}
-use Rattle.attack_to.specs.declared.Told.{Told}
-use Rattle.attack_to.specs.declared.Told.TheVariants as W
 
 abbrev pub attacks_to_of : List ℕ → List ℕ → State → ℕ → ℕ → Answer ℕ
 attacks_to_of bbs bytes state s occ = checked bbs bytes state (on_board s (attackers bbs s occ))
@@ -20,6 +18,3 @@ abbrev pub is_check_of : List ℕ → List ℕ → State → ℕ → Answer Bool
 is_check_of bbs bytes state colour = with_colour colour (checked bbs bytes state (given (is_check bbs colour)))
 
 -- ---- the code's answers on the paper
-abbrev pub told : Told → Answer Bool
-told (W.Is t) = given t
-told (W.Refused r) = refusal_of r

@@ -60,6 +60,12 @@ next_at b s r h e =
     let ne : b ≡ 0 → ⊥ = eqb-false b 0 w.0 in
     (taken b h ne ∙ ap₂ (λ (x y : ℕ). x ∷ squares y) w.1 w.2, subst (λ (x : ℕ). x < 64) (scan_is b ∙ w.1) (scan_lt b h ne))
 
+-- and the rest is a bitboard
+pub next_fits : (b s r : ℕ) → s ∷ r ∷ [] ≡ next_of b → r < 2 ^ 64
+next_fits b s r e =
+    let w = split (eqb b 0) (lowest_of b) (rest_of b) s r e in
+    subst (λ (x : ℕ). x < 2 ^ 64) w.2 (those_lt 64 (λ k. has b k && not (eqb k (lowest_of b))))
+
 -- none comes: there are no squares
 pub next_done : (b : ℕ) → [] ≡ next_of b → squares b ≡ []
 next_done b e = ap squares (eqb-true b 0 (ended (eqb b 0) (lowest_of b) (rest_of b) e)) ∙ squares_none

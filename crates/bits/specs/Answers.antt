@@ -1,15 +1,9 @@
 -- What each function answers, by document 01 ("count, scan, shift and iteration of bitboards"). Definitions only.
-use Rattle.std.specs.Prelude.{Bool, not, cond, ◌||◌, ◌&&◌, List, [], ◌∷◌, ℕ, suc, ◌+◌, ◌-◌, eqb, leb, ltb, ℤ, pos, negsuc}
+use Rattle.std.specs.Prelude.{Bool, not, cond, ◌||◌, ◌&&◌, List, [], ◌∷◌, ℕ, suc, ◌+◌, ◌-◌, eqb, leb, ltb, ℤ, pos, negsuc, Option, None, Some}
 use Rattle.std.specs.Bool.{beq}
-use Rattle.refusal.specs.Answer.{Answer, given, or_refuse, refusal_of}
+use Rattle.refusal.specs.Answer.{Answer, given, or_refuse}
 use Rattle.refusal.specs.declared.Refusal.TheVariants as R
 use Rattle.bits.specs.Bitboard.{has, those, lowest_of}
-use Rattle.bits.specs.declared.Got.{Got}
-use Rattle.bits.specs.declared.Got.TheVariants as G
-use Rattle.bits.specs.declared.Changed.{Changed}
-use Rattle.bits.specs.declared.Changed.TheVariants as C
-use Rattle.bits.specs.declared.Lowest.{Lowest}
-use Rattle.bits.specs.declared.Lowest.TheVariants as L
 
 -- SQUARE: "a square above 63"
 abbrev pub on_board : {A : Type 0} → ℕ → A → Answer A
@@ -52,14 +46,6 @@ abbrev pub next_of : ℕ → List ℕ
 next_of b = cond (eqb b 0) [] (lowest_of b ∷ rest_of b ∷ [])
 
 -- ---- the code's answers on the paper
-abbrev pub got : Got → Answer Bool
-got (G.Is t) = given t
-got (G.Refused r) = refusal_of r
-
-abbrev pub changed : Changed → Answer ℕ
-changed (C.Bitboard b) = given b
-changed (C.Refused r) = refusal_of r
-
-abbrev pub lowest : Lowest → List ℕ
-lowest (L.At s b) = s ∷ b ∷ []
-lowest L.Done = []
+abbrev pub lowest : Option (ℕ × ℕ) → List ℕ
+lowest (Some (s, b)) = s ∷ b ∷ []
+lowest None = []

@@ -1,10 +1,10 @@
 -- What each function promises, for all inputs. Definitions only.
-use Rattle.std.specs.Prelude.{◌≡◌, ◌||◌, List, ℕ, ℤ, get_or}
+use Rattle.std.specs.Prelude.{◌≡◌, ◌||◌, List, ℕ, ℤ, get_or, Result, Option}
 use Rattle.bits.specs.Bitboard.{has, those, how_many, lowest_of}
-use Rattle.bits.specs.Answers.{from_square_of, got_of, set_of, reset_of, toggled_of, shifted_of, next_of, got, changed, lowest}
-use Rattle.bits.specs.declared.Got.{Got}
-use Rattle.bits.specs.declared.Changed.{Changed}
-use Rattle.bits.specs.declared.Lowest.{Lowest}
+use Rattle.bits.specs.Answers.{from_square_of, got_of, set_of, reset_of, toggled_of, shifted_of, next_of, lowest}
+use Rattle.refusal.specs.declared.Refusal.{Refusal}
+use Rattle.refusal.specs.Answer.{answered}
+use mathlib.Core.Bool.{Bool}
 
 abbrev pub Counts : ℕ → ℕ → Type 0
 Counts b r = r ≡ how_many 64 (has b)
@@ -12,25 +12,25 @@ Counts b r = r ≡ how_many 64 (has b)
 abbrev pub Scans : ℕ → ℕ → Type 0
 Scans b r = r ≡ lowest_of b
 
-abbrev pub FromSquare : ℕ → Changed → Type 0
-FromSquare s r = changed r ≡ from_square_of s
+abbrev pub FromSquare : ℕ → Result ℕ Refusal → Type 0
+FromSquare s r = answered r ≡ from_square_of s
 
-abbrev pub Gets : ℕ → ℕ → Got → Type 0
-Gets b s r = got r ≡ got_of b s
+abbrev pub Gets : ℕ → ℕ → Result Bool Refusal → Type 0
+Gets b s r = answered r ≡ got_of b s
 
-abbrev pub Sets : ℕ → ℕ → Changed → Type 0
-Sets b s r = changed r ≡ set_of b s
+abbrev pub Sets : ℕ → ℕ → Result ℕ Refusal → Type 0
+Sets b s r = answered r ≡ set_of b s
 
-abbrev pub Resets : ℕ → ℕ → Changed → Type 0
-Resets b s r = changed r ≡ reset_of b s
+abbrev pub Resets : ℕ → ℕ → Result ℕ Refusal → Type 0
+Resets b s r = answered r ≡ reset_of b s
 
-abbrev pub Toggles : ℕ → ℕ → Changed → Type 0
-Toggles b s r = changed r ≡ toggled_of b s
+abbrev pub Toggles : ℕ → ℕ → Result ℕ Refusal → Type 0
+Toggles b s r = answered r ≡ toggled_of b s
 
-abbrev pub Shifts : ℕ → ℤ → Changed → Type 0
-Shifts b s r = changed r ≡ shifted_of b s
+abbrev pub Shifts : ℕ → ℤ → Result ℕ Refusal → Type 0
+Shifts b s r = answered r ≡ shifted_of b s
 
-abbrev pub Nexts : ℕ → Lowest → Type 0
+abbrev pub Nexts : ℕ → Option (ℕ × ℕ) → Type 0
 Nexts b r = lowest r ≡ next_of b
 
 abbrev pub Unites : ℕ → ℕ → ℕ → Type 0

@@ -7,26 +7,6 @@ use refusal::Refusal;
 
 pub mod inner;
 
-// Whether a square stands there.
-#[derive(Clone, Copy)]
-pub enum Got {
-    Is(bool),
-    Refused(Refusal),
-}
-
-#[derive(Clone, Copy)]
-pub enum Changed {
-    Bitboard(u64),
-    Refused(Refusal),
-}
-
-// The lowest square and the rest.
-#[derive(Clone, Copy)]
-pub enum Lowest {
-    At(u8, u64),
-    Done,
-}
-
 // How many squares stand in b.
 pub fn count(b: u64) -> u32
     ensures { Counts b result }
@@ -42,78 +22,79 @@ pub fn scan(b: u64) -> u32
 }
 
 // Up by s squares, or down where s is below zero; beyond 63 either way: SHAPE.
-pub fn shift(b: u64, s: i8) -> Changed
+pub fn shift(b: u64, s: i8) -> Result<u64, Refusal>
     ensures { Shifts b s result }
 {
     if s >= 0 {
         let n = s as u64;
         if n > chess::square::FARTHEST {
-            return Changed::Refused(Refusal::Shape);
+            return Err(Refusal::Shape);
         }
-        Changed::Bitboard(b << n)
+        Ok(b << n)
     } else {
         // -1 - s never overflows, and is one less than the way down
         let n = (-1 - s) as u64;
         if n > 62 {
-            return Changed::Refused(Refusal::Shape);
+            return Err(Refusal::Shape);
         }
-        Changed::Bitboard(b >> (n + 1))
+        Ok(b >> (n + 1))
     }
 }
 
 // A square above 63 is SQUARE, here and in the four below.
-pub fn from_square(square: u8) -> Changed
+pub fn from_square(square: u8) -> Result<u64, Refusal>
     ensures { FromSquare square result }
 {
     if square > chess::square::LAST {
-        return Changed::Refused(Refusal::Square);
+        return Err(Refusal::Square);
     }
-    Changed::Bitboard(1 << square)
+    Ok(1 << square)
 }
 
-pub fn get(b: u64, square: u8) -> Got
+// Whether a square stands there.
+pub fn get(b: u64, square: u8) -> Result<bool, Refusal>
     ensures { Gets b square result }
 {
     if square > chess::square::LAST {
-        return Got::Refused(Refusal::Square);
+        return Err(Refusal::Square);
     }
-    Got::Is((b >> square) & 1 != 0)
+    Ok((b >> square) & 1 != 0)
 }
 
-pub fn set(b: u64, square: u8) -> Changed
+pub fn set(b: u64, square: u8) -> Result<u64, Refusal>
     ensures { Sets b square result }
 {
     if square > chess::square::LAST {
-        return Changed::Refused(Refusal::Square);
+        return Err(Refusal::Square);
     }
-    Changed::Bitboard(b | 1 << square)
+    Ok(b | 1 << square)
 }
 
-pub fn toggle(b: u64, square: u8) -> Changed
+pub fn toggle(b: u64, square: u8) -> Result<u64, Refusal>
     ensures { Toggles b square result }
 {
     if square > chess::square::LAST {
-        return Changed::Refused(Refusal::Square);
+        return Err(Refusal::Square);
     }
-    Changed::Bitboard(b ^ 1 << square)
+    Ok(b ^ 1 << square)
 }
 
-pub fn reset(b: u64, square: u8) -> Changed
+pub fn reset(b: u64, square: u8) -> Result<u64, Refusal>
     ensures { Resets b square result }
 {
     if square > chess::square::LAST {
-        return Changed::Refused(Refusal::Square);
+        return Err(Refusal::Square);
     }
-    Changed::Bitboard(b & !(1 << square))
+    Ok(b & !(1 << square))
 }
 
 // The lowest square and the rest, or none.
-pub fn next(b: u64) -> Lowest
+pub fn next(b: u64) -> Option<(u8, u64)>
     ensures { Nexts b result }
 {
     if b == 0 {
-        return Lowest::Done;
+        return None;
     }
     let s = u64::trailing_zeros(b);
-    Lowest::At(s as u8, b & !(1 << s))
+    Some((s as u8, b & !(1 << s)))
 }

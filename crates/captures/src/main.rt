@@ -6,11 +6,9 @@
 // standard error; that all is written is said on descriptor 3, last of all.
 #![tactic(auto)]
 
-use captures_asked::Asked;
 use exchange_start::Mode;
-use ledger_feed::{Fed, SoFar};
-use ledger_finish::Finished;
-use stream_io::Taken;
+use ledger_feed::{SoFar, Unwritten};
+use stream_io::{Taken, Turn};
 
 // So many bytes are read at a time: each may end a line, and a line's rows may take 2,048 bytes.
 const CHUNK: usize = 256;
@@ -19,14 +17,6 @@ const OUT: usize = 524288;
 
 // The room for an option. What does not fit is none that the program knows.
 const WORD: usize = 16;
-
-// What follows a read: another one, the end of the input, or nothing more.
-#[derive(Clone, Copy)]
-enum Turn {
-    More(SoFar),
-    End,
-    Stopped,
-}
 
 fn main(rt: HostRuntime) {
     let mut chunk = [0u8; CHUNK];
@@ -46,8 +36,8 @@ fn write_asked(rt: &HostRuntime, chunk: &mut [u8], out: &mut [u8]) -> bool {
     let mut option = [0u8; WORD];
     let n = stream_io::argument(rt, 1, &mut option);
     match captures_asked::read_call(stream_io::argument_count(rt), &option[..n]) {
-        Asked::In(mode) => write_answers(rt, mode, chunk, out),
-        Asked::Unknown => stop(rt, b": there is no such option\n"),
+        Some(mode) => write_answers(rt, mode, chunk, out),
+        None => stop(rt, b": there is no such option\n"),
     }
 }
 
@@ -68,7 +58,7 @@ fn read_to_end(
     line: &mut [u8],
     chunk: &mut [u8],
     out: &mut [u8],
-) -> Turn {
+) -> Turn<SoFar> {
     let mut state = ledger_feed::start();
     let mut turns: u64 = 0;
     while stream::may_go_on(turns) {
@@ -97,7 +87,7 @@ fn read_some(
     line: &mut [u8],
     chunk: &mut [u8],
     out: &mut [u8],
-) -> Turn {
+) -> Turn<SoFar> {
     match stream_io::read(
         rt.stderr(),
         &mut rt.stdin(),
@@ -117,20 +107,20 @@ fn feed(
     line: &mut [u8],
     chunk: &[u8],
     out: &mut [u8],
-) -> Turn {
+) -> Turn<SoFar> {
     match captures_feed::feed(mode, state, line, chunk, out) {
-        Fed::Rows(next, wrote) => {
+        Ok((next, wrote)) => {
             if write(rt, &out[..wrote]) {
                 return Turn::More(next);
             }
         }
-        Fed::Full => {
+        Err(Unwritten::Full) => {
             stop(rt, b": too little room for rows\n");
         }
-        Fed::Many => {
+        Err(Unwritten::Many) => {
             stop(rt, b": more lines than 64 bits count\n");
         }
-        Fed::Refused(_) => {
+        Err(Unwritten::Refused(_)) => {
             stop(rt, b": no line buffer\n");
         }
     }
@@ -139,10 +129,10 @@ fn feed(
 
 fn finish(rt: &HostRuntime, mode: Mode, state: SoFar, line: &[u8], out: &mut [u8]) -> bool {
     match captures_feed::finish(mode, state, line, out) {
-        Finished::Rows(wrote) => write(rt, &out[..wrote]),
-        Finished::Full => stop(rt, b": too little room for the last rows\n"),
-        Finished::Many => stop(rt, b": more lines than 64 bits count\n"),
-        Finished::Refused(_) => stop(rt, b": no line buffer\n"),
+        Ok(wrote) => write(rt, &out[..wrote]),
+        Err(Unwritten::Full) => stop(rt, b": too little room for the last rows\n"),
+        Err(Unwritten::Many) => stop(rt, b": more lines than 64 bits count\n"),
+        Err(Unwritten::Refused(_)) => stop(rt, b": no line buffer\n"),
     }
 }
 

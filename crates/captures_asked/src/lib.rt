@@ -11,25 +11,19 @@ const BARE: usize = 1;
 
 const WITH_OPTION: usize = 2;
 
-// The mode of the exchanges; or a call that there is not.
-#[derive(Clone, Copy)]
-pub enum Asked {
-    In(Mode),
-    Unknown,
-}
-
-// How many arguments there are, and the one after the program's name as a word. What is not known is never taken for a mode.
-pub fn read_call(count: usize, option: &[u8]) -> Asked
+// The mode of the exchanges, by how many arguments there are and the one after the program's name as a word; none for a call that there is not. What is not
+// known is never taken for a mode.
+pub fn read_call(count: usize, option: &[u8]) -> Option<Mode>
     ensures { AsksMode count option.now result }
 {
     if count <= BARE {
-        return Asked::In(Mode::First);
+        return Some(Mode::First);
     }
     if count > WITH_OPTION {
-        return Asked::Unknown;
+        return None;
     }
     if is(option, b"--second") {
-        return Asked::In(Mode::Second);
+        return Some(Mode::Second);
     }
-    Asked::Unknown
+    None
 }

@@ -10,7 +10,6 @@ use Rattle.text_out.specs.Text.{Adds}
 use Rattle.text_out.proofs.Added.{adds_then, adds_length}
 use Rattle.exchange_value.specs.Settled.{settled}
 use Rattle.exchange_value.specs.Answers.{stopped}
-use Rattle.exchange_value.specs.declared.inner.Stopped.{Stopped}
 use Rattle.exchange.specs.Exchange.{Capture}
 use Rattle.exchange.specs.Listed.{column}
 use Rattle.exchange.specs.declared.inner.Listed.{Listed}
@@ -18,6 +17,7 @@ use Rattle.captures_row.specs.Rows.{capture_row, stop_row}
 use Rattle.captures_row.proofs.Fits.{fits_capture, fits_stop}
 use Rattle.captures_close.specs.Answered.{capture_rows}
 use Rattle.captures_close.specs.PrivateColumns.{rows_up_to, listed_rows}
+use Rattle.std.specs.Prelude.{Option}
 
 -- ---- how long they are
 pub length_rows : (i number : ℕ) (from kind taken : List ℕ) → length (rows_up_to i number from kind taken) ≤ 52 * i
@@ -32,7 +32,7 @@ length_rows (suc i) number from kind taken =
       fits_capture number (get_or from i 0) (get_or kind i 0) (get_or taken i 0),
     )
 
-pub fits_listed : (number : ℕ) (l : Listed) (stop : Stopped) → l.count ≤ 32 → 0 + length (listed_rows number l stop) ≤ 2048
+pub fits_listed : (number : ℕ) (l : Listed) (stop : Option ℕ) → l.count ≤ 32 → 0 + length (listed_rows number l stop) ≤ 2048
 fits_listed number l stop few =
     let worth = settled (take l.count l.taken) in
     omega (
@@ -81,7 +81,7 @@ pub all_rows_holds : {number : ℕ} {from kind taken old new : List ℕ} {n i at
 all_rows_holds {number} {from} {kind} {taken} {old} {new} {n} {i} {at} s h = rw (let e : n ≡ i = omega (arith, s.most) in e) s.adds
 
 -- and the stopping point after them
-pub then_stop : (number : ℕ) (l : Listed) (stop : Stopped) (old mid new : List ℕ) (a b : ℕ) → 2048 ≤ length old → l.count ≤ 32
+pub then_stop : (number : ℕ) (l : Listed) (stop : Option ℕ) (old mid new : List ℕ) (a b : ℕ) → 2048 ≤ length old → l.count ≤ 32
     → Adds old 0 (rows_up_to l.count number l.from l.kind l.taken) mid a
     → Adds mid a (stop_row number (stopped stop) (settled (take l.count l.taken))) new b → Adds old 0 (listed_rows number l stop) new b
 then_stop number l stop old mid new a b room few p q =

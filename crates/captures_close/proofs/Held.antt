@@ -7,29 +7,23 @@ use native.Mathlib.Omega.{arith}
 use lib.Dec.{ltb}
 use lib.ListN.{length, take}
 use borrow.Author.Tests.{ltb-false}
-use Rattle.refusal.specs.Answer.{Answer, given, refused, refusal_of}
+use Rattle.refusal.specs.Answer.{Answer, given, refused, refusal_of, answered}
 use Rattle.refusal.specs.Refusals.{number_of, beside_of}
 use Rattle.refusal.specs.declared.Refusal.{Refusal}
 use Rattle.refusal.specs.declared.Refusal.TheVariants as R
 use Rattle.refusal.proofs.Answers.{given_not}
 use Rattle.position_boards.specs.Boards.{bitboards_of}
-use Rattle.position.specs.Promises as Position
 use Rattle.position.specs.declared.State.{State}
-use Rattle.position.specs.declared.Checked.{Checked}
-use Rattle.position.specs.declared.Checked.TheVariants as C
 use Rattle.line_ranks.specs.Promises.{empty_board}
 use Rattle.line_parse.specs.Line.{Line, line_of}
-use Rattle.line_parse.specs.Promises.{paper, by_value, board_after}
-use Rattle.line_parse.specs.declared.Read.TheVariants.{Position, Refused}
+use Rattle.line_parse.specs.Promises.{by_value, board_after}
 use Rattle.line.specs.Promises.{bitboards_after}
 use Rattle.line.specs.declared.inner.Loaded.{Loaded}
 use Rattle.line_held.specs.Held.{said_of, ReadsHeld}
 use Rattle.text_out.specs.Text.{Puts}
-use Rattle.text_out.specs.declared.Placed.{Placed}
 use Rattle.exchange_start.specs.declared.Mode.{Mode}
 use Rattle.exchange_start.proofs.Begun.{knows, tells, passes_on, a_side, from_on}
 use Rattle.exchange_value.specs.Settled.{settled}
-use Rattle.exchange_value.specs.declared.inner.Stopped.{Stopped}
 use Rattle.exchange.specs.Exchange.{Capture, captures_of}
 use Rattle.exchange.specs.Listed.{column}
 use Rattle.exchange.specs.Promises.{HoldsCaptures}
@@ -51,20 +45,21 @@ use Rattle.captures_row.specs.Rows.{stop_row}
 use Rattle.captures_close.specs.Answered.{told_rows, answer_rows, held_answer, AnswersHeld}
 use Rattle.captures_close.specs.PrivateColumns.{rows_up_to, listed_rows, checked_rows, Filled}
 use Rattle.captures_close.proofs.Columns.{rows_of_all_holds}
+use Rattle.std.specs.Prelude.{Result, Ok, Err, Option}
 
 -- ---- what was put
-pub put_fit : (old new : List ℕ) (at number : ℕ) (checked : Checked) (l : Listed) (stop : Stopped) (p : Placed) → checked ≡ C.Fit
+pub put_fit : (old new : List ℕ) (at number : ℕ) (checked : Result Unit Refusal) (l : Listed) (stop : Option ℕ) (p : Option ℕ) → checked ≡ Ok tt
     → Puts old new at (listed_rows number l stop) p
-    → PutsRow old new at (Position.paper checked) (checked_rows number checked l stop) (record { placed = p; loaded = true })
+    → PutsRow old new at (answered checked) (checked_rows number checked l stop) (record { placed = p; loaded = true })
 put_fit old new at number checked l stop p e h =
-    subst (λ (x : Checked). PutsRow old new at (Position.paper x) (checked_rows number x l stop) (record { placed = p; loaded = true })) (sym e)
+    subst (λ (x : Result Unit Refusal). PutsRow old new at (answered x) (checked_rows number x l stop) (record { placed = p; loaded = true })) (sym e)
     (record { puts = h; loaded = refl })
 
-pub put_refused : (old new : List ℕ) (at number : ℕ) (checked : Checked) (l : Listed) (stop : Stopped) (p : Placed) (q : Refusal) → checked ≡ C.Refused q
+pub put_refused : (old new : List ℕ) (at number : ℕ) (checked : Result Unit Refusal) (l : Listed) (stop : Option ℕ) (p : Option ℕ) (q : Refusal) → checked ≡ Err q
     → Puts old new at (refused_row number (number_of q)) p
-    → PutsRow old new at (Position.paper checked) (checked_rows number checked l stop) (record { placed = p; loaded = false })
+    → PutsRow old new at (answered checked) (checked_rows number checked l stop) (record { placed = p; loaded = false })
 put_refused old new at number checked l stop p q e h =
-    subst (λ (x : Checked). PutsRow old new at (Position.paper x) (checked_rows number x l stop) (record { placed = p; loaded = false })) (sym e)
+    subst (λ (x : Result Unit Refusal). PutsRow old new at (answered x) (checked_rows number x l stop) (record { placed = p; loaded = false })) (sym e)
     (record { puts = h; loaded = refl })
 
 -- ---- what the door tells
@@ -75,15 +70,15 @@ module _ (mode : Mode) (kinds bbs bytes : List ℕ) (state : State) (from to : �
   a : Answer (List Capture)
   a = told_of mode kinds bbs bytes state from to
 
-  answered : r.checked ≡ C.Fit → a ≡ given cs
+  goes_through : r.checked ≡ Ok tt → a ≡ given cs
   unfolding cs a
-  answered e = told_is mode kinds bbs bytes state from to ∙ sym (tells mode kinds bbs bytes state from to r.checked promise.0 cs e)
+  goes_through e = told_is mode kinds bbs bytes state from to ∙ sym (tells mode kinds bbs bytes state from to r.checked promise.0 cs e)
 
-  turned_away : (q : Refusal) → r.checked ≡ C.Refused q → a ≡ refusal_of q
+  turned_away : (q : Refusal) → r.checked ≡ Err q → a ≡ refusal_of q
   unfolding cs a
   turned_away q e = told_is mode kinds bbs bytes state from to ∙ sym (passes_on mode kinds bbs bytes state from to r.checked promise.0 cs q e)
 
-  short : r.checked ≡ C.Fit → length cs ≤ 32
+  short : r.checked ≡ Ok tt → length cs ≤ 32
   unfolding cs
   short e =
       let b = knows mode kinds bbs bytes state from to r.checked promise.0 e in
@@ -105,14 +100,14 @@ module _ (mode : Mode) (kinds bbs bytes : List ℕ) (state : State) (from to : �
         values = rw h.3 (omega (arith, h.0, column_length (λ c. c.taken) 32 l));
       }
 
-      go : (x : Checked) → r.checked ≡ x → Filled r.listed
-      go C.Fit e = of cs (short e) (holds cs (ap the_captures (answered e)))
-      go (C.Refused q) e = of [] (omega arith) (holds [] (ap the_captures (turned_away q e)))
+      go : (x : Result Unit Refusal) → r.checked ≡ x → Filled r.listed
+      go (Ok tt) e = of cs (short e) (holds cs (ap the_captures (goes_through e)))
+      go (Err q) e = of [] (omega arith) (holds [] (ap the_captures (turned_away q e)))
 
-  rows_fit : r.checked ≡ C.Fit → (number : ℕ) → listed_rows number r.listed r.stop ≡ told_rows number cs
+  rows_fit : r.checked ≡ Ok tt → (number : ℕ) → listed_rows number r.listed r.stop ≡ told_rows number cs
   unfolding a
   rows_fit e number =
-      let t = ap the_captures (answered e) in
+      let t = ap the_captures (goes_through e) in
       let h = holds cs t in
       let few = short e in
       ap₂ ◌++◌
@@ -126,17 +121,17 @@ module _ (mode : Mode) (kinds bbs bytes : List ℕ) (state : State) (from to : �
   unfolding a
   rows_told number = go r.checked refl
     where
-      go : (x : Checked) → r.checked ≡ x → checked_rows number x r.listed r.stop ≡ answer_rows number a
-      go C.Fit e = rows_fit e number ∙ sym (ap (answer_rows number) (answered e))
-      go (C.Refused q) e = sym (ap (answer_rows number) (turned_away q e))
+      go : (x : Result Unit Refusal) → r.checked ≡ x → checked_rows number x r.listed r.stop ≡ answer_rows number a
+      go (Ok tt) e = rows_fit e number ∙ sym (ap (answer_rows number) (goes_through e))
+      go (Err q) e = sym (ap (answer_rows number) (turned_away q e))
 
-  pub is_told : is_loaded (Position.paper r.checked) ≡ is_loaded (told_of mode kinds bbs bytes state from to)
+  pub is_told : is_loaded (answered r.checked) ≡ is_loaded (told_of mode kinds bbs bytes state from to)
   unfolding a
   is_told = go r.checked refl
     where
-      go : (x : Checked) → r.checked ≡ x → is_loaded (Position.paper x) ≡ is_loaded a
-      go C.Fit e = sym (ap is_loaded (answered e))
-      go (C.Refused q) e = sym (ap is_loaded (turned_away q e))
+      go : (x : Result Unit Refusal) → r.checked ≡ x → is_loaded (answered x) ≡ is_loaded a
+      go (Ok tt) e = sym (ap is_loaded (goes_through e))
+      go (Err q) e = sym (ap is_loaded (turned_away q e))
 
 -- ---- what was read of the line
 abbrev asked : Mode → List ℕ → Answer Line → Answer (List Capture)
@@ -154,11 +149,11 @@ module _ (mode : Mode) (line : List ℕ) (size : ℕ) (read : Loaded) (reads : R
   abbrev Row-of : List ℕ → List ℕ → ℕ → ℕ → Answer (List Capture) → Row → Type 0
   Row-of old new at number said r = PutsRow old new at said (answer_rows number said) r
 
-  pub line_refused : (q : Refusal) → read.answer ≡ Refused q → (old new : List ℕ) (at number : ℕ) (p : Placed)
+  pub line_refused : (q : Refusal) → read.answer ≡ Err q → (old new : List ℕ) (at number : ℕ) (p : Option ℕ)
       → Puts old new at (refused_row number (number_of q)) p → AnswersHeld mode old new at number line size (record { placed = p; loaded = false })
   line_refused q told old new at number p h =
       subst (λ (x : Answer (List Capture)). Row-of old new at number x (record { placed = p; loaded = false }))
-      (go (said_of line size) (sym (ap paper told) ∙ reads.answer) ∙ asked_held mode line size)
+      (go (said_of line size) (sym (ap answered told) ∙ reads.answer) ∙ asked_held mode line size)
       (record { puts = h; loaded = refl })
     where
       go : (s : Answer Line) → refusal_of q ≡ by_value s → refusal_of q ≡ asked mode (take size line) s
@@ -169,16 +164,16 @@ module _ (mode : Mode) (line : List ℕ) (size : ℕ) (read : Loaded) (reads : R
           ap₂ (λ (m : ℕ) (l : List ℕ). refused m l) a b
 
   -- the line is held whole
-  pub line_held : (state : State) (half : ℕ) → read.answer ≡ Position state half → size ≤ length line
-  line_held state half told = go (ltb (length line) size) refl (sym (ap paper told) ∙ reads.answer)
+  pub line_held : (state : State) (half : ℕ) → read.answer ≡ Ok (state, half) → size ≤ length line
+  line_held state half told = go (ltb (length line) size) refl (sym (ap answered told) ∙ reads.answer)
     where
       go : (t : Bool) → ltb (length line) size ≡ t → given (state, half) ≡ by_value (cond t (refusal_of R.Long) (line_of (take size line))) → size ≤ length line
       go true e f = given_not f
       go false e f = ltb-false (length line) size e
 
-  pub line_asked : (state : State) (half : ℕ) → read.answer ≡ Position state half → (question : Asked) → Asks (take size line) question
+  pub line_asked : (state : State) (half : ℕ) → read.answer ≡ Ok (state, half) → (question : Asked) → Asks (take size line) question
       → told_of mode question.order read.bitboards read.board state question.from question.to ≡ held_answer mode line size
-  line_asked state half told question asks = go (said_of line size) (sym (ap paper told) ∙ reads.answer) reads.boards reads.bytes
+  line_asked state half told question asks = go (said_of line size) (sym (ap answered told) ∙ reads.answer) reads.boards reads.bytes
       ∙ asked_held mode line size
     where
       go : (s : Answer Line) → given (state, half) ≡ by_value s → read.bitboards ≡ bitboards_after s (bitboards_of empty_board)
@@ -195,10 +190,10 @@ module _ (mode : Mode) (line : List ℕ) (size : ℕ) (read : Loaded) (reads : R
           ∙ ap₂ (λ (o : List ℕ) (t : State). told_of mode o (bitboards_of l.board) l.board t question.from question.to) k s
           ∙ ap₂ (told_of mode (kinds_in (order_field (take size line))) (bitboards_of l.board) l.board l.state) x y
 
-  pub line_told : (state : State) (half : ℕ) → read.answer ≡ Position state half → (question : Asked) → Asks (take size line) question → (r : Told)
+  pub line_told : (state : State) (half : ℕ) → read.answer ≡ Ok (state, half) → (question : Asked) → Asks (take size line) question → (r : Told)
       → Captures mode question.order read.bitboards read.board state question.from question.to r
       → (old new : List ℕ) (at number : ℕ) (row : Row)
-      → PutsRow old new at (Position.paper r.checked) (checked_rows number r.checked r.listed r.stop) row
+      → PutsRow old new at (answered r.checked) (checked_rows number r.checked r.listed r.stop) row
       → AnswersHeld mode old new at number line size row
   line_told state half told question asks r promise old new at number row h =
       let e = line_asked state half told question asks in

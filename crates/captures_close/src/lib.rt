@@ -3,21 +3,18 @@
 #![tactic(auto)]
 
 ghost use Rattle.std.specs.Prelude.{◌≤◌, length};
-ghost use Rattle.position.specs.Promises.{paper};
 ghost use Rattle.text_out.specs.Text.{Adds, Puts};
 ghost use Rattle.ledger_row.specs.Promises.{PutsRow};
 ghost use Rattle.captures_close.specs.Answered.{AnswersHeld};
 ghost use Rattle.captures_close.specs.PrivateColumns.{rows_up_to, listed_rows, checked_rows, Filled, RoomyRows};
+ghost use Rattle.refusal.specs.Answer.{answered};
 
 use exchange::inner::Listed;
 use exchange_start::Mode;
 use exchange_told::Told;
-use exchange_value::inner::{Stopped, settle};
+use exchange_value::inner::settle;
 use ledger_row::Row;
 use ledger_row::inner::refused;
-use line_parse::Read;
-use position::Checked;
-use text_out::Placed;
 
 // The room that the rows of a line take at most: 32 captures and the stopping point.
 pub const ROOM: usize = 2048;
@@ -36,13 +33,13 @@ fn write_captures(
 {
     let mut at = 0;
     for i in 0..n {
-        at = captures_row::inner::capture(line, from[i], kind[i], taken[i], out, at).or(at);
+        at = captures_row::inner::capture(line, from[i], kind[i], taken[i], out, at).unwrap_or(at);
     }
     at
 }
 
 // All captures, those after the stopping point too, and then the point.
-fn write_listed(out: &mut [u8], line: u64, listed: Listed, stop: Stopped) -> usize
+fn write_listed(out: &mut [u8], line: u64, listed: Listed, stop: Option<usize>) -> usize
     requires { (2048 ≤ length out.old) × Filled listed }
     ensures { Adds out.old 0 (listed_rows line listed stop) out.new result }
 {
@@ -51,11 +48,17 @@ fn write_listed(out: &mut [u8], line: u64, listed: Listed, stop: Stopped) -> usi
     let taken = listed.taken;
     let n = listed.count;
     let end = write_captures(out, line, &from, &kind, &taken, n);
-    captures_row::inner::stop(line, stop, settle(&taken[..n]), out, end).or(end)
+    captures_row::inner::stop(line, stop, settle(&taken[..n]), out, end).unwrap_or(end)
 }
 
 // They are made whole before they are put, so that with too little room nothing changes.
-fn put_listed(line: u64, listed: Listed, stop: Stopped, out: &mut [u8], at: usize) -> Placed
+fn put_listed(
+    line: u64,
+    listed: Listed,
+    stop: Option<usize>,
+    out: &mut [u8],
+    at: usize,
+) -> Option<usize>
     requires { Filled listed }
     ensures { Puts out.old out.new at (listed_rows line listed stop) result }
 {
@@ -66,17 +69,17 @@ fn put_listed(line: u64, listed: Listed, stop: Stopped, out: &mut [u8], at: usiz
 
 fn put_told(line: u64, told: Told, out: &mut [u8], at: usize) -> Row
     requires { Filled told.listed }
-    ensures { PutsRow out.old out.new at (paper told.checked) (checked_rows line told.checked told.listed told.stop) result }
+    ensures { PutsRow out.old out.new at (answered told.checked) (checked_rows line told.checked told.listed told.stop) result }
 {
     let checked = told.checked;
     let listed = told.listed;
     let stop = told.stop;
     match checked {
-        Checked::Fit => Row {
+        Ok(()) => Row {
             placed: put_listed(line, listed, stop, out, at),
             loaded: true,
         },
-        Checked::Refused(refusal) => Row {
+        Err(refusal) => Row {
             placed: refused(line, refusal, out, at),
             loaded: false,
         },
@@ -90,11 +93,11 @@ pub fn close(mode: Mode, line: &[u8], size: usize, number: u64, out: &mut [u8], 
     let read = line_held::read(line, size);
     let answer = read.answer;
     match answer {
-        Read::Refused(refusal) => Row {
+        Err(refusal) => Row {
             placed: refused(number, refusal, out, at),
             loaded: false,
         },
-        Read::Position(state, _) => {
+        Ok((state, _)) => {
             let bitboards = read.bitboards;
             let board = read.board;
             let asked = captures_question::inner::read(&line[..size]);

@@ -10,22 +10,19 @@ use lib.ListN.{length}
 use borrow.Author.Tests.{le-leb, lt-leb, ltb-true, leb-true}
 use Rattle.refusal.specs.declared.Refusal.TheVariants as R
 use Rattle.text_out.specs.Text.{Puts, place, written_of, room_for}
-use Rattle.text_out.specs.declared.Placed.{Placed}
-use Rattle.text_out.specs.declared.Placed.TheVariants.{At, Full}
 use Rattle.line_cut.specs.Lines.{ends}
 use Rattle.exchange_start.specs.declared.Mode.{Mode}
 use Rattle.ledger_feed.specs.Machine.{Machine, at}
-use Rattle.ledger_feed.specs.Promises.{Came, turned_by, many, full, came, fed, came_by_value, line_after, text_after, wrote}
+use Rattle.ledger_feed.specs.Promises.{Came, turned_by, many, full, came, came_by_value, line_after, text_after, wrote, came_as}
 use Rattle.ledger_feed.specs.declared.SoFar.{SoFar}
-use Rattle.ledger_feed.specs.declared.Fed.{Fed}
-use Rattle.ledger_feed.specs.declared.Fed.TheVariants as F
 use Rattle.ledger_feed.proofs.Doors.{written_nothing, fit_shape, fit_many, fit_full, fit_came}
-use Rattle.ledger_finish.specs.Promises.{last_lines, finish_paper, length_of, last_text, last_wrote}
-use Rattle.ledger_finish.specs.declared.Finished.{Finished}
-use Rattle.ledger_finish.specs.declared.Finished.TheVariants as E
+use Rattle.ledger_finish.specs.Promises.{last_lines, length_of, last_text, last_wrote}
 use Rattle.ledger_finish.proofs.Doors.{placed_at, placed_full, unwritten}
 use Rattle.captures_feed.specs.Machine.{run_told, finished_told}
 use Rattle.captures_feed.specs.Promises.{tell_of, TellsQuestions, last_of, TellsLast, ReadyChunk, TakesChunk}
+use Rattle.std.specs.Prelude.{Option, None, Some, Result, Ok, Err}
+use Rattle.ledger_feed.specs.declared.Unwritten.TheVariants as U
+use Rattle.ledger_feed.specs.declared.Unwritten.{Unwritten}
 
 -- ---- feed
 module _ (mode : Mode) (state : SoFar) (line chunk out : List ℕ) where
@@ -39,8 +36,8 @@ module _ (mode : Mode) (state : SoFar) (line chunk out : List ℕ) where
   m = run_told mode (at state line []) chunk
 
   -- an answer of its own, with nothing changed
-  unchanged : (r : Fed) (a : Came Machine) → tell_of mode state line chunk out ≡ a → fed r ≡ came_by_value a → line_after a line ≡ line → text_after a ≡ []
-      → wrote (fed r) ≡ 0
+  unchanged : (r : Result (SoFar × ℕ) Unwritten) (a : Came Machine) → tell_of mode state line chunk out ≡ a → came_as r ≡ came_by_value a → line_after a line ≡ line → text_after a ≡ []
+      → wrote (came_as r) ≡ 0
       → TellsQuestions mode state line chunk out r line out
   unchanged r a e f k t z = record {
     answer = f ∙ sym (ap came_by_value e);
@@ -49,33 +46,33 @@ module _ (mode : Mode) (state : SoFar) (line chunk out : List ℕ) where
     within = omega arith;
   }
 
-  pub feed_shape : (length line ≡ 256 → ⊥) → TellsQuestions mode state line chunk out (F.Refused R.Shape) line out
+  pub feed_shape : (length line ≡ 256 → ⊥) → TellsQuestions mode state line chunk out (Err (U.Refused R.Shape)) line out
   unfolding lines room m
-  feed_shape n = unchanged (F.Refused R.Shape) (turned_by R.Shape) (fit_shape line lines room m n) refl refl refl refl
+  feed_shape n = unchanged (Err (U.Refused R.Shape)) (turned_by R.Shape) (fit_shape line lines room m n) refl refl refl refl
 
   module _ (size : length line ≡ 256) where
-    pub feed_many : ltb (state.loaded + state.refused + ends chunk) (2 ^ 64) ≡ false → TellsQuestions mode state line chunk out F.Many line out
+    pub feed_many : ltb (state.loaded + state.refused + ends chunk) (2 ^ 64) ≡ false → TellsQuestions mode state line chunk out (Err U.Many) line out
     unfolding lines room m
-    feed_many n = unchanged F.Many many (fit_many line lines room m size n) refl refl refl refl
+    feed_many n = unchanged (Err U.Many) many (fit_many line lines room m size n) refl refl refl refl
 
     module _ (counts : ltb (state.loaded + state.refused + ends chunk) (2 ^ 64) ≡ true) where
-      pub feed_full : length out / 2048 < ends chunk → TellsQuestions mode state line chunk out F.Full line out
+      pub feed_full : length out / 2048 < ends chunk → TellsQuestions mode state line chunk out (Err U.Full) line out
       unfolding lines room m
-      feed_full n = unchanged F.Full full (fit_full line lines room m size counts (lt-leb (2048 * ends chunk) (length out) (omega arith))) refl refl refl refl
+      feed_full n = unchanged (Err U.Full) full (fit_full line lines room m size counts (lt-leb (2048 * ends chunk) (length out) (omega arith))) refl refl refl refl
 
       pub feed_ready : ends chunk ≤ length out / 2048 → ReadyChunk state line chunk out
       feed_ready h = record { size = size; counts = ltb-true (state.loaded + state.refused + ends chunk) (2 ^ 64) counts; room = omega arith }
 
-      pub feed_rows : ends chunk ≤ length out / 2048 → (r : Fed) (line' out' : List ℕ) → TakesChunk mode state line chunk out r line' out'
+      pub feed_rows : ends chunk ≤ length out / 2048 → (r : Result (SoFar × ℕ) Unwritten) (line' out' : List ℕ) → TakesChunk mode state line chunk out r line' out'
           → TellsQuestions mode state line chunk out r line' out'
       unfolding lines room m
       feed_rows h r line' out' t =
           let e : tell_of mode state line chunk out ≡ came m = fit_came line lines room m size counts (le-leb (2048 * ends chunk) (length out) (omega arith)) in
           record {
-            answer = ap fed t.answer ∙ sym (ap came_by_value e);
+            answer = ap came_as t.answer ∙ sym (ap came_by_value e);
             kept = t.kept ∙ sym (ap (λ (a : Came Machine). line_after a line) e);
             rows = t.rows ∙ sym (ap (λ (a : Came Machine). written_of out 0 (text_after a)) e);
-            within = subst (λ (q : Fed). wrote (fed q) ≤ length out) (sym t.answer) t.within;
+            within = subst (λ (q : Result (SoFar × ℕ) Unwritten). wrote (came_as q) ≤ length out) (sym t.answer) t.within;
           }
 
 -- ---- finish
@@ -83,7 +80,7 @@ module _ (mode : Mode) (state : SoFar) (line out : List ℕ) where
   text : List ℕ
   text = finished_told mode (at state line [])
 
-  silent : (r : Finished) (a : Came (List ℕ)) → last_of mode state line out ≡ a → finish_paper r ≡ length_of a → last_text a ≡ [] → last_wrote (finish_paper r) ≡ 0
+  silent : (r : Result ℕ Unwritten) (a : Came (List ℕ)) → last_of mode state line out ≡ a → came_as r ≡ length_of a → last_text a ≡ [] → last_wrote (came_as r) ≡ 0
       → (out' : List ℕ) → out' ≡ out → TellsLast mode state line out r out'
   silent r a e f t z out' o = record {
     answer = f ∙ sym (ap length_of e);
@@ -91,28 +88,28 @@ module _ (mode : Mode) (state : SoFar) (line out : List ℕ) where
     within = omega arith;
   }
 
-  pub finish_shape : (length line ≡ 256 → ⊥) → TellsLast mode state line out (E.Refused R.Shape) out
+  pub finish_shape : (length line ≡ 256 → ⊥) → TellsLast mode state line out (Err (U.Refused R.Shape)) out
   unfolding text
-  finish_shape n = silent (E.Refused R.Shape) (turned_by R.Shape) (fit_shape line (last_lines state) (room_for out 0 text) text n) refl refl refl out refl
+  finish_shape n = silent (Err (U.Refused R.Shape)) (turned_by R.Shape) (fit_shape line (last_lines state) (room_for out 0 text) text n) refl refl refl out refl
 
   module _ (size : length line ≡ 256) where
-    pub finish_many : ltb (last_lines state) (2 ^ 64) ≡ false → TellsLast mode state line out E.Many out
+    pub finish_many : ltb (last_lines state) (2 ^ 64) ≡ false → TellsLast mode state line out (Err U.Many) out
     unfolding text
-    finish_many n = silent E.Many many (fit_many line (last_lines state) (room_for out 0 text) text size n) refl refl refl out refl
+    finish_many n = silent (Err U.Many) many (fit_many line (last_lines state) (room_for out 0 text) text size n) refl refl refl out refl
 
     module _ (counts : ltb (last_lines state) (2 ^ 64) ≡ true) (made : List ℕ) (is : made ≡ finished_told mode (at state line [])) (out' : List ℕ)
-        (p : Placed) (put : Puts out out' 0 made p) where
+        (p : Option ℕ) (put : Puts out out' 0 made p) where
       puts : Puts out out' 0 (finished_told mode (at state line [])) p
       puts = subst (λ (t : List ℕ). Puts out out' 0 t p) is put
 
-      pub finish_full : p ≡ Full → TellsLast mode state line out E.Full out'
+      pub finish_full : p ≡ None → TellsLast mode state line out (Err U.Full) out'
       unfolding text
       finish_full told =
           let none = placed_full out 0 text (sym (ap place told) ∙ puts.0) in
-          silent E.Full full (fit_full line (last_lines state) (room_for out 0 text) text size counts none) refl refl refl out'
+          silent (Err U.Full) full (fit_full line (last_lines state) (room_for out 0 text) text size counts none) refl refl refl out'
           (puts.1 ∙ unwritten out 0 text none)
 
-      pub finish_rows : (n : ℕ) → p ≡ At n → TellsLast mode state line out (E.Rows n) out'
+      pub finish_rows : (n : ℕ) → p ≡ Some n → TellsLast mode state line out (Ok n) out'
       unfolding text
       finish_rows n told =
           let one = placed_at out 0 text n (sym (ap place told) ∙ puts.0) in

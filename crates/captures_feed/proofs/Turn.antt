@@ -23,7 +23,6 @@ use Rattle.ledger_row.specs.Row.{is_loaded}
 use Rattle.ledger_feed.specs.Machine.{Machine, Kept, open_of, kept_of, machine_of, at, tally}
 use Rattle.ledger_feed.specs.Promises.{state_of, MakesState}
 use Rattle.ledger_feed.specs.declared.SoFar.{SoFar}
-use Rattle.ledger_feed.specs.declared.Fed.TheVariants as F
 use Rattle.ledger_feed.proofs.Counted.{tally_both}
 use Rattle.ledger_feed.proofs.Turn.{begun_in, rows, rows_same}
 use Rattle.ledger_finish.specs.Promises.{last_lines}
@@ -34,6 +33,7 @@ use Rattle.captures_close.proofs.Room.{held_2048}
 use Rattle.captures_feed.specs.Machine.{close_told, run_told, last_told, finished_told}
 use Rattle.captures_feed.specs.Promises.{kept_in, ReadyLine, CountsQuestion, ReadyChunk, TakesChunk}
 use Rattle.captures_feed.specs.declared.Written.{Written}
+use Rattle.std.specs.Prelude.{Ok}
 
 -- what is alike from a place on is alike from any later one
 beyond : (w k : ℕ) (x y : List ℕ) → w ≤ k → drop w x ≡ drop w y → drop k x ≡ drop k y
@@ -142,14 +142,14 @@ turn_none mode state line chunk out r = record {
 pub turn_end : (mode : Mode) (state : SoFar) (line₀ chunk out₀ line out : List ℕ) (begun : Begun) (w : Written) (i : ℕ) → length chunk ≤ i
     → Turn mode (ran_of mode state line₀ chunk) chunk out₀ line out begun w i
     → (next : SoFar) → MakesState begun.held begun.cr w.loaded w.refused next
-    → TakesChunk mode state line₀ chunk out₀ (F.Rows next w.wrote) line out
+    → TakesChunk mode state line₀ chunk out₀ (Ok (next, w.wrote)) line out
 turn_end mode state line₀ chunk out₀ line out begun w i h t next made =
     let ran = Lines.turn_end (close_told mode) (ran_of mode state line₀ chunk) 256 chunk line begun (kept_in w out) i t.lines h in
     let m : run_told mode (at state line₀ []) chunk ≡ machine_of (record { left = opened begun line; kept = kept_in w out }) = ap machine_of ran in
     let within : w.wrote ≤ length out₀ = omega (arith, t.room) in
     let size : length (take w.wrote out) ≡ w.wrote = length-take-le w.wrote out (omega (arith, t.kept)) in
     record {
-      answer = ap₂ F.Rows (made ∙ sym (ap state_of m)) (sym (ap (λ (x : Machine). length x.text) m ∙ size));
+      answer = ap₂ (λ x n. Ok (x, n)) (made ∙ sym (ap state_of m)) (sym (ap (λ (x : Machine). length x.text) m ∙ size));
       kept = sym (ap (λ (x : Machine). x.line) m);
       rows = as_written out₀ out w.wrote within t.kept (t.rest w.wrote (omega arith)) ∙ sym (ap (λ (x : Machine). written_of out₀ 0 x.text) m);
       within = subst (λ (x : Machine). length x.text ≤ length out₀) (sym m) (omega arith);

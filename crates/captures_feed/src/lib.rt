@@ -12,11 +12,10 @@ ghost use Rattle.captures_feed.specs.Promises.{TellsQuestions, TellsLast, ReadyL
 
 use captures_close::ROOM;
 use exchange_start::Mode;
-use ledger_feed::{Fed, SoFar, countable};
-use ledger_finish::{Finished, unfinished};
+use ledger_feed::{SoFar, Unwritten, countable};
+use ledger_finish::unfinished;
 use line_cut::{Begun, LINE};
 use refusal::Refusal;
-use text_out::Placed;
 
 // The room that the rows of a last question and the counts take at most.
 const LAST: usize = 2132;
@@ -72,7 +71,7 @@ fn counted(
     let row = captures_close::close(mode, line, size, loaded + refused + 1, out, from);
     let placed = row.placed;
     let is_told = row.loaded;
-    let wrote = placed.or(from);
+    let wrote = placed.unwrap_or(from);
     Written {
         loaded: tally(loaded, is_told),
         refused: tally(refused, !is_told),
@@ -81,7 +80,13 @@ fn counted(
 }
 
 // The bytes of a chunk, where there is room for their rows: from line's end to line's end.
-fn take(mode: Mode, state: SoFar, line: &mut [u8], chunk: &[u8], out: &mut [u8]) -> Fed
+fn take(
+    mode: Mode,
+    state: SoFar,
+    line: &mut [u8],
+    chunk: &[u8],
+    out: &mut [u8],
+) -> Result<(SoFar, usize), Unwritten>
     requires { ReadyChunk state line.old chunk.now out.old }
     ensures { TakesChunk mode state line.old chunk.now out.old result line.new out.new }
 {
@@ -103,25 +108,31 @@ fn take(mode: Mode, state: SoFar, line: &mut [u8], chunk: &[u8], out: &mut [u8])
         begun = next;
         written = counted(mode, written, line, cut.ended, cut.size, out);
     }
-    Fed::Rows(
+    Ok((
         made(begun.held, begun.cr, written.loaded, written.refused),
         written.wrote,
-    )
+    ))
 }
 
 // Takes a chunk of any size: rows for each line that ends in it, by its exchange in a mode. It needs 2,048 bytes of room for each of them.
-pub fn feed(mode: Mode, state: SoFar, line: &mut [u8], chunk: &[u8], out: &mut [u8]) -> Fed
+pub fn feed(
+    mode: Mode,
+    state: SoFar,
+    line: &mut [u8],
+    chunk: &[u8],
+    out: &mut [u8],
+) -> Result<(SoFar, usize), Unwritten>
     ensures { TellsQuestions mode state line.old chunk.now out.old result line.new out.new }
 {
     if line.len() != LINE {
-        return Fed::Refused(Refusal::Shape);
+        return Err(Unwritten::Refused(Refusal::Shape));
     }
     let ends = line_cut::ends(chunk);
     if !countable(state.loaded, state.refused, ends) {
-        return Fed::Many;
+        return Err(Unwritten::Many);
     }
     if out.len() / ROOM < ends {
-        return Fed::Full;
+        return Err(Unwritten::Full);
     }
     take(mode, state, line, chunk, out)
 }
@@ -145,24 +156,24 @@ fn last_rows(mode: Mode, state: SoFar, line: &[u8], out: &mut [u8]) -> usize
         out,
         all.wrote,
     )
-    .or(all.wrote)
+    .unwrap_or(all.wrote)
 }
 
 // The end of the input: the rows of a last question with no LF, and the counts.
-pub fn finish(mode: Mode, state: SoFar, line: &[u8], out: &mut [u8]) -> Finished
+pub fn finish(mode: Mode, state: SoFar, line: &[u8], out: &mut [u8]) -> Result<usize, Unwritten>
     ensures { TellsLast mode state line.now out.old result out.new }
 {
     if line.len() != LINE {
-        return Finished::Refused(Refusal::Shape);
+        return Err(Unwritten::Refused(Refusal::Shape));
     }
     if !countable(state.loaded, state.refused, unfinished(state.held)) {
-        return Finished::Many;
+        return Err(Unwritten::Many);
     }
     let mut rows = [0u8; LAST];
     let end = last_rows(mode, state, line, &mut rows);
     let placed = text_out::put(out, 0, &rows[..end]);
     match placed {
-        Placed::At(wrote) => Finished::Rows(wrote),
-        Placed::Full => Finished::Full,
+        Some(wrote) => Ok(wrote),
+        None => Err(Unwritten::Full),
     }
 }

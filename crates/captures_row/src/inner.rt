@@ -6,8 +6,6 @@ ghost use Rattle.captures_row.specs.Rows.{capture_row, stop_row, counts_row};
 ghost use Rattle.captures_row.specs.Promises.{PutsCapture, PutsStop, PutsCounts};
 
 use crate::words::{followed, kind_word, named, put, square, stop_word, worth_word};
-use exchange_value::inner::Stopped;
-use text_out::Placed;
 
 // No row is longer, whatever its numbers.
 const LONGEST: usize = 84;
@@ -29,7 +27,14 @@ fn write_capture(out: &mut [u8], line: u64, from: u8, kind: u8, taken: u64) -> u
 }
 
 // The row of a capture: the square that it is made from, the kind that makes it, the value that it takes.
-pub fn capture(line: u64, from: u8, kind: u8, taken: u16, out: &mut [u8], at: usize) -> Placed
+pub fn capture(
+    line: u64,
+    from: u8,
+    kind: u8,
+    taken: u16,
+    out: &mut [u8],
+    at: usize,
+) -> Option<usize>
     ensures { PutsCapture out.old out.new at line from kind taken result }
 {
     let mut row = [0u8; LONGEST];
@@ -37,7 +42,7 @@ pub fn capture(line: u64, from: u8, kind: u8, taken: u16, out: &mut [u8], at: us
     text_out::put(out, at, &row[..end])
 }
 
-fn write_stop(out: &mut [u8], line: u64, stop: Stopped, worth: i32) -> usize
+fn write_stop(out: &mut [u8], line: u64, stop: Option<usize>, worth: i32) -> usize
     requires { 84 ≤ length out.old }
     ensures { Adds out.old 0 (stop_row line (stopped stop) worth) out.new result }
 {
@@ -48,7 +53,7 @@ fn write_stop(out: &mut [u8], line: u64, stop: Stopped, worth: i32) -> usize
 }
 
 // The row of where an exchange stops and what it is worth.
-pub fn stop(line: u64, stop: Stopped, worth: i32, out: &mut [u8], at: usize) -> Placed
+pub fn stop(line: u64, stop: Option<usize>, worth: i32, out: &mut [u8], at: usize) -> Option<usize>
     ensures { PutsStop out.old out.new at line stop worth result }
 {
     let mut row = [0u8; LONGEST];
@@ -67,7 +72,7 @@ fn write_counts(out: &mut [u8], lines: u64, told: u64, refused: u64) -> usize
 }
 
 // The last row.
-pub fn counts(lines: u64, told: u64, refused: u64, out: &mut [u8], at: usize) -> Placed
+pub fn counts(lines: u64, told: u64, refused: u64, out: &mut [u8], at: usize) -> Option<usize>
     ensures { PutsCounts out.old out.new at lines told refused result }
 {
     let mut row = [0u8; LONGEST];

@@ -4,18 +4,16 @@ ghost use Rattle.text_out.specs.Text.{Adds, decimal_of};
 ghost use Rattle.exchange_value.specs.Answers.{stopped};
 ghost use Rattle.captures_row.specs.Rows.{square_field, kind_field, stop_field, worth_field};
 
-use exchange_value::inner::Stopped;
-
 pub(crate) fn put(out: &mut [u8], at: usize, s: &[u8]) -> usize
     ensures { Adds out.old at s.now out.new result }
 {
-    text_out::put(out, at, s).or(at)
+    text_out::put(out, at, s).unwrap_or(at)
 }
 
 pub(crate) fn number(out: &mut [u8], at: usize, n: u64) -> usize
     ensures { Adds out.old at (decimal_of n) out.new result }
 {
-    text_out::decimal(out, at, n).or(at)
+    text_out::decimal(out, at, n).unwrap_or(at)
 }
 
 // A number and what follows it.
@@ -63,13 +61,13 @@ fn count(n: usize) -> u64
 }
 
 // The point before which the exchange stops.
-pub(crate) fn stop_word(out: &mut [u8], at: usize, stop: Stopped) -> usize
+pub(crate) fn stop_word(out: &mut [u8], at: usize, stop: Option<usize>) -> usize
     requires { at + 25 ≤ length out.old }
     ensures { Adds out.old at (stop_field (stopped stop)) out.new result }
 {
     match stop {
-        Stopped::PlayedOut => put(out, at, b"played out"),
-        Stopped::Before(i) => named(out, at, b"stop ", count(i)),
+        None => put(out, at, b"played out"),
+        Some(i) => named(out, at, b"stop ", count(i)),
     }
 }
 
@@ -84,5 +82,5 @@ pub(crate) fn worth_word(out: &mut [u8], at: usize, worth: i32) -> usize
     ensures { Adds out.old at (worth_field worth) out.new result }
 {
     let end = put(out, at, b" worth ");
-    text_out::signed(out, end, wide(worth)).or(end)
+    text_out::signed(out, end, wide(worth)).unwrap_or(end)
 }

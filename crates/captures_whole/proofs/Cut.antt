@@ -19,14 +19,11 @@ use Rattle.line_cut.specs.Cut.{Open, line_emptied, pushed, bare_of, CutSoFar, ru
 use Rattle.line_cut.proofs.Machine.{run_append, run_told_holds, run_size}
 use Rattle.line_cut.proofs.Counted.{ends_append}
 use Rattle.ledger_feed.specs.Machine.{Machine, Kept, at, open_of, kept_of, machine_of, tally}
-use Rattle.ledger_feed.specs.Promises.{Came, came, fed, came_by_value, line_after, text_after, wrote, state_of}
+use Rattle.ledger_feed.specs.Promises.{Came, came, came_by_value, line_after, text_after, wrote, state_of, came_as}
 use Rattle.ledger_feed.specs.declared.SoFar.{SoFar}
-use Rattle.ledger_feed.specs.declared.Fed.{Fed}
-use Rattle.ledger_feed.specs.declared.Fed.TheVariants as F
 use Rattle.ledger_feed.proofs.Counted.{tally_both}
 use Rattle.ledger_feed.proofs.Doors.{fit_came}
 use Rattle.ledger_finish.specs.Promises.{last_lines, length_of, last_text}
-use Rattle.ledger_finish.specs.declared.Finished.{Finished}
 use Rattle.ledger_whole.proofs.Machines.{lines_in}
 use Rattle.ledger_whole.proofs.Cut.{shift, after_text, quiet, split, taken, rows_of_holds, last_of_holds, Given, part_counts}
 use Rattle.ledger_whole.specs.Calls.{Call, Last, next, rows_of, last_rows_of, all_written, input, fresh}
@@ -39,6 +36,8 @@ use Rattle.captures_feed.proofs.Turn.{finished_2132}
 use Rattle.captures_whole.specs.Questions.{told_in, untold_in}
 use Rattle.captures_whole.specs.Whole.{TellsMade, RoomyTold, WholeTold, Told}
 use Rattle.captures_whole.proofs.Machines.{machine_answers, machine_lines}
+use Rattle.std.specs.Prelude.{Result, Ok}
+use Rattle.ledger_feed.specs.declared.Unwritten.{Unwritten}
 
 -- ---- each call begins with no text: the texts that the calls write are joined
 close_shift : (mode : Mode) (t : List ℕ) (r : Kept) (line : List ℕ) (size : ℕ) → close_told mode (shift t r) line size ≡ shift t (close_told mode r line size)
@@ -91,7 +90,7 @@ run_counts mode o r (b ∷ s) = go (eqb b lf) (run_counts mode (line_emptied o) 
     go false p q = q
 
 -- ---- a call with room
-feed_given : (mode : Mode) (state : SoFar) (line chunk out : List ℕ) (r : Fed) (line' out' : List ℕ) → TellsQuestions mode state line chunk out r line' out'
+feed_given : (mode : Mode) (state : SoFar) (line chunk out : List ℕ) (r : Result (SoFar × ℕ) Unwritten) (line' out' : List ℕ) → TellsQuestions mode state line chunk out r line' out'
     → length line ≡ 256 → state.loaded + state.refused + ends chunk < 2 ^ 64 → 2048 * ends chunk ≤ length out
     → Given (run_told mode (at state line []) chunk) r line' out'
 feed_given mode state line chunk out r line' out' f size counts room =
@@ -99,24 +98,24 @@ feed_given mode state line chunk out r line' out' f size counts room =
     let e : tell_of mode state line chunk out ≡ came m =
     fit_came line (state.loaded + state.refused + ends chunk) (leb (2048 * ends chunk) (length out)) m size
     (lt-ltb (state.loaded + state.refused + ends chunk) (2 ^ 64) counts) (le-leb (2048 * ends chunk) (length out) room) in
-    let a : r ≡ F.Rows (state_of m) (length m.text) = rows_of_holds r (state_of m) (length m.text) (f.answer ∙ ap came_by_value e) in
-    let h : length m.text ≤ length out = subst (λ (q : Fed). wrote (fed q) ≤ length out) a f.within in
+    let a : r ≡ Ok (state_of m, (length m.text)) = rows_of_holds r (state_of m) (length m.text) (f.answer ∙ ap came_by_value e) in
+    let h : length m.text ≤ length out = subst (λ (q : Result (SoFar × ℕ) Unwritten). wrote (came_as q) ≤ length out) a f.within in
     record {
       answer = a;
       kept = f.kept ∙ ap (λ (x : Came Machine). line_after x line) e;
       rows =
-          ap (λ (q : Fed). rows_of q out') a
+          ap (λ (q : Result (SoFar × ℕ) Unwritten). rows_of q out') a
           ∙ taken out out' m.text (f.rows ∙ ap (λ (x : Came Machine). written_of out 0 (text_after x)) e) h;
     }
 
-finish_given : (mode : Mode) (state : SoFar) (line out : List ℕ) (r : Finished) (out' : List ℕ) → TellsLast mode state line out r out'
+finish_given : (mode : Mode) (state : SoFar) (line out : List ℕ) (r : Result ℕ Unwritten) (out' : List ℕ) → TellsLast mode state line out r out'
     → length line ≡ 256 → last_lines state < 2 ^ 64 → 2132 ≤ length out → last_rows_of r out' ≡ finished_told mode (at state line [])
 finish_given mode state line out r out' f size counts room =
     let t : List ℕ = finished_told mode (at state line []) in
     let h : 0 + length t ≤ 2132 = finished_2132 mode state line in
     let e : last_of mode state line out ≡ came t =
     fit_came line (last_lines state) (room_for out 0 t) t size (lt-ltb (last_lines state) (2 ^ 64) counts) (le-leb (0 + length t) (length out) (omega arith)) in
-    ap (λ (q : Finished). last_rows_of q out') (last_of_holds r (length t) (f.answer ∙ ap length_of e))
+    ap (λ (q : Result ℕ Unwritten). last_rows_of q out') (last_of_holds r (length t) (f.answer ∙ ap length_of e))
     ∙ taken out out' t (f.rows ∙ ap (λ (x : Came (List ℕ)). written_of out 0 (last_text x)) e) (omega arith)
 
 -- ---- all calls
@@ -135,7 +134,7 @@ all mode state line (c ∷ cs) last size room counts made =
     (part_counts _ (state.loaded + state.refused) (ends c.chunk) (ends s) _ total counts) room.0 in
     let rest : TellsMade mode (state_of m) m.line cs last =
     subst (λ (l : List ℕ). TellsMade mode (state_of m) l cs last) g.kept
-    (subst (λ (r : Fed). TellsMade mode (next r state) c.line' cs last) g.answer made.1) in
+    (subst (λ (r : Result (SoFar × ℕ) Unwritten). TellsMade mode (next r state) c.line' cs last) g.answer made.1) in
     ap₂ ◌++◌ g.rows
     (all mode (state_of m) m.line cs last (run_size (close_told mode) (open_of (at state line [])) (kept_of (at state line [])) c.chunk ∙ size)
     room.1 (subst (λ (n : ℕ). n < 2 ^ 64) (ap lines_in cut) counts) rest)

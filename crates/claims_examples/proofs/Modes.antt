@@ -7,7 +7,6 @@ use lib.IntN.{ℤ, pos, negsuc}
 use Rattle.refusal.specs.Answer.{Answer, given, refused}
 use Rattle.chess.specs.Named.{white, black, pawn, rook, queen}
 use Rattle.chess.specs.Values.{value_of}
-use Rattle.position_further.specs.declared.Passant.TheVariants.{On}
 use Rattle.position.specs.Checked.{no_rights, of_side}
 use Rattle.position.specs.declared.State.{State}
 use Rattle.claims_examples.specs.Written.{square_named}
@@ -17,6 +16,7 @@ use Rattle.exchange_start.specs.declared.Mode.TheVariants.{First, Second}
 use Rattle.exchange_value.specs.Stop.{Stop, played_out, before}
 use Rattle.exchange.specs.Exchange.{Capture}
 use Rattle.claims_examples.proofs.Exchanges.{answered_in, capture, told_in, stops, taken}
+use Rattle.std.specs.Prelude.{Some}
 
 -- "adding 913": a queen's value less a pawn's
 promotion_is : value_of queen ≡ value_of pawn + 913
@@ -24,7 +24,7 @@ promotion_is = refl
 
 -- a side to move, and an en passant square
 abbrev passing_state : ℕ → String → State
-passing_state side square = record { side = side; rights = no_rights; passant = On (square_named square); halfmoves = 0; moves = 1 }
+passing_state side square = record { side = side; rights = no_rights; passant = Some (square_named square); halfmoves = 0; moves = 1 }
 
 -- ---- en passant
 -- pawn e5 takes d6, rook d1 behind the passed pawn d5; pawn c7 defends d6

@@ -6,20 +6,11 @@
 #![tactic(auto)]
 
 use refusal::Refusal;
-use score_collection::{Gathered, Piece};
-use score_row::ErrorWritten;
-use stream_io::Taken;
+use score_collection::Gathered;
+use stream_io::{Taken, Turn};
 
 // The row is never longer, whatever its numbers.
 const LONGEST: usize = 164;
-
-// What follows a read: another one, the end of the input, or nothing more.
-#[derive(Clone, Copy)]
-enum Turn {
-    More(Gathered),
-    End,
-    Stopped,
-}
 
 fn main(rt: HostRuntime) {
     let mut chunk = io::buffer();
@@ -39,7 +30,7 @@ fn write_error(rt: &HostRuntime, chunk: &mut [u8]) -> bool {
 }
 
 // All reads, and what the lines that end in them come to.
-fn read_to_end(rt: &HostRuntime, line: &mut [u8], chunk: &mut [u8]) -> Turn {
+fn read_to_end(rt: &HostRuntime, line: &mut [u8], chunk: &mut [u8]) -> Turn<Gathered> {
     let mut gathered = score_collection::begin();
     let mut turns: u64 = 0;
     while stream::may_go_on(turns) {
@@ -61,7 +52,12 @@ fn read_to_end(rt: &HostRuntime, line: &mut [u8], chunk: &mut [u8]) -> Turn {
 }
 
 // One read, and the lines that end in it.
-fn read_some(rt: &HostRuntime, gathered: Gathered, line: &mut [u8], chunk: &mut [u8]) -> Turn {
+fn read_some(
+    rt: &HostRuntime,
+    gathered: Gathered,
+    line: &mut [u8],
+    chunk: &mut [u8],
+) -> Turn<Gathered> {
     match stream_io::read(
         rt.stderr(),
         &mut rt.stdin(),
@@ -74,10 +70,10 @@ fn read_some(rt: &HostRuntime, gathered: Gathered, line: &mut [u8], chunk: &mut 
     }
 }
 
-fn feed(rt: &HostRuntime, gathered: Gathered, line: &mut [u8], chunk: &[u8]) -> Turn {
+fn feed(rt: &HostRuntime, gathered: Gathered, line: &mut [u8], chunk: &[u8]) -> Turn<Gathered> {
     match score_collection::feed(gathered, line, chunk) {
-        Piece::Lines(next) => Turn::More(next),
-        Piece::Refused(_) => {
+        Ok(next) => Turn::More(next),
+        Err(_) => {
             stop(rt, b": no line buffer\n");
             Turn::Stopped
         }
@@ -87,9 +83,9 @@ fn feed(rt: &HostRuntime, gathered: Gathered, line: &mut [u8], chunk: &[u8]) -> 
 fn finish(rt: &HostRuntime, gathered: Gathered, line: &[u8]) -> bool {
     let mut row = [0u8; LONGEST];
     match score_row::write(gathered, line, &mut row) {
-        ErrorWritten::Row(wrote) => write(rt, &row[..wrote]),
-        ErrorWritten::Full => stop(rt, b": too little room for the row\n"),
-        ErrorWritten::Refused(refusal) => stop_refused(rt, refusal),
+        Ok(Some(wrote)) => write(rt, &row[..wrote]),
+        Ok(None) => stop(rt, b": too little room for the row\n"),
+        Err(refusal) => stop_refused(rt, refusal),
     }
 }
 

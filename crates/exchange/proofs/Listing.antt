@@ -10,8 +10,6 @@ use Rattle.attack.specs.Attacks.{other}
 use Rattle.attack_to.specs.Attackers.{attackers}
 use Rattle.exchange_least.specs.Least.{attacker, least_of}
 use Rattle.exchange_least.specs.Answers.{paper_attacker}
-use Rattle.exchange_least.specs.declared.inner.Attacker as A
-use Rattle.exchange_least.specs.declared.inner.Attacker.TheVariants as W
 use Rattle.exchange_start.specs.declared.Mode.{Mode}
 use Rattle.exchange.specs.Exchange.{Capture, promotes, recaptures}
 use Rattle.exchange.specs.Listed.{column}
@@ -22,6 +20,7 @@ use Rattle.exchange.specs.declared.inner.Made.{Made}
 use Rattle.exchange.specs.declared.inner.Listed.{Listed}
 use Rattle.exchange.proofs.Forward.{stops, spent, turn}
 use Rattle.exchange.proofs.Columns.{zeros, one_on, one_more, all_taken, all_counted_holds, column_step, column_first}
+use Rattle.std.specs.Prelude.{Option, None, Some}
 
 abbrev From : Capture → ℕ
 From c = c.from
@@ -70,8 +69,8 @@ module _ (mode : Mode) (kinds bbs : List ℕ) (to : ℕ) where
       }
 
   module _ {cs : List Capture} {squares by taken : List ℕ} {n last there colour : ℕ} (l : Listing cs squares by taken n last there colour) where
-    pub listing_more : n < 32 → (square kind : ℕ) (a : A.Attacker) → paper_attacker a ≡ least_of kinds bbs colour (attackers bbs to there) there
-        → a ≡ W.At square kind → (r : Made) → r ≡ made_of mode to colour square kind last there
+    pub listing_more : n < 32 → (square kind : ℕ) (a : Option (ℕ × ℕ)) → paper_attacker a ≡ least_of kinds bbs colour (attackers bbs to there) there
+        → a ≡ Some (square, kind) → (r : Made) → r ≡ made_of mode to colour square kind last there
         → Listing cs (set squares n square) (set by n kind) (set taken n r.taken) (n + 1) r.last r.there r.color
     listing_more h square kind a p i r m =
         let q : least_of kinds bbs colour (attackers bbs to there) there ≡ attacker square kind = sym p ∙ ap paper_attacker i in
@@ -97,7 +96,7 @@ module _ (mode : Mode) (kinds bbs : List ℕ) (to : ℕ) where
           l.takens ∙ ap (column 32 Taken) t,
         )
 
-    pub listing_stops : (a : A.Attacker) → paper_attacker a ≡ least_of kinds bbs colour (attackers bbs to there) there → a ≡ W.Nobody
+    pub listing_stops : (a : Option (ℕ × ℕ)) → paper_attacker a ≡ least_of kinds bbs colour (attackers bbs to there) there → a ≡ None
         → HoldsCaptures cs (record { from = squares; kind = by; taken = taken; count = n })
     listing_stops a p i =
         whole (l.left ∙ stops kinds bbs (attackers bbs to) (promotes mode to) (32 - n) there colour (value_of last) (sym p ∙ ap paper_attacker i))

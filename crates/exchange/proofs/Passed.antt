@@ -15,8 +15,6 @@ use Rattle.position_boards.specs.Boards.{stands_on}
 use Rattle.position_consistent.specs.Consistent.{consistent}
 use Rattle.position_consistent.proofs.Only.{every_board}
 use Rattle.position_further.specs.Rule.{stands, on_rank, just_passed}
-use Rattle.position_further.specs.declared.Passant.{Passant}
-use Rattle.position_further.specs.declared.Passant.TheVariants.{Nowhere, On}
 use Rattle.position.specs.declared.State.{State}
 use Rattle.attack.specs.Attacks.{occupied, other}
 use Rattle.attack.proofs.Other.{other_lt}
@@ -32,17 +30,18 @@ use Rattle.exchange.proofs.Ending.{one_less, kept, at_most_pieces, fewer_capture
 use Rattle.exchange.proofs.First.{passing_there, all_there}
 use Rattle.exchange.proofs.Room.{stands_there, captures_are}
 use Rattle.exchange.proofs.Kings.{not_both}
+use Rattle.std.specs.Prelude.{Option, None, Some}
 
 -- ---- by the rule, a pawn of the other side stands beyond the en passant square
 module _ (bbs bytes : List ℕ) (e : consistent bbs bytes ≡ true) where
   of_byte : (k code colour : ℕ) → k < 64 → colour < 14 → stands_on code colour ≡ true → stands bytes k code ≡ true → on bbs colour k ≡ true
   of_byte k code colour h l t s = every_board bbs bytes e k colour h l ∙ ap (λ (b : ℕ). stands_on b colour) (eqb-true (get_or bytes k 0) code s) ∙ t
 
-  pub pawn_passed : (side : ℕ) (p : Passant) (to : ℕ) → side < 2 → just_passed bytes side p ≡ true → is_passant p to ≡ true
+  pub pawn_passed : (side : ℕ) (p : Option ℕ) (to : ℕ) → side < 2 → just_passed bytes side p ≡ true → is_passant p to ≡ true
       → (passed_pawn side to < 64) × (on bbs (other side) (passed_pawn side to) ≡ true)
   unfolding just_passed
-  pawn_passed side Nowhere to h j i = absurd (true≢false (sym i))
-  pawn_passed zero (On s) to h j i =
+  pawn_passed side None to h j i = absurd (true≢false (sym i))
+  pawn_passed zero (Some s) to h j i =
       let there : s ≡ to = eqb-true s to i in
       let q = and_r (stands bytes s 0) (on_rank 6 s && stands bytes (s - 8) 3) (true_T j) in
       let r : s / 8 + 1 ≡ 6 = eqb-true (s / 8 + 1) 6 (T_true (on_rank 6 s) (and_l (on_rank 6 s) (stands bytes (s - 8) 3) q)) in
@@ -51,7 +50,7 @@ module _ (bbs bytes : List ℕ) (e : consistent bbs bytes ≡ true) where
         of_byte (to - 8) 3 1 small (omega arith) refl (ap (λ (k : ℕ). stands bytes (k - 8) 3) (sym there)
             ∙ T_true (stands bytes (s - 8) 3) (and_r (on_rank 6 s) (stands bytes (s - 8) 3) q)),
       )
-  pawn_passed (suc zero) (On s) to h j i =
+  pawn_passed (suc zero) (Some s) to h j i =
       let there : s ≡ to = eqb-true s to i in
       let q = and_r (stands bytes s 0) (on_rank 3 s && stands bytes (s + 8) 2) (true_T j) in
       let r : s / 8 + 1 ≡ 3 = eqb-true (s / 8 + 1) 3 (T_true (on_rank 3 s) (and_l (on_rank 3 s) (stands bytes (s + 8) 2) q)) in
@@ -60,7 +59,7 @@ module _ (bbs bytes : List ℕ) (e : consistent bbs bytes ≡ true) where
         of_byte (to + 8) 2 0 small (omega arith) refl (ap (λ (k : ℕ). stands bytes (k + 8) 2) (sym there)
             ∙ T_true (stands bytes (s + 8) 2) (and_r (on_rank 3 s) (stands bytes (s + 8) 2) q)),
       )
-  pawn_passed (suc (suc side)) (On s) to h j i = absurd (omega arith)
+  pawn_passed (suc (suc side)) (Some s) to h j i = absurd (omega arith)
 
 -- the target of a capture en passant is the position's square
 pub at_passant : (mode : Mode) (bytes : List ℕ) (state : State) (from to : ℕ) → takes_passing mode bytes state from to ≡ true

@@ -11,7 +11,7 @@ use attack::inner::{occupied, other};
 use chess::color::WHITE;
 use chess::inner::value;
 use chess::kind::{PAWN, QUEEN};
-use exchange_least::inner::{Attacker, capturer};
+use exchange_least::inner::capturer;
 use exchange_start::Mode;
 use exchange_start::inner::{kind_on, takes_passing};
 use position::State;
@@ -182,7 +182,7 @@ fn follow(
     let mut color = other(side);
     for n in 1..MOST {
         let a = capturer(bitboards, kinds, color, to, there);
-        let Attacker::At(square, kind) = a else {
+        let Some((square, kind)) = a else {
             return Listed {
                 from: squares,
                 kind: by,

@@ -7,13 +7,6 @@ ghost use Rattle.exchange_least.specs.Promises.{Picks, Capturer};
 use attack::inner::standing;
 use attack_to::inner::attacks_to;
 
-// Who captures next: its square and its kind.
-#[derive(Clone, Copy)]
-pub enum Attacker {
-    At(u8, u8),
-    Nobody,
-}
-
 fn still_there(bitboards: &[u64], kind: u8, color: u8, attacks: u64, occupied: u64) -> u64
     ensures { result ≡ still_there bitboards.now kind color attacks occupied }
 {
@@ -37,9 +30,15 @@ fn before(there: u64, kind: u8, later: Found) -> Found
     Found { there, kind }
 }
 
-// The first of the kinds that has an attacker still there, and of that kind the lowest square. The kinds are asked from the last to the first, all of
+// Who captures next, its square and its kind: the first of the kinds that has an attacker still there, and of that kind the lowest square. The kinds are asked from the last to the first, all of
 // them, so that nothing has to be guessed of which it is.
-pub fn pick(bitboards: &[u64], kinds: &[u8], color: u8, attacks: u64, occupied: u64) -> Attacker
+pub fn pick(
+    bitboards: &[u64],
+    kinds: &[u8],
+    color: u8,
+    attacks: u64,
+    occupied: u64,
+) -> Option<(u8, u8)>
     ensures { Picks kinds.now bitboards.now color attacks occupied result }
 {
     let mut found = Found { there: 0, kind: 0 };
@@ -50,13 +49,19 @@ pub fn pick(bitboards: &[u64], kinds: &[u8], color: u8, attacks: u64, occupied: 
     }
     let there = found.there;
     if there == 0 {
-        return Attacker::Nobody;
+        return None;
     }
-    Attacker::At(bits::scan(there) as u8, found.kind)
+    Some((bits::scan(there) as u8, found.kind))
 }
 
 // Who captures on `to` next: attacks are found afresh.
-pub fn capturer(bitboards: &[u64], kinds: &[u8], color: u8, to: u8, occupied: u64) -> Attacker
+pub fn capturer(
+    bitboards: &[u64],
+    kinds: &[u8],
+    color: u8,
+    to: u8,
+    occupied: u64,
+) -> Option<(u8, u8)>
     ensures { Capturer kinds.now bitboards.now color to occupied result }
 {
     let attacks = attacks_to(bitboards, to, occupied);

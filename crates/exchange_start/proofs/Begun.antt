@@ -7,21 +7,19 @@ use Prim.Native.Nat.{ℕ, ◌≤◌, ◌<◌}
 use lib.Dec.{ltb, ltb→lt}
 use borrow.Author.Tests.{lt-ltb, le-ltb}
 use Rattle.laws.proofs.Truth.{true_T, and_l}
-use Rattle.refusal.specs.Answer.{Answer, given, or_refuse, refusal_of}
+use Rattle.refusal.specs.Answer.{Answer, given, or_refuse, refusal_of, answered}
 use Rattle.refusal.specs.declared.Refusal.{Refusal}
 use Rattle.refusal.specs.declared.Refusal.TheVariants as R
 use Rattle.refusal.proofs.Answers.{given_not, passed}
 use Rattle.position.specs.Checked.{Fitting}
-use Rattle.position.specs.Promises.{paper}
 use Rattle.position.specs.declared.State.{State}
-use Rattle.position.specs.declared.Checked.{Checked}
-use Rattle.position.specs.declared.Checked.TheVariants.{Fit, Refused}
 use Rattle.position.proofs.Doors.{side_below_2, sound, through, refused_too}
 use Rattle.exchange_order.specs.Orders.{each_once}
 use Rattle.exchange_start.specs.Capture.{may_capture, uncrowded}
 use Rattle.exchange_start.specs.Answers.{both_on_board, behind}
 use Rattle.exchange_start.specs.Promises.{BeginsExchange}
 use Rattle.exchange_start.specs.declared.Mode.{Mode}
+use Rattle.std.specs.Prelude.{Result, Ok, Err}
 
 abbrev done : Answer (Unit {0})
 done = given tt
@@ -91,16 +89,16 @@ module _ (mode : Mode) (kinds bbs bytes : List ℕ) (state : State) (from to : �
       ∙ sound bbs bytes state (rest mode kinds bbs bytes state from to x) b.fits
 
   -- ---- after a call of `begins`
-  module _ (r : Checked) (promise : BeginsExchange mode kinds bbs bytes state from to r) where
-    pub knows : r ≡ Fit → Begun mode kinds bbs bytes state from to
-    knows e = answered_knows tt tt (sym (ap paper e) ∙ promise)
+  module _ (r : Result Unit Refusal) (promise : BeginsExchange mode kinds bbs bytes state from to r) where
+    pub knows : r ≡ Ok tt → Begun mode kinds bbs bytes state from to
+    knows e = answered_knows tt tt (sym (ap answered e) ∙ promise)
 
-    pub tells : {A : Type 0} (x : A) → r ≡ Fit → given x ≡ behind mode kinds bbs bytes state from to x
+    pub tells : {A : Type 0} (x : A) → r ≡ Ok tt → given x ≡ behind mode kinds bbs bytes state from to x
     tells x e = all_answered x (knows e)
 
-    pub passes_on : {A : Type 0} (x : A) (q : Refusal) → r ≡ Refused q → refusal_of q ≡ behind mode kinds bbs bytes state from to x
+    pub passes_on : {A : Type 0} (x : A) (q : Refusal) → r ≡ Err q → refusal_of q ≡ behind mode kinds bbs bytes state from to x
     passes_on x q e =
-        refused_too bbs bytes state (rest mode kinds bbs bytes state from to tt) q (rest mode kinds bbs bytes state from to x) (sym (ap paper e) ∙ promise)
+        refused_too bbs bytes state (rest mode kinds bbs bytes state from to tt) q (rest mode kinds bbs bytes state from to x) (sym (ap answered e) ∙ promise)
         (go (both_on_board from to) (each_once kinds) (may_capture mode bbs bytes state from to) (uncrowded bbs))
       where
         go : (b o m u : Bool) → refusal_of q ≡ tests b o m u done → refusal_of q ≡ tests b o m u (given x)

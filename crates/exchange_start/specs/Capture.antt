@@ -1,11 +1,9 @@
 -- Which captures an exchange may start with: document 01's MOVE and CROWD, and en passant in W-213's second mode. Definitions only.
-use Rattle.std.specs.Prelude.{Bool, false, cond, ◌||◌, ◌&&◌, List, ℕ, ◌+◌, ◌-◌, eqb, leb, get_or}
+use Rattle.std.specs.Prelude.{Bool, false, cond, ◌||◌, ◌&&◌, List, ℕ, ◌+◌, ◌-◌, eqb, leb, get_or, Option, None, Some}
 use Rattle.chess.specs.Codes.{kind_of}
 use Rattle.chess.specs.Named.{white, black, pawn, king}
 use Rattle.bits.specs.Bitboard.{has, how_many}
 use Rattle.position_boards.specs.Sound.{on}
-use Rattle.position_further.specs.declared.Passant.{Passant}
-use Rattle.position_further.specs.declared.Passant.TheVariants.{Nowhere, On}
 use Rattle.position.specs.declared.State.{State}
 use Rattle.attack.specs.Attacks.{standing, occupied, other, attacks}
 use Rattle.exchange_start.specs.declared.Mode.{Mode}
@@ -17,9 +15,9 @@ kind_on bytes s = kind_of (get_or bytes s 0)
 
 -- ---- W-213: "A second exchange mode lets a pawn take en passant as the first capture"
 -- the square is the position's en passant square
-abbrev pub is_passant : Passant → ℕ → Bool
-is_passant Nowhere s = false
-is_passant (On square) s = eqb square s
+abbrev pub is_passant : Option ℕ → ℕ → Bool
+is_passant None s = false
+is_passant (Some square) s = eqb square s
 
 -- a pawn on the start takes there; in the first mode, which is document 01's, none does
 abbrev pub takes_passing : Mode → List ℕ → State → ℕ → ℕ → Bool

@@ -1,11 +1,11 @@
 -- What each function promises, for all inputs. Definitions only.
-use Rattle.std.specs.Prelude.{◌≡◌, Bool, List, ℕ}
-use Rattle.position.specs.Promises.{paper}
+use Rattle.std.specs.Prelude.{◌≡◌, Bool, List, ℕ, Result}
 use Rattle.position.specs.declared.State.{State}
-use Rattle.position.specs.declared.Checked.{Checked}
 use Rattle.exchange_start.specs.Capture.{kind_on, takes_passing, may_capture, uncrowded}
 use Rattle.exchange_start.specs.Answers.{behind}
 use Rattle.exchange_start.specs.declared.Mode.{Mode}
+use Rattle.refusal.specs.declared.Refusal.{Refusal}
+use Rattle.refusal.specs.Answer.{answered}
 
 abbrev pub KindOn : List ℕ → ℕ → ℕ → Type 0
 KindOn board square r = r ≡ kind_on board square
@@ -19,5 +19,5 @@ MayCapture mode bitboards board state from to r = r ≡ may_capture mode bitboar
 abbrev pub Uncrowded : List ℕ → Bool → Type 0
 Uncrowded bitboards r = r ≡ uncrowded bitboards
 
-abbrev pub BeginsExchange : Mode → List ℕ → List ℕ → List ℕ → State → ℕ → ℕ → Checked → Type 0
-BeginsExchange mode kinds bitboards board state from to r = paper r ≡ behind mode kinds bitboards board state from to tt
+abbrev pub BeginsExchange : Mode → List ℕ → List ℕ → List ℕ → State → ℕ → ℕ → Result Unit Refusal → Type 0
+BeginsExchange mode kinds bitboards board state from to r = answered r ≡ behind mode kinds bitboards board state from to tt

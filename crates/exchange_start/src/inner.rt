@@ -13,8 +13,7 @@ use chess::color::{BLACK, WHITE};
 use chess::inner::index;
 use chess::kind::{KING, Kind, PAWN};
 use exchange_order::inner::each_once;
-use position::{Checked, State};
-use position_further::Passant;
+use position::State;
 use refusal::Refusal;
 
 // Whether a square stands in b; none above 63 does.
@@ -53,7 +52,7 @@ fn passes(board: &[u8], state: State, from: u8, to: u8) -> bool
         return false;
     }
     let passant = state.passant;
-    let Passant::On(square) = passant else {
+    let Some(square) = passant else {
         return false;
     };
     square == to
@@ -122,26 +121,24 @@ pub fn begins(
     order: &[u8; Kind::COUNT],
     from: u8,
     to: u8,
-) -> Checked
+) -> Result<(), Refusal>
     ensures { BeginsExchange mode order.now bitboards.now board.now state from to result }
 {
-    if let Checked::Refused(refusal) = position::check(bitboards, board, state) {
-        return Checked::Refused(refusal);
-    }
+    position::check(bitboards, board, state)?;
     if from > chess::square::LAST {
-        return Checked::Refused(Refusal::Square);
+        return Err(Refusal::Square);
     }
     if to > chess::square::LAST {
-        return Checked::Refused(Refusal::Square);
+        return Err(Refusal::Square);
     }
     if !each_once(order) {
-        return Checked::Refused(Refusal::Order);
+        return Err(Refusal::Order);
     }
     if !may_capture(mode, bitboards, board, state, from, to) {
-        return Checked::Refused(Refusal::Move);
+        return Err(Refusal::Move);
     }
     if !uncrowded(bitboards) {
-        return Checked::Refused(Refusal::Crowd);
+        return Err(Refusal::Crowd);
     }
-    Checked::Fit
+    Ok(())
 }

@@ -6,8 +6,6 @@ use native.Mathlib.Nat.{sub-zero}
 use lib.ListN.{length, take}
 use Rattle.refusal.specs.declared.Refusal.{Refusal}
 use Rattle.position.specs.declared.State.{State}
-use Rattle.position.specs.declared.Checked.{Checked}
-use Rattle.position.specs.declared.Checked.TheVariants.{Fit, Refused}
 use Rattle.exchange_start.specs.Answers.{behind}
 use Rattle.exchange_start.specs.Promises.{BeginsExchange}
 use Rattle.exchange_start.specs.declared.Mode.{Mode}
@@ -19,6 +17,7 @@ use Rattle.exchange.proofs.Columns.{column_taken}
 use Rattle.exchange.proofs.Settling.{at_most_32}
 use Rattle.exchange.proofs.Room.{all_listed}
 use Rattle.exchange_told.specs.Told.{told_of, the_captures}
+use Rattle.std.specs.Prelude.{Result, Ok, Err}
 
 pub told_is : (mode : Mode) (kinds bbs bytes : List ℕ) (state : State) (from to : ℕ)
     → told_of mode kinds bbs bytes state from to ≡ behind mode kinds bbs bytes state from to (captures_of mode kinds bbs bytes state from to)
@@ -26,16 +25,16 @@ unfolding told_of
 told_is mode kinds bbs bytes state from to = refl
 
 -- ---- after the test of a capture
-module _ (mode : Mode) (kinds bbs bytes : List ℕ) (state : State) (from to : ℕ) (r : Checked)
+module _ (mode : Mode) (kinds bbs bytes : List ℕ) (state : State) (from to : ℕ) (r : Result Unit Refusal)
     (promise : BeginsExchange mode kinds bbs bytes state from to r) where
-  pub told_fit : r ≡ Fit → the_captures (told_of mode kinds bbs bytes state from to) ≡ captures_with mode kinds bbs bytes state from to
+  pub told_fit : r ≡ Ok tt → the_captures (told_of mode kinds bbs bytes state from to) ≡ captures_with mode kinds bbs bytes state from to
   told_fit e =
       let k = knows mode kinds bbs bytes state from to r promise e in
       ap the_captures (told_is mode kinds bbs bytes state from to ∙ sym
       (tells mode kinds bbs bytes state from to r promise (captures_of mode kinds bbs bytes state from to) e))
       ∙ sym (all_listed mode kinds bbs bytes state from to (from_on k) (a_side k) k.may k.few)
 
-  pub told_refused : (q : Refusal) → r ≡ Refused q → the_captures (told_of mode kinds bbs bytes state from to) ≡ []
+  pub told_refused : (q : Refusal) → r ≡ Err q → the_captures (told_of mode kinds bbs bytes state from to) ≡ []
   told_refused q e =
       ap the_captures (told_is mode kinds bbs bytes state from to ∙ sym
       (passes_on mode kinds bbs bytes state from to r promise (captures_of mode kinds bbs bytes state from to) q e))

@@ -16,7 +16,6 @@ use Rattle.exchange_value.specs.Answers.{stopped}
 use Rattle.exchange_value.proofs.Stopping.{adds_up, stop_means, out_means}
 use Rattle.exchange.specs.Exchange.{Capture, values_taken, captures_of, exchange_of}
 use Rattle.exchange.specs.Promises.{See, HoldsCaptures}
-use Rattle.exchange.specs.declared.Exchanged.TheVariants.{Worth}
 use Rattle.exchange.specs.declared.inner.Listed.{Listed}
 use Rattle.exchange.proofs.Columns.{column_taken}
 use Rattle.exchange.proofs.Settling.{at_most_32}
@@ -26,6 +25,7 @@ use Rattle.exchange_told.specs.Promises.{Captures}
 use Rattle.exchange_told.specs.Why.{Why}
 use Rattle.exchange_told.specs.declared.Told.{Told}
 use Rattle.exchange_told.proofs.Behind.{told_is}
+use Rattle.std.specs.Prelude.{Ok}
 
 module _ (mode : Mode) (kinds bbs bytes : List ℕ) (state : State) (from to : ℕ) where
   abbrev cs : List Capture
@@ -41,7 +41,7 @@ module _ (mode : Mode) (kinds bbs bytes : List ℕ) (state : State) (from to : �
   used : (l : Listed) → HoldsCaptures cs l → length cs ≤ 32 → take l.count l.taken ≡ values_taken cs
   used l h n = ap₂ (λ (m : ℕ) (vs : List ℕ). take m vs) h.0 h.3 ∙ column_taken (λ c. c.taken) 32 cs n
 
-  doors : (r : Told) (z : ℤ) → Captures mode kinds bbs bytes state from to r → See mode kinds bbs bytes state from to (Worth z)
+  doors : (r : Told) (z : ℤ) → Captures mode kinds bbs bytes state from to r → See mode kinds bbs bytes state from to (Ok z)
       → alternating (carried_out (stopped r.stop) (take r.listed.count r.listed.taken)) ≡ z
   doors r z p q =
       let worth : ℤ = exchange_of mode kinds bbs bytes state from to in

@@ -9,15 +9,16 @@ use chess::kind::Kind;
 use exchange::inner::{Listed, MOST, list};
 use exchange_start::Mode;
 use exchange_start::inner::begins;
-use exchange_value::inner::{Stopped, stop};
-use position::{Checked, State};
+use exchange_value::inner::stop;
+use position::State;
+use refusal::Refusal;
 
 // Whether the exchange was refused, its captures, and where it stops; beside a refusal no capture, and nothing that stops.
 #[derive(Clone, Copy)]
 pub struct Told {
-    pub checked: Checked,
+    pub checked: Result<(), Refusal>,
     pub listed: Listed,
-    pub stop: Stopped,
+    pub stop: Option<usize>,
 }
 
 fn none() -> Listed
@@ -44,18 +45,18 @@ pub fn captures(
 ) -> Told
     ensures { Captures mode order.now bitboards.now board.now state from to result }
 {
-    if let Checked::Refused(refusal) = begins(mode, bitboards, board, state, order, from, to) {
+    if let Err(refusal) = begins(mode, bitboards, board, state, order, from, to) {
         return Told {
-            checked: Checked::Refused(refusal),
+            checked: Err(refusal),
             listed: none(),
-            stop: Stopped::PlayedOut,
+            stop: None,
         };
     }
     let listed = list(mode, bitboards, board, order, state, from, to);
     let taken = listed.taken;
     let n = listed.count;
     Told {
-        checked: Checked::Fit,
+        checked: Ok(()),
         listed,
         stop: stop(&taken[0..n]),
     }

@@ -7,22 +7,21 @@ use Rattle.refusal.proofs.Paper.{one, retract}
 use Rattle.exchange_value.specs.Stop as P
 use Rattle.exchange_value.specs.Answers.{stopped}
 use Rattle.exchange_value.specs.Promises.{Settles, Stops}
-use Rattle.exchange_value.specs.declared.inner.Stopped.{Stopped}
-use Rattle.exchange_value.specs.declared.inner.Stopped.TheVariants as S
+use Rattle.std.specs.Prelude.{Option, None, Some}
 
 pub settle : (values : List ℕ) (r s : ℤ) → Settles values r → Settles values s → r ≡ s
 settle values r s = one
 
-abbrev unstopped : P.Stop → Stopped
-unstopped P.played_out = S.PlayedOut
-unstopped (P.before i) = S.Before i
+abbrev unstopped : P.Stop → Option ℕ
+unstopped P.played_out = None
+unstopped (P.before i) = Some i
 
-stopped_back : (r : Stopped) → unstopped (stopped r) ≡ r
-stopped_back S.PlayedOut = refl
-stopped_back (S.Before i) = refl
+stopped_back : (r : Option ℕ) → unstopped (stopped r) ≡ r
+stopped_back None = refl
+stopped_back (Some i) = refl
 
-pub stopped_one : (r s : Stopped) → stopped r ≡ stopped s → r ≡ s
+pub stopped_one : (r s : Option ℕ) → stopped r ≡ stopped s → r ≡ s
 stopped_one = retract stopped unstopped stopped_back
 
-pub stop : (values : List ℕ) (r s : Stopped) → Stops values r → Stops values s → r ≡ s
+pub stop : (values : List ℕ) (r s : Option ℕ) → Stops values r → Stops values s → r ≡ s
 stop values r s p q = stopped_one r s (one p q)

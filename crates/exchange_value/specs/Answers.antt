@@ -1,8 +1,8 @@
 -- The code's answer on the paper. Definitions only.
 use Rattle.exchange_value.specs.Stop as P
-use Rattle.exchange_value.specs.declared.inner.Stopped.{Stopped}
-use Rattle.exchange_value.specs.declared.inner.Stopped.TheVariants.{PlayedOut, Before}
+use Rattle.std.specs.Prelude.{Option, None, Some}
+use Prim.Native.Nat.{ℕ}
 
-abbrev pub stopped : Stopped → P.Stop
-stopped PlayedOut = P.played_out
-stopped (Before i) = P.before i
+abbrev pub stopped : Option ℕ → P.Stop
+stopped None = P.played_out
+stopped (Some i) = P.before i

@@ -2,13 +2,6 @@
 ghost use Rattle.std.specs.Prelude.{◌≡◌, cond, eqb, ◌-◌};
 ghost use Rattle.exchange_value.specs.Promises.{Settles, Stops};
 
-// Where an exchange stops: before the capture of this number, the first being 0.
-#[derive(Clone, Copy)]
-pub enum Stopped {
-    PlayedOut,
-    Before(usize),
-}
-
 // a - b, or 0 where b is as large.
 fn less(a: u32, b: u32) -> u32
     ensures { result ≡ a - b }
@@ -44,12 +37,12 @@ fn earlier(pays: u32, k: usize, found: usize) -> usize
     found
 }
 
-// The earliest capture after the first that does not pay.
-pub fn stop(values: &[u16]) -> Stopped
+// Where an exchange stops: before the earliest capture after the first that does not pay, by its number, the first being 0; none where all are played.
+pub fn stop(values: &[u16]) -> Option<usize>
     ensures { Stops values.now result }
 {
     if values.len() == 0 {
-        return Stopped::PlayedOut;
+        return None;
     }
     let mut pays: u32 = 0;
     let mut found: usize = 0;
@@ -58,7 +51,7 @@ pub fn stop(values: &[u16]) -> Stopped
         found = earlier(pays, k, found);
     }
     if found == 0 {
-        return Stopped::PlayedOut;
+        return None;
     }
-    Stopped::Before(found)
+    Some(found)
 }

@@ -13,10 +13,10 @@ use Rattle.laws.proofs.Truth.{true_T, T_true, and_l, and_r}
 use Rattle.refusal.specs.Answer.{Answer, given, or_refuse}
 use Rattle.fit_adam.specs.Adam.{Fit, beta1, beta2, power, stepped}
 use Rattle.fit_adam.specs.Promises.{is_shaped, is_iteration, moved_of, fit_step, Answers, MovesFrom, StepsFrom, powers_of}
-use Rattle.fit_adam.specs.declared.Stepped.{Stepped}
-use Rattle.fit_adam.specs.declared.Stepped.TheVariants.{Done, Refused}
 use Rattle.refusal.specs.declared.Refusal.TheVariants as R
 use Rattle.fit_adam.specs.declared.inner.Powers.{Powers}
+use Rattle.std.specs.Prelude.{Result, Ok, Err}
+use Rattle.refusal.specs.declared.Refusal.{Refusal}
 
 -- the four lengths that the test says
 pub lengths : (g : List Float) (s : Fit) → is_shaped g s ≡ true → (length g ≡ 779) × (length s.m ≡ 779) × (length s.v ≡ 779) × (length s.weights ≡ 779)
@@ -35,20 +35,20 @@ lengths g s e =
     )
 
 module _ (g : List Float) (s : Fit) (rate : Float) where
-  pub unshaped : (powers : Powers) → is_shaped g s ≡ false → MovesFrom g s powers rate (Refused R.Shape) s
+  pub unshaped : (powers : Powers) → is_shaped g s ≡ false → MovesFrom g s powers rate (Err R.Shape) s
   unshaped powers e = record { answer = rw e; lent = rw e }
 
-  pub walked : (powers : Powers) (t : Fit) → is_shaped g s ≡ true → t ≡ stepped powers.first powers.second rate g s → MovesFrom g s powers rate Done t
+  pub walked : (powers : Powers) (t : Fit) → is_shaped g s ≡ true → t ≡ stepped powers.first powers.second rate g s → MovesFrom g s powers rate (Ok tt) t
   walked powers t e q = record { answer = rw e; lent = rw e q }
 
-  pub refused_shape : (n : ℕ) → is_shaped g s ≡ false → StepsFrom g s n rate (Refused R.Shape) s
+  pub refused_shape : (n : ℕ) → is_shaped g s ≡ false → StepsFrom g s n rate (Err R.Shape) s
   refused_shape n e = record { answer = rw e; lent = rw e }
 
-  pub refused_iteration : (n : ℕ) → is_shaped g s ≡ true → is_iteration n ≡ false → StepsFrom g s n rate (Refused R.Iteration) s
+  pub refused_iteration : (n : ℕ) → is_shaped g s ≡ true → is_iteration n ≡ false → StepsFrom g s n rate (Err R.Iteration) s
   refused_iteration n e q = record { answer = rw (e, q); lent = rw (e, q) }
 
   -- by an iteration's powers, a step is the iteration's
-  pub by_powers : (n : ℕ) (powers : Powers) (r : Stepped) (t : Fit) → is_iteration n ≡ true → powers ≡ powers_of n → MovesFrom g s powers rate r t
+  pub by_powers : (n : ℕ) (powers : Powers) (r : Result Unit Refusal) (t : Fit) → is_iteration n ≡ true → powers ≡ powers_of n → MovesFrom g s powers rate r t
       → StepsFrom g s n rate r t
   by_powers n powers r t e p h =
       let q : moved_of g s powers rate ≡ fit_step g s n rate =

@@ -1,12 +1,11 @@
 -- What each function answers and promises, for all inputs. Definitions only.
-use Rattle.std.specs.Prelude.{◌≡◌, Bool, ◌&&◌, List, ℕ, eqb, leb, Float, length}
-use Rattle.refusal.specs.Answer.{Answer, given, refused, or_refuse, refusal_of}
+use Rattle.std.specs.Prelude.{◌≡◌, Bool, ◌&&◌, List, ℕ, eqb, leb, Float, length, Result}
+use Rattle.refusal.specs.Answer.{Answer, given, refused, or_refuse, answered}
 use Rattle.refusal.specs.declared.Refusal.TheVariants as R
 use Rattle.doubles.specs.Doubles.{◌⊗◌, d1}
 use Rattle.fit_adam.specs.Adam.{Fit, beta1, beta2, power, stepped}
-use Rattle.fit_adam.specs.declared.Stepped.{Stepped}
-use Rattle.fit_adam.specs.declared.Stepped.TheVariants.{Done, Refused}
 use Rattle.fit_adam.specs.declared.inner.Powers.{Powers}
+use Rattle.refusal.specs.declared.Refusal.{Refusal}
 
 -- SHAPE "for gradient, moments or weights not 779 long"
 abbrev pub is_shaped : List Float → Fit → Bool
@@ -31,10 +30,6 @@ abbrev pub fit_step : List Float → Fit → ℕ → Float → Answer Fit
 fit_step g s n rate =
     or_refuse (is_shaped g s) R.Shape (or_refuse (is_iteration n) R.Iteration (given (stepped (power beta1 n) (power beta2 n) rate g s)))
 
-abbrev pub paper : Stepped → Answer Unit
-paper Done = given tt
-paper (Refused r) = refusal_of r
-
 -- what comes back by value, and what stands in lent memory: "Every refusal .. changes no lent byte"
 abbrev pub stepped_by_value : Answer Fit → Answer Unit
 stepped_by_value (given s) = given tt
@@ -44,21 +39,21 @@ abbrev pub fit_after : Answer Fit → Fit → Fit
 fit_after (given s) old = s
 fit_after (refused n l) old = old
 
-pub record Answers (a : Answer Fit) (old : Fit) (r : Stepped) (new : Fit) : Type 0 where
-  pub answer : paper r ≡ stepped_by_value a
+pub record Answers (a : Answer Fit) (old : Fit) (r : Result Unit Refusal) (new : Fit) : Type 0 where
+  pub answer : answered r ≡ stepped_by_value a
   pub lent : new ≡ fit_after a old
 
-abbrev pub StepsFrom : List Float → Fit → ℕ → Float → Stepped → Fit → Type 0
+abbrev pub StepsFrom : List Float → Fit → ℕ → Float → Result Unit Refusal → Fit → Type 0
 StepsFrom g s n rate r t = Answers (fit_step g s n rate) s r t
 
-abbrev pub MovesFrom : List Float → Fit → Powers → Float → Stepped → Fit → Type 0
+abbrev pub MovesFrom : List Float → Fit → Powers → Float → Result Unit Refusal → Fit → Type 0
 MovesFrom g s powers rate r t = Answers (moved_of g s powers rate) s r t
 
 -- the gradient, both moments and the weights before; the iteration and the rate; what comes back, both moments and the weights after
-abbrev pub StepsFit : List Float → List Float → List Float → List Float → ℕ → Float → Stepped → List Float → List Float → List Float → Type 0
+abbrev pub StepsFit : List Float → List Float → List Float → List Float → ℕ → Float → Result Unit Refusal → List Float → List Float → List Float → Type 0
 StepsFit g m v w n rate r m' v' w' = StepsFrom g (fit_from m v w) n rate r (fit_from m' v' w')
 
-abbrev pub Moves : List Float → List Float → List Float → List Float → Powers → Float → Stepped → List Float → List Float → List Float → Type 0
+abbrev pub Moves : List Float → List Float → List Float → List Float → Powers → Float → Result Unit Refusal → List Float → List Float → List Float → Type 0
 Moves g m v w powers rate r m' v' w' = MovesFrom g (fit_from m v w) powers rate r (fit_from m' v' w')
 
 -- the powers before the first iteration, and one iteration on

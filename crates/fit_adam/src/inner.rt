@@ -3,7 +3,6 @@ ghost use Rattle.std.specs.Prelude.{◌≡◌, length};
 ghost use Rattle.fit_adam.specs.Adam.{first_moment, second_moment, weight_moved, stepped};
 ghost use Rattle.fit_adam.specs.Promises.{fit_from, TestsShape, Moves, StartsPowers, NextPowers, PowersOf};
 
-use crate::Stepped;
 use places::weight::Weight;
 use refusal::Refusal;
 
@@ -111,12 +110,12 @@ pub fn moved(
     weights: &mut [f64],
     powers: Powers,
     rate: f64,
-) -> Stepped
+) -> Result<(), Refusal>
     ensures { Moves gradient.now m.old v.old weights.old powers rate result m.new v.new weights.new }
 {
     if !is_shaped(gradient, m, v, weights) {
-        return Stepped::Refused(Refusal::Shape);
+        return Err(Refusal::Shape);
     }
     walk(gradient, m, v, weights, powers, rate);
-    Stepped::Done
+    Ok(())
 }

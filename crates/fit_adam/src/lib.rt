@@ -7,12 +7,6 @@ pub mod inner;
 
 use refusal::Refusal;
 
-#[derive(Clone, Copy)]
-pub enum Stepped {
-    Done,
-    Refused(Refusal),
-}
-
 pub const MOST_ITERATIONS: u64 = 1_000_000;
 
 // The step of an iteration, whose powers are worked out from its number. SHAPE, then ITERATION.
@@ -23,14 +17,14 @@ pub fn step(
     weights: &mut [f64],
     iteration: u64,
     rate: f64,
-) -> Stepped
+) -> Result<(), Refusal>
     ensures { StepsFit gradient.now m.old v.old weights.old iteration rate result m.new v.new weights.new }
 {
     if !inner::is_shaped(gradient, m, v, weights) {
-        return Stepped::Refused(Refusal::Shape);
+        return Err(Refusal::Shape);
     }
     if (iteration == 0) | (MOST_ITERATIONS < iteration) {
-        return Stepped::Refused(Refusal::Iteration);
+        return Err(Refusal::Iteration);
     }
     inner::moved(gradient, m, v, weights, inner::powers_of(iteration), rate)
 }

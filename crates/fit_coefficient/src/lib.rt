@@ -18,12 +18,6 @@ pub struct Share {
     pub coefficient: f64,
 }
 
-#[derive(Clone, Copy)]
-pub enum Weighed {
-    Line(Share),
-    Refused(Refusal),
-}
-
 fn below_zero(whole: u64) -> i16
     requires { whole ≤ 1601 }
     ensures { result ≡ neg_ℤ (pos whole) }
@@ -71,17 +65,17 @@ fn coefficient(s: f64, half: u8, k: f64, lines: u64) -> f64
 }
 
 // By a line's double, its half points, K and how many lines there are: SHAPE (no lines), RESULT.
-pub fn weigh(value: f64, half: u8, k: f64, lines: u64) -> Weighed
+pub fn weigh(value: f64, half: u8, k: f64, lines: u64) -> Result<Share, Refusal>
     ensures { WeighsLine value half k lines result }
 {
     if lines == 0 {
-        return Weighed::Refused(Refusal::Shape);
+        return Err(Refusal::Shape);
     }
     if half > 2 {
-        return Weighed::Refused(Refusal::Result);
+        return Err(Refusal::Result);
     }
     let expected = points(k * value);
-    Weighed::Line(Share {
+    Ok(Share {
         expected,
         coefficient: coefficient(expected, half, k, lines),
     })

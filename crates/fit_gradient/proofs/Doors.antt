@@ -16,29 +16,29 @@ use Rattle.doubles.specs.Doubles.{dbl}
 use Rattle.fit_gradient.specs.Gradient.{named_parts, first_raised, line_added}
 use Rattle.fit_gradient.specs.Marks.{parts_of, squares_by}
 use Rattle.fit_gradient.specs.Promises.{AddsTrace}
-use Rattle.fit_gradient.specs.declared.Added.TheVariants.{Done, Refused}
 use Rattle.fit_gradient.specs.declared.Parts.{Parts}
 use Rattle.fit_gradient.proofs.Marks.{all_by_parts}
+use Rattle.std.specs.Prelude.{Ok, Err}
 
 module _ (t : Trace) (es : List ℤ) (c : Float) (g : List Float) where
-  pub unlike_entries : (length es ≡ 768 → ⊥) → AddsTrace t es c g (Refused R.Shape) g
+  pub unlike_entries : (length es ≡ 768 → ⊥) → AddsTrace t es c g (Err R.Shape) g
   unlike_entries n = record { answer = rw (ne_eqb (length es) 768 n); lent = rw (ne_eqb (length es) 768 n) }
 
-  pub unlike_gradient : length es ≡ 768 → (length g ≡ 779 → ⊥) → AddsTrace t es c g (Refused R.Shape) g
+  pub unlike_gradient : length es ≡ 768 → (length g ≡ 779 → ⊥) → AddsTrace t es c g (Err R.Shape) g
   unlike_gradient e n = record {
     answer = rw (eq-eqb (length es) 768 e, ne_eqb (length g) 779 n);
     lent =
         rw (eq-eqb (length es) 768 e, ne_eqb (length g) 779 n);
   }
 
-  pub no_trace_holds : length es ≡ 768 → length g ≡ 779 → (in_ranges t && are_entries es) ≡ false → AddsTrace t es c g (Refused R.Trace) g
+  pub no_trace_holds : length es ≡ 768 → length g ≡ 779 → (in_ranges t && are_entries es) ≡ false → AddsTrace t es c g (Err R.Trace) g
   no_trace_holds e f u = record {
     answer = simp (eq-eqb (length es) 768 e, eq-eqb (length g) 779 f, u);
     lent =
         simp (eq-eqb (length es) 768 e, eq-eqb (length g) 779 f, u);
   }
 
-  pub worked : length es ≡ 768 → length g ≡ 779 → (in_ranges t && are_entries es) ≡ true → (r : List Float) → r ≡ line_added t es c g → AddsTrace t es c g Done r
+  pub worked : length es ≡ 768 → length g ≡ 779 → (in_ranges t && are_entries es) ≡ true → (r : List Float) → r ≡ line_added t es c g → AddsTrace t es c g (Ok tt) r
   worked e f u r q = record {
     answer = simp (eq-eqb (length es) 768 e, eq-eqb (length g) 779 f, u);
     lent =

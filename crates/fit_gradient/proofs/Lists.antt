@@ -23,9 +23,9 @@ use Rattle.trace_list.proofs.Flat.{Mark, no, yes, mark_at, flat_entries, flat_le
 use Rattle.fit_gradient.specs.Gradient.{named_parts, first_raised, line_added}
 use Rattle.fit_gradient.specs.Marks.{parts_of, marked_by, squares_by}
 use Rattle.fit_gradient.specs.Lists.{mark_one, AddsList}
-use Rattle.fit_gradient.specs.declared.Added.TheVariants.{Done, Refused}
 use Rattle.fit_gradient.specs.declared.Parts.{Parts}
 use Rattle.fit_gradient.proofs.Doors.{line}
+use Rattle.std.specs.Prelude.{Ok, Err}
 
 -- ---- an entry that is 0 raises nothing
 one : (p : Parts) (g : List Float) (k : ℕ) {z : ℤ} → Mark z → marked_by p g k z ≡ cond (lt_z (pos 0) z) (mark_one p g k) g
@@ -59,13 +59,13 @@ same_line p used bytes g h =
 
 -- ---- the returns
 module _ (t : Trace) (used : ℕ) (bytes : List ℕ) (c : Float) (g : List Float) where
-  pub list_unlike : (length g ≡ 779 → ⊥) → AddsList t used bytes c g (Refused R.Shape) g
+  pub list_unlike : (length g ≡ 779 → ⊥) → AddsList t used bytes c g (Err R.Shape) g
   list_unlike n = record { answer = rw (ne_eqb (length g) 779 n); lent = rw (ne_eqb (length g) 779 n) }
 
-  pub list_no_trace : length g ≡ 779 → {a : Bool} → a ≡ in_ranges t → a ≡ false → AddsList t used bytes c g (Refused R.Trace) g
+  pub list_no_trace : length g ≡ 779 → {a : Bool} → a ≡ in_ranges t → a ≡ false → AddsList t used bytes c g (Err R.Trace) g
   list_no_trace e q u = record { answer = simp (eq-eqb (length g) 779 e, sym q ∙ u); lent = simp (eq-eqb (length g) 779 e, sym q ∙ u) }
 
-  pub no_list : length g ≡ 779 → {a b : Bool} → a ≡ in_ranges t → a ≡ true → b ≡ is_list used bytes → b ≡ false → AddsList t used bytes c g (Refused R.Entry) g
+  pub no_list : length g ≡ 779 → {a b : Bool} → a ≡ in_ranges t → a ≡ true → b ≡ is_list used bytes → b ≡ false → AddsList t used bytes c g (Err R.Entry) g
   no_list e q u l v = record { answer = simp (eq-eqb (length g) 779 e, sym q ∙ u, sym l ∙ v); lent = simp (eq-eqb (length g) 779 e, sym q ∙ u, sym l ∙ v) }
 
   -- the code's way round
@@ -81,7 +81,7 @@ module _ (t : Trace) (used : ℕ) (bytes : List ℕ) (c : Float) (g : List Float
 
   pub list_worked : length g ≡ 779 → {a b : Bool} → a ≡ in_ranges t → a ≡ true → b ≡ is_list used bytes → b ≡ true → (r : List Float)
       → r ≡ line_added t (flat_of (list_places bytes used)) c g
-      → AddsList t used bytes c g Done r
+      → AddsList t used bytes c g (Ok tt) r
   list_worked e q u l v r o = record {
     answer = simp (eq-eqb (length g) 779 e, sym q ∙ u, sym l ∙ v);
     lent =

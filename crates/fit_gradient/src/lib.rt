@@ -11,7 +11,6 @@ ghost use Rattle.trace_marks.specs.Marks.{groups_of, fold_from};
 ghost use Rattle.fit_gradient.specs.Promises.{AddsTrace};
 ghost use Rattle.fit_gradient.specs.Lists.{mark_one, AddsList};
 
-use bits::Lowest;
 use chess::color::Color;
 use chess::inner::index;
 use chess::piece::Piece;
@@ -30,12 +29,6 @@ const BISHOP: usize = chess::kind::BISHOP as usize;
 const ROOK: usize = chess::kind::ROOK as usize;
 
 const QUEEN: usize = chess::kind::QUEEN as usize;
-
-#[derive(Clone, Copy)]
-pub enum Added {
-    Done,
-    Refused(Refusal),
-}
 
 // The difference of two counts, times the coefficient. It is taken in 64 bits, where no two counts overflow.
 fn count_part(coefficient: f64, counts: [i32; 2]) -> f64
@@ -149,7 +142,7 @@ fn group_marked(gradient: &mut [f64], parts: Parts, entries: &[i32], group: usiz
     let mut rest = trace_marks::ones(entries, group);
     loop {
         let n = bits::next(rest);
-        let Lowest::At(j, r) = n else {
+        let Some((j, r)) = n else {
             return;
         };
         let k = GROUP * group + (j as usize);
@@ -166,7 +159,7 @@ fn squares_added(gradient: &mut [f64], parts: Parts, entries: &[i32], groups: u6
     let mut rest = groups;
     loop {
         let n = bits::next(rest);
-        let Lowest::At(group, r) = n else {
+        let Some((group, r)) = n else {
             return;
         };
         group_marked(gradient, parts, entries, group as usize);
@@ -175,14 +168,19 @@ fn squares_added(gradient: &mut [f64], parts: Parts, entries: &[i32], groups: u6
 }
 
 // The 768 entries and the 779 sums are lent. SHAPE, then TRACE.
-pub fn add(trace: Trace, entries: &[i32], coefficient: f64, gradient: &mut [f64]) -> Added
+pub fn add(
+    trace: Trace,
+    entries: &[i32],
+    coefficient: f64,
+    gradient: &mut [f64],
+) -> Result<(), Refusal>
     ensures { AddsTrace trace entries.now coefficient gradient.old result gradient.new }
 {
     if entries.len() != Entry::COUNT {
-        return Added::Refused(Refusal::Shape);
+        return Err(Refusal::Shape);
     }
     if gradient.len() != Weight::COUNT {
-        return Added::Refused(Refusal::Shape);
+        return Err(Refusal::Shape);
     }
     let seen = trace_marks::seen(entries);
     if trace.in_ranges() & seen.entries {
@@ -190,9 +188,9 @@ pub fn add(trace: Trace, entries: &[i32], coefficient: f64, gradient: &mut [f64]
         let squares = square_parts(coefficient, trace.piece_count as f64);
         named_added(&named, gradient);
         squares_added(gradient, squares, entries, seen.groups);
-        return Added::Done;
+        return Ok(());
     }
-    Added::Refused(Refusal::Trace)
+    Err(Refusal::Trace)
 }
 
 // The entries of a list, one after the other. White's part and Black's stand side by side and are picked by the colour: there is no jump on it to be
@@ -222,11 +220,11 @@ pub fn add_list(
     bytes: &[u8; BYTES],
     coefficient: f64,
     gradient: &mut [f64],
-) -> Added
+) -> Result<(), Refusal>
     ensures { AddsList trace used bytes.now coefficient gradient.old result gradient.new }
 {
     if gradient.len() != Weight::COUNT {
-        return Added::Refused(Refusal::Shape);
+        return Err(Refusal::Shape);
     }
     if trace.in_ranges() {
         if trace_list::is_list(used, bytes) {
@@ -234,9 +232,9 @@ pub fn add_list(
             let squares = square_parts(coefficient, trace.piece_count as f64);
             named_added(&named, gradient);
             list_added(gradient, squares, index(used), bytes);
-            return Added::Done;
+            return Ok(());
         }
-        return Added::Refused(Refusal::Entry);
+        return Err(Refusal::Entry);
     }
-    Added::Refused(Refusal::Trace)
+    Err(Refusal::Trace)
 }

@@ -11,12 +11,13 @@ use lib.Signed.{mag}
 use mir.Syntax.{w32}
 use mir.ValLaws.{to_z-of_z}
 use Rattle.laws.proofs.Words.{held}
-use Rattle.text_out.specs.Text.{Puts, Adds, place, after_of}
-use Rattle.text_out.specs.declared.Placed.{Placed}
+use Rattle.text_out.specs.Text.{Puts, Adds}
 use Rattle.text_out.proofs.Added.{adds_or, adds_to, adds_length, adds_then, adds_none, adds_3}
 use Rattle.trace_counts.specs.declared.Trace.{Trace}
 use Rattle.abi_records.specs.Records.{counts_of_rule}
 use Rattle.fit_sample.specs.Sample.{twos_complement, lowest_first, words_of, number_bytes, entry_bytes}
+use Rattle.std.specs.Prelude.{Option}
+use Rattle.std.specs.Option.{unwrap_or}
 
 pub words_length : (zs : List ℤ) → length (words_of zs) ≡ 4 * length zs
 unfolding words_of
@@ -44,10 +45,10 @@ pub words_kept : (out₀ out : List ℕ) (at end i : ℕ) (numbers : List ℤ) �
 words_kept out₀ out at end i numbers room a = let m = words_length (take i numbers) in let k = length-take i numbers in adds_length a (omega arith)
 
 -- one more
-pub words_more : (out₀ out out' : List ℕ) (at end end' i : ℕ) (numbers : List ℤ) (bytes : List ℕ) (p : Placed) → at + 4 * length numbers ≤ length out₀
+pub words_more : (out₀ out out' : List ℕ) (at end end' i : ℕ) (numbers : List ℤ) (bytes : List ℕ) (p : Option ℕ) → at + 4 * length numbers ≤ length out₀
     → i < length numbers
     → Adds out₀ at (words_of (take i numbers)) out end → mag (get_or numbers i (pos 0)) < 2 ^ 31
-    → bytes ≡ lowest_first (twos_complement (held w32 (get_or numbers i (pos 0)))) → Puts out out' end bytes p → end' ≡ after_of (place p) end
+    → bytes ≡ lowest_first (twos_complement (held w32 (get_or numbers i (pos 0)))) → Puts out out' end bytes p → end' ≡ unwrap_or p end
     → Adds out₀ at (words_of (take (i + 1) numbers)) out' end'
 words_more out₀ out out' at end end' i numbers bytes p room h a small e puts after =
     let z : ℤ = get_or numbers i (pos 0) in

@@ -7,8 +7,6 @@ use lib.ListN.{length, length-append}
 use Rattle.refusal.specs.Answer.{Answer, given, refused}
 use Rattle.refusal.specs.declared.Refusal.{Refusal}
 use Rattle.position.specs.declared.State.{State}
-use Rattle.position.specs.declared.Checked.{Checked}
-use Rattle.position.specs.declared.Checked.TheVariants.{Fit, Refused}
 use Rattle.position.proofs.Doors.{through}
 use Rattle.score_material.specs.Pieces.{pieces}
 use Rattle.trace_counts.specs.declared.Trace.{Trace}
@@ -20,6 +18,7 @@ use Rattle.trace_list_computed.specs.Promises.{list_traced_of, used_after, list_
 use Rattle.trace_list_computed.specs.declared.ListTraced.{ListTraced}
 use Rattle.fit_sample.specs.Sample.{number_bytes, entry_bytes, sample_by, sample_of}
 use Rattle.fit_sample.proofs.Parts.{numbers_104, entries_long}
+use Rattle.std.specs.Prelude.{Result, Ok, Err}
 
 listed_192 : (a : Answer Trace) (bbs before : List ℕ) → length before ≡ 192 → length (list_after a bbs before) ≡ 192
 listed_192 (given t) bbs before h = bytes_length (ones_in (entries_of bbs))
@@ -38,15 +37,15 @@ module _ (bbs board : List ℕ) (state : State) (half : ℕ) (before : List ℕ)
   pub list_long : length before ≡ 192 → length after ≡ 192
   list_long e = ap length h.lent ∙ listed_192 (list_traced_of bbs board state) bbs before e
 
-  pub sample_none : (q : Refusal) → r.checked ≡ Refused q → [] ≡ sample_of bbs board state half
+  pub sample_none : (q : Refusal) → r.checked ≡ Err q → [] ≡ sample_of bbs board state half
   unfolding sample_of
   sample_none q e =
       ap (λ (a : Answer Trace). sample_by a (pieces bbs) half (list_bytes (ones_in (entries_of bbs))))
-      (ap (λ (k : Checked). paper_of k r.trace) (sym e) ∙ h.answer)
+      (ap (λ (k : Result Unit Refusal). paper_of k r.trace) (sym e) ∙ h.answer)
 
-  module _ (fit : r.checked ≡ Fit) where
+  module _ (fit : r.checked ≡ Ok tt) where
     answered : given r.trace ≡ list_traced_of bbs board state
-    answered = ap (λ (k : Checked). paper_of k r.trace) (sym fit) ∙ h.answer
+    answered = ap (λ (k : Result Unit Refusal). paper_of k r.trace) (sym fit) ∙ h.answer
 
     pub sample_some : sample_by (given r.trace) r.used half after ≡ sample_of bbs board state half
     unfolding sample_of

@@ -6,8 +6,7 @@ ghost use Rattle.fit_sample.specs.Sample.{twos_complement, lowest_first, words_o
 ghost use Rattle.fit_sample.specs.Promises.{PutsSample};
 
 use crate::SAMPLE;
-use position::{Checked, State};
-use text_out::Placed;
+use position::State;
 use trace_counts::Trace;
 use trace_list::BYTES;
 
@@ -46,7 +45,7 @@ fn put_words(out: &mut [u8], at: usize, numbers: &[i32]) -> usize
     let mut end = at;
     for number in numbers {
         let bytes = bytes_of(bits(*number));
-        end = text_out::put(out, end, &bytes).or(end);
+        end = text_out::put(out, end, &bytes).unwrap_or(end);
     }
     end
 }
@@ -70,10 +69,10 @@ fn put_entries(used: u8, half: u8, list: &[u8], out: &mut [u8], at: usize) -> us
     ensures { Adds out.old at (entry_bytes used half list.now) out.new result }
 {
     let front = [used, half];
-    let a = text_out::put(out, at, &front).or(at);
-    let b = text_out::put(out, a, list).or(a);
+    let a = text_out::put(out, at, &front).unwrap_or(at);
+    let b = text_out::put(out, a, list).unwrap_or(a);
     let zeros = [0u8; 2];
-    text_out::put(out, b, &zeros).or(b)
+    text_out::put(out, b, &zeros).unwrap_or(b)
 }
 
 fn write(trace: Trace, used: u8, half: u8, list: &[u8], out: &mut [u8]) -> usize
@@ -92,14 +91,14 @@ pub fn put(
     half: u8,
     out: &mut [u8],
     at: usize,
-) -> Placed
+) -> Option<usize>
     ensures { PutsSample bitboards.now board.now state half out.old out.new at result }
 {
     let mut list = [0u8; BYTES];
     let traced = trace_list_computed::compute_list(bitboards, board, state, &mut list);
     let mut sample = [0u8; SAMPLE];
     let checked = traced.checked;
-    if let Checked::Refused(_) = checked {
+    if let Err(_) = checked {
         return text_out::put(out, at, &sample[..0]);
     }
     let trace = traced.trace;

@@ -1,12 +1,12 @@
 -- A fit, by document 02, W-211: "This is the tuner's step, one collection at a time": each iteration sums the gradient of the collection in
 -- line order from zeros, with the coefficients that the caller supplies for it, and takes one step. Definitions only.
-use Rattle.std.specs.Prelude.{◌≡◌, List, ℕ, zero, suc, ◌≤◌, length, Float}
+use Rattle.std.specs.Prelude.{◌≡◌, List, ℕ, zero, suc, ◌≤◌, length, Float, Result}
 use Rattle.laws.specs.Tables.{tabulate}
 use Rattle.doubles.specs.Doubles.{d0}
 use Rattle.fit_gradient.specs.Lines.{FitLine, AllGood, gradient_fed, gradient_summed}
 use Rattle.fit_adam.specs.Adam.{Fit, beta1, beta2, power, stepped}
 use Rattle.fit_adam.specs.Promises.{StepsFrom}
-use Rattle.fit_adam.specs.declared.Stepped.{Stepped}
+use Rattle.refusal.specs.declared.Refusal.{Refusal}
 
 -- 779 sums of nothing
 unfoldable pub zeros : List Float
@@ -23,7 +23,7 @@ fitted lines rate s (suc n) = stepped (power beta1 (suc n)) (power beta2 (suc n)
 -- iterations is t
 pub data Ran (lines : ℕ → List FitLine) (rate : Float) (s : Fit) : ℕ → Fit → Type 0 where
   begun : Ran lines rate s 0 s
-  iterated : {n : ℕ} {t u : Fit} {r : Stepped} → Ran lines rate s n t → StepsFrom (gradient_fed zeros (lines (suc n))) t (suc n) rate r u
+  iterated : {n : ℕ} {t u : Fit} {r : Result Unit Refusal} → Ran lines rate s n t → StepsFrom (gradient_fed zeros (lines (suc n))) t (suc n) rate r u
       → Ran lines rate s (suc n) u
 
 -- both moments and the weights are 779 long

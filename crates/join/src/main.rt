@@ -5,17 +5,10 @@
 // descriptor 3, last of all.
 #![tactic(auto)]
 
-use ledger_join::{EndedJoin, FedPart, Joining, NextPart};
+use ledger_feed::Unwritten;
+use ledger_join::{Joining, Unjoined};
 use std::io::Read;
-use stream_io::{Opened, Taken};
-
-// What follows a read: another one, the end of the part, or nothing more.
-#[derive(Clone, Copy)]
-enum Turn {
-    More(Joining),
-    End,
-    Stopped,
-}
+use stream_io::{Taken, Turn};
 
 // There is room for a row at each byte of a chunk, so no rows are counted before they are taken.
 fn main(rt: HostRuntime) {
@@ -42,7 +35,7 @@ fn read_parts(
     row: &mut [u8],
     chunk: &mut [u8],
     out: &mut [u8],
-) -> Turn {
+) -> Turn<Joining> {
     let mut state = ledger_join::start();
     for i in 1..count {
         match read_part(rt, i, state, row, chunk, out) {
@@ -67,31 +60,32 @@ fn read_part(
     row: &mut [u8],
     chunk: &mut [u8],
     out: &mut [u8],
-) -> Turn {
+) -> Turn<Joining> {
     let mut name = io::buffer();
     match stream_io::open_argument(rt, rt.stderr(), i, &mut name) {
-        Opened::File(mut file, n) => {
+        Some((mut file, n)) => {
             let what = &name[..n];
             let read = read_to_end(rt, &mut file, what, state, row, chunk, out);
             stream_io::close(file);
             end_part(rt, read, what)
         }
-        Opened::Failed => Turn::Stopped,
+        None => Turn::Stopped,
     }
 }
 
 // A part's end: it was a whole ledger, and the next one may come.
-fn end_part(rt: &HostRuntime, read: Turn, name: &[u8]) -> Turn {
+fn end_part(rt: &HostRuntime, read: Turn<Joining>, name: &[u8]) -> Turn<Joining> {
     let Turn::More(state) = read else {
         return Turn::Stopped;
     };
     match ledger_join::next_part(state) {
-        NextPart::Next(next) => Turn::More(next),
-        NextPart::NoLedger(part, row) => {
+        Ok(next) => Turn::More(next),
+        Err(Unjoined::NoLedger(part, row)) => {
             no_ledger(rt, name, part, row);
             Turn::Stopped
         }
-        NextPart::Many => {
+        // There is no row here that could lack room.
+        Err(Unjoined::Full | Unjoined::Many) => {
             stop(rt, b": more parts than 64 bits count\n");
             Turn::Stopped
         }
@@ -107,7 +101,7 @@ fn read_to_end<R: Read>(
     row: &mut [u8],
     chunk: &mut [u8],
     out: &mut [u8],
-) -> Turn {
+) -> Turn<Joining> {
     let mut state = state;
     let mut turns: u64 = 0;
     while stream::may_go_on(turns) {
@@ -140,7 +134,7 @@ fn read_some<R: Read>(
     row: &mut [u8],
     chunk: &mut [u8],
     out: &mut [u8],
-) -> Turn {
+) -> Turn<Joining> {
     match stream_io::read(rt.stderr(), from, chunk, what) {
         Taken::Bytes(n) => feed(rt, state, row, &chunk[..n], out),
         Taken::End => Turn::End,
@@ -148,20 +142,26 @@ fn read_some<R: Read>(
     }
 }
 
-fn feed(rt: &HostRuntime, state: Joining, row: &mut [u8], chunk: &[u8], out: &mut [u8]) -> Turn {
+fn feed(
+    rt: &HostRuntime,
+    state: Joining,
+    row: &mut [u8],
+    chunk: &[u8],
+    out: &mut [u8],
+) -> Turn<Joining> {
     match ledger_join::feed(state, row, chunk, out) {
-        FedPart::Rows(next, wrote) => {
+        Ok((next, wrote)) => {
             if write(rt, &out[..wrote]) {
                 return Turn::More(next);
             }
         }
-        FedPart::Full => {
+        Err(Unwritten::Full) => {
             stop(rt, b": too little room for rows\n");
         }
-        FedPart::Many => {
+        Err(Unwritten::Many) => {
             stop(rt, b": more lines than 64 bits count\n");
         }
-        FedPart::Refused(_) => {
+        Err(Unwritten::Refused(_)) => {
             stop(rt, b": no row buffer\n");
         }
     }
@@ -170,10 +170,10 @@ fn feed(rt: &HostRuntime, state: Joining, row: &mut [u8], chunk: &[u8], out: &mu
 
 fn finish(rt: &HostRuntime, state: Joining, out: &mut [u8]) -> bool {
     match ledger_join::finish(state, out) {
-        EndedJoin::Row(wrote) => write(rt, &out[..wrote]),
-        EndedJoin::NoLedger(_, _) => stop(rt, b": a part has not ended\n"),
-        EndedJoin::Full => stop(rt, b": too little room for the last row\n"),
-        EndedJoin::Many => stop(rt, b": more lines than 64 bits count\n"),
+        Ok(wrote) => write(rt, &out[..wrote]),
+        Err(Unjoined::NoLedger(_, _)) => stop(rt, b": a part has not ended\n"),
+        Err(Unjoined::Full) => stop(rt, b": too little room for the last row\n"),
+        Err(Unjoined::Many) => stop(rt, b": more lines than 64 bits count\n"),
     }
 }
 

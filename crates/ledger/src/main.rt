@@ -5,24 +5,14 @@
 // stay, no last row follows them, and the reason goes to standard error; that all is written is said on descriptor 3, last of all.
 #![tactic(auto)]
 
-use ledger_asked::Asked;
-use ledger_feed::{Fed, SoFar};
+use ledger_feed::{SoFar, Unwritten};
 use ledger_files::Ending;
-use ledger_finish::Finished;
 use line_profile::Profile;
 use std::io::Read;
-use stream_io::{Opened, Taken};
+use stream_io::{Taken, Turn};
 
 // The room for an option or its value. What does not fit is none that the program knows.
 const WORD: usize = 16;
-
-// What follows a read: another one, the end of the input, or nothing more.
-#[derive(Clone, Copy)]
-enum Turn {
-    More(SoFar),
-    End,
-    Stopped,
-}
 
 fn main(rt: HostRuntime) {
     let mut chunk = io::buffer();
@@ -39,8 +29,8 @@ fn write_ledger(rt: &HostRuntime, chunk: &mut [u8], out: &mut [u8]) -> bool {
     let mut second = [0u8; WORD];
     let m = stream_io::argument(rt, 2, &mut second);
     match ledger_asked::read_call(&first[..n], &second[..m]) {
-        Asked::For(profile, files) => write_rows(rt, profile, files, chunk, out),
-        Asked::Unknown => stop(rt, b": there is no such profile\n"),
+        Some((profile, files)) => write_rows(rt, profile, files, chunk, out),
+        None => stop(rt, b": there is no such profile\n"),
     }
 }
 
@@ -68,7 +58,7 @@ fn read_all(
     line: &mut [u8],
     chunk: &mut [u8],
     out: &mut [u8],
-) -> Turn {
+) -> Turn<SoFar> {
     let state = ledger_feed::start();
     let count = stream_io::argument_count(rt);
     if count <= files {
@@ -95,7 +85,7 @@ fn read_files(
     line: &mut [u8],
     chunk: &mut [u8],
     out: &mut [u8],
-) -> Turn {
+) -> Turn<SoFar> {
     let mut state = state;
     for i in files..count {
         match read_file(rt, profile, i, state, line, chunk, out) {
@@ -121,15 +111,15 @@ fn read_file(
     line: &mut [u8],
     chunk: &mut [u8],
     out: &mut [u8],
-) -> Turn {
+) -> Turn<SoFar> {
     let mut name = io::buffer();
     match stream_io::open_argument(rt, rt.stderr(), i, &mut name) {
-        Opened::File(mut file, n) => {
+        Some((mut file, n)) => {
             let read = read_to_end(rt, profile, &mut file, &name[..n], state, line, chunk, out);
             stream_io::close(file);
             end_file(rt, profile, read, line, out)
         }
-        Opened::Failed => Turn::Stopped,
+        None => Turn::Stopped,
     }
 }
 
@@ -137,10 +127,10 @@ fn read_file(
 fn end_file(
     rt: &HostRuntime,
     profile: Profile,
-    read: Turn,
+    read: Turn<SoFar>,
     line: &mut [u8],
     out: &mut [u8],
-) -> Turn {
+) -> Turn<SoFar> {
     let Turn::More(state) = read else {
         return Turn::Stopped;
     };
@@ -161,7 +151,7 @@ fn read_to_end<R: Read>(
     line: &mut [u8],
     chunk: &mut [u8],
     out: &mut [u8],
-) -> Turn {
+) -> Turn<SoFar> {
     let mut state = state;
     let mut turns: u64 = 0;
     while stream::may_go_on(turns) {
@@ -192,7 +182,7 @@ fn read_some<R: Read>(
     line: &mut [u8],
     chunk: &mut [u8],
     out: &mut [u8],
-) -> Turn {
+) -> Turn<SoFar> {
     match stream_io::read(rt.stderr(), from, chunk, what) {
         Taken::Bytes(n) => feed(rt, profile, state, line, &chunk[..n], out),
         Taken::End => Turn::End,
@@ -207,20 +197,20 @@ fn feed(
     line: &mut [u8],
     chunk: &[u8],
     out: &mut [u8],
-) -> Turn {
+) -> Turn<SoFar> {
     match ledger_feed::feed(profile, state, line, chunk, out) {
-        Fed::Rows(next, wrote) => {
+        Ok((next, wrote)) => {
             if write(rt, &out[..wrote]) {
                 return Turn::More(next);
             }
         }
-        Fed::Full => {
+        Err(Unwritten::Full) => {
             stop(rt, b": too little room for rows\n");
         }
-        Fed::Many => {
+        Err(Unwritten::Many) => {
             stop(rt, b": more lines than 64 bits count\n");
         }
-        Fed::Refused(_) => {
+        Err(Unwritten::Refused(_)) => {
             stop(rt, b": no line buffer\n");
         }
     }
@@ -229,10 +219,10 @@ fn feed(
 
 fn finish(rt: &HostRuntime, profile: Profile, state: SoFar, line: &[u8], out: &mut [u8]) -> bool {
     match ledger_finish::finish(profile, state, line, out) {
-        Finished::Rows(wrote) => write(rt, &out[..wrote]),
-        Finished::Full => stop(rt, b": too little room for the last rows\n"),
-        Finished::Many => stop(rt, b": more lines than 64 bits count\n"),
-        Finished::Refused(_) => stop(rt, b": no line buffer\n"),
+        Ok(wrote) => write(rt, &out[..wrote]),
+        Err(Unwritten::Full) => stop(rt, b": too little room for the last rows\n"),
+        Err(Unwritten::Many) => stop(rt, b": more lines than 64 bits count\n"),
+        Err(Unwritten::Refused(_)) => stop(rt, b": no line buffer\n"),
     }
 }
 

@@ -5,16 +5,16 @@ use mathlib.Core.List.{List}
 use Prim.Native.Nat.{ℕ}
 use Rattle.laws.specs.Tests.{same}
 use Rattle.text_in.specs.Text.{text}
+use Rattle.line_profile.specs.declared.Profile.{Profile}
 use Rattle.line_profile.specs.declared.Profile.TheVariants as P
 use Rattle.ledger_asked.specs.Called.{asked_of}
-use Rattle.ledger_asked.specs.declared.Asked.{Asked}
-use Rattle.ledger_asked.specs.declared.Asked.TheVariants as A
+use Rattle.std.specs.Prelude.{Option, None, Some}
 
 module _ (first second : List ℕ) where
-  abbrev by : Bool → Bool → Asked
-  by t u = cond t (cond u (A.For P.RealPlay 3) A.Unknown) (A.For P.Any 1)
+  abbrev by : Bool → Bool → Option (Profile × ℕ)
+  by t u = cond t (cond u (Some (P.RealPlay, 3)) None) (Some (P.Any, 1))
 
-  pub no_option : same first (text "--profile") ≡ false → A.For P.Any 1 ≡ asked_of first second
+  pub no_option : same first (text "--profile") ≡ false → Some (P.Any, 1) ≡ asked_of first second
   no_option e = sym (ap (λ (t : Bool). by t (same second (text "real-play"))) e)
 
   pub option : (u : Bool) → same first (text "--profile") ≡ true → same second (text "real-play") ≡ u → by true u ≡ asked_of first second

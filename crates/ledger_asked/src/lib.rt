@@ -11,22 +11,16 @@ const FILES: usize = 1;
 
 const FILES_BEHIND: usize = 3;
 
-// The profile, and the first argument that names a file, if there is one; or a profile that there is not.
-#[derive(Clone, Copy)]
-pub enum Asked {
-    For(Profile, usize),
-    Unknown,
-}
-
-// The arguments as words, empty where there is none. A profile that is not known is never taken for no profile.
-pub fn read_call(first: &[u8], second: &[u8]) -> Asked
+// The profile, and the first argument that names a file, if there is one; none for a profile that there is not. The arguments come as words, empty where
+// there is none. A profile that is not known is never taken for no profile.
+pub fn read_call(first: &[u8], second: &[u8]) -> Option<(Profile, usize)>
     ensures { AsksFor first.now second.now result }
 {
     if !is(first, b"--profile") {
-        return Asked::For(Profile::Any, FILES);
+        return Some((Profile::Any, FILES));
     }
     if is(second, b"real-play") {
-        return Asked::For(Profile::RealPlay, FILES_BEHIND);
+        return Some((Profile::RealPlay, FILES_BEHIND));
     }
-    Asked::Unknown
+    None
 }

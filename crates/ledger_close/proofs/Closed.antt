@@ -5,7 +5,7 @@ use mathlib.Core.List.{List}
 use Prim.Native.Nat.{ℕ, ◌≤◌}
 use lib.Dec.{ltb}
 use lib.ListN.{length, take}
-use Rattle.refusal.specs.Answer.{Answer, given, refused, refusal_of}
+use Rattle.refusal.specs.Answer.{Answer, given, refused, refusal_of, answered}
 use Rattle.refusal.specs.Refusals.{number_of}
 use Rattle.refusal.specs.declared.Refusal.{Refusal}
 use Rattle.refusal.specs.declared.Refusal.TheVariants as R
@@ -14,10 +14,9 @@ use Rattle.position_boards.specs.Boards.{bitboards_of}
 use Rattle.position_profile.proofs.Exactly.{either}
 use Rattle.line_ranks.specs.Promises.{empty_board}
 use Rattle.line_parse.specs.Line.{Line, line_of}
-use Rattle.line_parse.specs.Promises.{paper, by_value}
-use Rattle.line_parse.specs.declared.Read.{Read}
+use Rattle.line_parse.specs.Promises.{by_value}
 use Rattle.line.specs.Promises.{bitboards_after}
-use Rattle.text_out.specs.Text.{Puts, Adds, place, after_of}
+use Rattle.text_out.specs.Text.{Puts, Adds}
 use Rattle.text_out.proofs.Added.{adds_or}
 use Rattle.line_held.specs.Held.{said_of}
 use Rattle.line_profile.specs.Under.{under, said_under}
@@ -29,6 +28,9 @@ use Rattle.ledger_row.specs.Promises.{PutsRow}
 use Rattle.ledger_row.specs.declared.Row.{Row}
 use Rattle.ledger_row.proofs.Lengths.{refused_32, row_32}
 use Rattle.ledger_row.proofs.Rows.{row_read}
+use Rattle.std.specs.Prelude.{Result}
+use Rattle.position.specs.declared.State.{State}
+use Rattle.std.specs.Option.{unwrap_or}
 
 -- ---- no longer than 32 bytes
 held_32 : (number : ℕ) (line : List ℕ) (size : ℕ) → length (row_of number (said_of line size)) ≤ 32
@@ -49,9 +51,9 @@ pub said_32 : (profile : Profile) (number : ℕ) (line : List ℕ) (size : ℕ) 
 said_32 profile number line size = under_32 profile number (said_of line size) (held_32 number line size)
 
 -- ---- what was read and judged: its row is the line's under the profile
-pub row_judged : (profile : Profile) (number : ℕ) (said : Answer Line) (old new : List ℕ) (at : ℕ) (read : Read) (bitboards : List ℕ) (r : Row)
-    → paper read ≡ by_value (under profile said) → bitboards ≡ bitboards_after said (bitboards_of empty_board)
-    → PutsRow old new at (paper read) (said_row number bitboards (paper read)) r → PutsRow old new at (under profile said) (row_of number (under profile said)) r
+pub row_judged : (profile : Profile) (number : ℕ) (said : Answer Line) (old new : List ℕ) (at : ℕ) (read : Result (State × ℕ) Refusal) (bitboards : List ℕ) (r : Row)
+    → answered read ≡ by_value (under profile said) → bitboards ≡ bitboards_after said (bitboards_of empty_board)
+    → PutsRow old new at (answered read) (said_row number bitboards (answered read)) r → PutsRow old new at (under profile said) (row_of number (under profile said)) r
 row_judged profile number said old new at read bitboards r e f h = go (under profile said) refl
   where
     go : (a : Answer Line) → under profile said ≡ a → PutsRow old new at a (row_of number a) r
@@ -60,7 +62,7 @@ row_judged profile number said old new at read bitboards r e f h = go (under pro
         row_read number (given l) old new at read bitboards r (e ∙ ap by_value q)
         (f ∙ ap (λ (a : Answer Line). bitboards_after a (bitboards_of empty_board)) same) h
     go (refused n v) q =
-        let out : paper read ≡ refused n v = e ∙ ap by_value q in
+        let out : answered read ≡ refused n v = e ∙ ap by_value q in
         record {
           puts = subst (λ (u : List ℕ). Puts old new at u r.placed) (ap (said_row number bitboards) out) h.puts;
           loaded = h.loaded
@@ -69,7 +71,7 @@ row_judged profile number said old new at read bitboards r e f h = go (under pro
 
 -- ---- as a text that is added
 pub closed_adds : (number : ℕ) (old new : List ℕ) (at : ℕ) (said : Answer Line) (r : Row)
-    → PutsRow old new at said (row_of number said) r → (next : ℕ) → next ≡ after_of (place r.placed) at
+    → PutsRow old new at said (row_of number said) r → (next : ℕ) → next ≡ unwrap_or r.placed at
     → Adds old at (row_of number said) new next
 closed_adds number old new at said r h next q =
     adds_or old at (row_of number said) new r.placed next h.puts q

@@ -22,8 +22,8 @@ use Rattle.ledger_close.proofs.Closed.{said_32}
 use Rattle.ledger_feed.specs.Machine.{Machine, Kept, open_of, kept_of, machine_of, close_row, run, at, tally}
 use Rattle.ledger_feed.specs.Promises.{state_of, MakesState, Ready, Takes}
 use Rattle.ledger_feed.specs.declared.SoFar.{SoFar}
-use Rattle.ledger_feed.specs.declared.Fed.TheVariants as F
 use Rattle.ledger_feed.proofs.Counted.{tally_both}
+use Rattle.std.specs.Prelude.{Ok}
 
 abbrev pub begun_in : SoFar → Begun
 begun_in state = record { held = state.held; cr = state.cr }
@@ -109,7 +109,7 @@ turn_none profile state line chunk out r = record {
 -- after the last
 pub turn_end : (profile : Profile) (state : SoFar) (line₀ chunk out₀ line out : List ℕ) (begun : Begun) (loaded refused w i : ℕ) → length chunk ≤ i
     → Turn profile (ran_of profile state line₀ chunk) chunk out₀ line out begun loaded refused w i
-    → (next : SoFar) → MakesState begun.held begun.cr loaded refused next → Takes profile state line₀ chunk out₀ (F.Rows next w) line out
+    → (next : SoFar) → MakesState begun.held begun.cr loaded refused next → Takes profile state line₀ chunk out₀ (Ok (next, w)) line out
 turn_end profile state line₀ chunk out₀ line out begun loaded refused w i h t next made =
     let ran = Lines.turn_end (close_row profile) (ran_of profile state line₀ chunk) 256 chunk line begun (rows loaded refused (take w out)) i t.lines h in
     let m : run profile (at state line₀ []) chunk ≡ machine_of (record { left = opened begun line; kept = rows loaded refused (take w out) }) =
@@ -118,7 +118,7 @@ turn_end profile state line₀ chunk out₀ line out begun loaded refused w i h 
     let size : length (take w out) ≡ w = length-take-le w out (omega (arith, t.kept)) in
     let fits : 0 + length (take w out) ≤ length out₀ = omega arith in
     record {
-      answer = ap₂ F.Rows (made ∙ sym (ap state_of m)) (sym (ap (λ (x : Machine). length x.text) m ∙ size));
+      answer = ap₂ (λ x n. Ok (x, n)) (made ∙ sym (ap state_of m)) (sym (ap (λ (x : Machine). length x.text) m ∙ size));
       kept = sym (ap (λ (x : Machine). x.line) m);
       rows =
           sym (take-append-drop w out) ∙ ap (λ (l : List ℕ). take w out ++ l)

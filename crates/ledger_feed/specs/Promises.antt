@@ -1,5 +1,5 @@
 -- What each function promises, for all inputs. Definitions only.
-use Rattle.std.specs.Prelude.{◌≡◌, Bool, false, cond, List, [], ℕ, ◌+◌, ◌*◌, ◌^◌, ◌≤◌, ◌<◌, eqb, leb, ltb, length}
+use Rattle.std.specs.Prelude.{◌≡◌, Bool, false, cond, List, [], ℕ, ◌+◌, ◌*◌, ◌^◌, ◌≤◌, ◌<◌, eqb, leb, ltb, length, Result, Ok, Err}
 use Rattle.refusal.specs.Refusals.{number_of, beside_of}
 use Rattle.refusal.specs.declared.Refusal.{Refusal}
 use Rattle.refusal.specs.declared.Refusal.TheVariants as R
@@ -8,8 +8,8 @@ use Rattle.line_cut.specs.Lines.{ends}
 use Rattle.line_profile.specs.declared.Profile.{Profile}
 use Rattle.ledger_feed.specs.Machine.{Machine, at, run}
 use Rattle.ledger_feed.specs.declared.SoFar.{SoFar}
-use Rattle.ledger_feed.specs.declared.Fed.{Fed}
-use Rattle.ledger_feed.specs.declared.Fed.TheVariants as F
+use Rattle.ledger_feed.specs.declared.Unwritten.TheVariants as U
+use Rattle.ledger_feed.specs.declared.Unwritten.{Unwritten}
 
 -- before anything was read
 abbrev pub Starts : SoFar → Type 0
@@ -38,12 +38,12 @@ abbrev pub feed_of : Profile → SoFar → List ℕ → List ℕ → List ℕ �
 feed_of profile state line chunk out =
     fit line (state.loaded + state.refused + ends chunk) (leb (32 * ends chunk) (length out)) (run profile (at state line []) chunk)
 
--- the code's answer on the paper: the state, and how many bytes were written
-abbrev pub fed : Fed → Came (SoFar × ℕ)
-fed (F.Rows state wrote) = came (state, wrote)
-fed F.Full = full
-fed F.Many = many
-fed (F.Refused r) = turned_by r
+-- the code's answer on the paper: what it gives, or why nothing was written
+abbrev pub came_as : {A : Type 0} → Result A Unwritten → Came A
+came_as (Ok a) = came a
+came_as (Err U.Full) = full
+came_as (Err U.Many) = many
+came_as (Err (U.Refused r)) = turned_by r
 
 abbrev pub state_of : Machine → SoFar
 state_of m = record { held = m.held; cr = m.cr; loaded = m.loaded; refused = m.refused }
@@ -74,12 +74,12 @@ wrote (turned n l) = 0
 wrote many = 0
 wrote full = 0
 
-pub record Feeds (profile : Profile) (state : SoFar) (line chunk out : List ℕ) (r : Fed) (line' out' : List ℕ) : Type 0 where
-  pub answer : fed r ≡ came_by_value (feed_of profile state line chunk out)
+pub record Feeds (profile : Profile) (state : SoFar) (line chunk out : List ℕ) (r : Result (SoFar × ℕ) Unwritten) (line' out' : List ℕ) : Type 0 where
+  pub answer : came_as r ≡ came_by_value (feed_of profile state line chunk out)
   pub kept : line' ≡ line_after (feed_of profile state line chunk out) line
   pub rows : out' ≡ written_of out 0 (text_after (feed_of profile state line chunk out))
   -- follows from the others, for who takes the rows out
-  pub within : wrote (fed r) ≤ length out
+  pub within : wrote (came_as r) ≤ length out
 
 -- ---- private functions: a chunk whose rows have room, and what was taken
 pub record Ready (state : SoFar) (line chunk out : List ℕ) : Type 0 where
@@ -87,8 +87,8 @@ pub record Ready (state : SoFar) (line chunk out : List ℕ) : Type 0 where
   pub counts : state.loaded + state.refused + ends chunk < 2 ^ 64
   pub room : 32 * ends chunk ≤ length out
 
-pub record Takes (profile : Profile) (state : SoFar) (line chunk out : List ℕ) (r : Fed) (line' out' : List ℕ) : Type 0 where
-  pub answer : r ≡ F.Rows (state_of (run profile (at state line []) chunk)) (length (run profile (at state line []) chunk).text)
+pub record Takes (profile : Profile) (state : SoFar) (line chunk out : List ℕ) (r : Result (SoFar × ℕ) Unwritten) (line' out' : List ℕ) : Type 0 where
+  pub answer : r ≡ Ok (state_of (run profile (at state line []) chunk), length (run profile (at state line []) chunk).text)
   pub kept : line' ≡ (run profile (at state line []) chunk).line
   pub rows : out' ≡ written_of out 0 (run profile (at state line []) chunk).text
   pub within : length (run profile (at state line []) chunk).text ≤ length out

@@ -22,11 +22,9 @@ pub struct SoFar {
     pub refused: u64,
 }
 
-// The state after a chunk, and how many bytes of rows were written; or why nothing has changed: too little room, counts that
-// would pass 64 bits, or a line buffer that has not 256 bytes.
+// Why nothing was written and nothing has changed: too little room, counts that would pass 64 bits, or a refusal.
 #[derive(Clone, Copy)]
-pub enum Fed {
-    Rows(SoFar, usize),
+pub enum Unwritten {
     Full,
     Many,
     Refused(Refusal),
@@ -67,7 +65,13 @@ fn made(held: usize, cr: bool, loaded: u64, refused: u64) -> SoFar
 }
 
 // The bytes of a chunk, where there is room for their rows: from line's end to line's end.
-fn take(profile: Profile, state: SoFar, line: &mut [u8], chunk: &[u8], out: &mut [u8]) -> Fed
+fn take(
+    profile: Profile,
+    state: SoFar,
+    line: &mut [u8],
+    chunk: &[u8],
+    out: &mut [u8],
+) -> Result<(SoFar, usize), Unwritten>
     requires { Ready state line.old chunk.now out.old }
     ensures { Takes profile state line.old chunk.now out.old result line.new out.new }
 {
@@ -96,27 +100,34 @@ fn take(profile: Profile, state: SoFar, line: &mut [u8], chunk: &[u8], out: &mut
             );
             let placed = row.placed;
             let is_loaded = row.loaded;
-            wrote = placed.or(wrote);
+            wrote = placed.unwrap_or(wrote);
             loaded += is_loaded as u64;
             refused += !is_loaded as u64;
         }
     }
-    Fed::Rows(made(begun.held, begun.cr, loaded, refused), wrote)
+    Ok((made(begun.held, begun.cr, loaded, refused), wrote))
 }
 
-// Takes a chunk of any size: a row for each line that ends in it, by what it says under the profile. It needs 32 bytes of room for each of them.
-pub fn feed(profile: Profile, state: SoFar, line: &mut [u8], chunk: &[u8], out: &mut [u8]) -> Fed
+// Takes a chunk of any size: a row for each line that ends in it, by what it says under the profile. The state after it, and how many bytes of rows were
+// written; or why nothing has changed: a line buffer that has not 256 bytes, counts that would pass 64 bits, less than 32 bytes of room for each row.
+pub fn feed(
+    profile: Profile,
+    state: SoFar,
+    line: &mut [u8],
+    chunk: &[u8],
+    out: &mut [u8],
+) -> Result<(SoFar, usize), Unwritten>
     ensures { Feeds profile state line.old chunk.now out.old result line.new out.new }
 {
     if line.len() != LINE {
-        return Fed::Refused(Refusal::Shape);
+        return Err(Unwritten::Refused(Refusal::Shape));
     }
     let ends = line_cut::ends(chunk);
     if !countable(state.loaded, state.refused, ends) {
-        return Fed::Many;
+        return Err(Unwritten::Many);
     }
     if out.len() / ROW < ends {
-        return Fed::Full;
+        return Err(Unwritten::Full);
     }
     take(profile, state, line, chunk, out)
 }

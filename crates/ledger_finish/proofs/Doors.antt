@@ -11,8 +11,6 @@ use borrow.Author.Tests.{lt-ltb, le-ltb, leb-true}
 use Rattle.refusal.specs.declared.Refusal.TheVariants as R
 use Rattle.ledger_row.specs.Row.{row_of, is_loaded}
 use Rattle.text_out.specs.Text.{Puts, Adds, place, place_of, written_of, room_for}
-use Rattle.text_out.specs.declared.Placed.{Placed}
-use Rattle.text_out.specs.declared.Placed.TheVariants.{At, Full}
 use Rattle.text_out.proofs.Added.{adds_then}
 use Rattle.ledger_totals.specs.Totals.{last_row}
 use Rattle.ledger_totals.proofs.Fits.{fits_last}
@@ -20,14 +18,15 @@ use Rattle.line_profile.specs.Under.{said_under}
 use Rattle.line_profile.specs.declared.Profile.{Profile}
 use Rattle.ledger_close.proofs.Closed.{said_32}
 use Rattle.ledger_feed.specs.Machine.{Machine, at, close, tally}
-use Rattle.ledger_feed.specs.Promises.{Came, turned_by, many, full, came}
+use Rattle.ledger_feed.specs.Promises.{Came, turned_by, many, full, came, came_as}
 use Rattle.ledger_feed.specs.declared.SoFar.{SoFar}
 use Rattle.ledger_feed.proofs.Counted.{tally_both}
 use Rattle.ledger_feed.proofs.Doors.{written_nothing, fit_shape, fit_many, fit_full, fit_came}
 use Rattle.ledger_finish.specs.Last.{totals, finished}
-use Rattle.ledger_finish.specs.Promises.{last_lines, finish_of, finish_paper, length_of, last_text, last_wrote, Finishes}
-use Rattle.ledger_finish.specs.declared.Finished.{Finished}
-use Rattle.ledger_finish.specs.declared.Finished.TheVariants as E
+use Rattle.ledger_finish.specs.Promises.{last_lines, finish_of, length_of, last_text, last_wrote, Finishes}
+use Rattle.std.specs.Prelude.{Option, None, Some, Result, Ok, Err}
+use Rattle.ledger_feed.specs.declared.Unwritten.TheVariants as U
+use Rattle.ledger_feed.specs.declared.Unwritten.{Unwritten}
 
 -- ---- what `put` answers
 pub placed_at : (old : List ℕ) (at : ℕ) (text : List ℕ) (n : ℕ) → n ∷ [] ≡ place_of old at text → (room_for old at text ≡ true) × (n ≡ at + length text)
@@ -101,8 +100,8 @@ module _ (profile : Profile) (state : SoFar) (line out : List ℕ) where
   last : List ℕ
   last = finished profile (at state line [])
 
-  silent : (r : Finished) (a : Came (List ℕ)) → finish_of profile state line out ≡ a → finish_paper r ≡ length_of a → last_text a ≡ []
-      → last_wrote (finish_paper r) ≡ 0
+  silent : (r : Result ℕ Unwritten) (a : Came (List ℕ)) → finish_of profile state line out ≡ a → came_as r ≡ length_of a → last_text a ≡ []
+      → last_wrote (came_as r) ≡ 0
       → (out' : List ℕ) → out' ≡ out → Finishes profile state line out r out'
   silent r a e f t z out' o = record {
     answer = f ∙ sym (ap length_of e);
@@ -110,28 +109,28 @@ module _ (profile : Profile) (state : SoFar) (line out : List ℕ) where
     within = omega arith;
   }
 
-  pub finish_shape : (length line ≡ 256 → ⊥) → Finishes profile state line out (E.Refused R.Shape) out
+  pub finish_shape : (length line ≡ 256 → ⊥) → Finishes profile state line out (Err (U.Refused R.Shape)) out
   unfolding last
-  finish_shape n = silent (E.Refused R.Shape) (turned_by R.Shape) (fit_shape line (last_lines state) (room_for out 0 last) last n) refl refl refl out refl
+  finish_shape n = silent (Err (U.Refused R.Shape)) (turned_by R.Shape) (fit_shape line (last_lines state) (room_for out 0 last) last n) refl refl refl out refl
 
   module _ (size : length line ≡ 256) where
-    pub finish_many : ltb (last_lines state) (2 ^ 64) ≡ false → Finishes profile state line out E.Many out
+    pub finish_many : ltb (last_lines state) (2 ^ 64) ≡ false → Finishes profile state line out (Err U.Many) out
     unfolding last
-    finish_many n = silent E.Many many (fit_many line (last_lines state) (room_for out 0 last) last size n) refl refl refl out refl
+    finish_many n = silent (Err U.Many) many (fit_many line (last_lines state) (room_for out 0 last) last size n) refl refl refl out refl
 
     module _ (counts : ltb (last_lines state) (2 ^ 64) ≡ true) (text : List ℕ) (is : text ≡ finished profile (at state line [])) (out' : List ℕ)
-        (p : Placed) (put : Puts out out' 0 text p) where
+        (p : Option ℕ) (put : Puts out out' 0 text p) where
       puts : Puts out out' 0 (finished profile (at state line [])) p
       puts = subst (λ (t : List ℕ). Puts out out' 0 t p) is put
 
-      pub finish_full : p ≡ Full → Finishes profile state line out E.Full out'
+      pub finish_full : p ≡ None → Finishes profile state line out (Err U.Full) out'
       unfolding last
       finish_full told =
           let none = placed_full out 0 last (sym (ap place told) ∙ puts.0) in
-          silent E.Full full (fit_full line (last_lines state) (room_for out 0 last) last size counts none) refl refl refl out'
+          silent (Err U.Full) full (fit_full line (last_lines state) (room_for out 0 last) last size counts none) refl refl refl out'
           (puts.1 ∙ unwritten out 0 last none)
 
-      pub finish_rows : (n : ℕ) → p ≡ At n → Finishes profile state line out (E.Rows n) out'
+      pub finish_rows : (n : ℕ) → p ≡ Some n → Finishes profile state line out (Ok n) out'
       unfolding last
       finish_rows n told =
           let one = placed_at out 0 last n (sym (ap place told) ∙ puts.0) in

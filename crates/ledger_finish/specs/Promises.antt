@@ -1,13 +1,12 @@
 -- What each function promises, for all inputs. Definitions only.
-use Rattle.std.specs.Prelude.{◌≡◌, cond, List, [], ℕ, ◌+◌, ◌≤◌, ltb, length}
+use Rattle.std.specs.Prelude.{◌≡◌, cond, List, [], ℕ, ◌+◌, ◌≤◌, ltb, length, Result}
 use Rattle.text_out.specs.Text.{written_of, room_for}
 use Rattle.line_profile.specs.declared.Profile.{Profile}
 use Rattle.ledger_feed.specs.Machine.{at}
-use Rattle.ledger_feed.specs.Promises.{Came, turned, turned_by, many, full, came, fit}
+use Rattle.ledger_feed.specs.Promises.{Came, turned, many, full, came, fit, came_as}
 use Rattle.ledger_feed.specs.declared.SoFar.{SoFar}
 use Rattle.ledger_finish.specs.Last.{finished}
-use Rattle.ledger_finish.specs.declared.Finished.{Finished}
-use Rattle.ledger_finish.specs.declared.Finished.TheVariants as E
+use Rattle.ledger_feed.specs.declared.Unwritten.{Unwritten}
 
 -- one line more where some of it was held
 abbrev pub unfinished : ℕ → ℕ
@@ -24,12 +23,6 @@ abbrev pub finish_of : Profile → SoFar → List ℕ → List ℕ → Came (Lis
 finish_of profile state line out =
     let text : List ℕ = finished profile (at state line []) in
     fit line (last_lines state) (room_for out 0 text) text
-
-abbrev pub finish_paper : Finished → Came ℕ
-finish_paper (E.Rows wrote) = came wrote
-finish_paper E.Full = full
-finish_paper E.Many = many
-finish_paper (E.Refused r) = turned_by r
 
 abbrev pub length_of : Came (List ℕ) → Came ℕ
 length_of (came text) = came (length text)
@@ -49,7 +42,7 @@ last_wrote (turned n l) = 0
 last_wrote many = 0
 last_wrote full = 0
 
-pub record Finishes (profile : Profile) (state : SoFar) (line out : List ℕ) (r : Finished) (out' : List ℕ) : Type 0 where
-  pub answer : finish_paper r ≡ length_of (finish_of profile state line out)
+pub record Finishes (profile : Profile) (state : SoFar) (line out : List ℕ) (r : Result ℕ Unwritten) (out' : List ℕ) : Type 0 where
+  pub answer : came_as r ≡ length_of (finish_of profile state line out)
   pub rows : out' ≡ written_of out 0 (last_text (finish_of profile state line out))
-  pub within : last_wrote (finish_paper r) ≤ length out
+  pub within : last_wrote (came_as r) ≤ length out

@@ -1,68 +1,43 @@
 -- Each public function is determined by its promise: two answers, and two contents of each lent memory, that it allows are equal.
 -- Assumes nothing.
-use mathlib.Core.Path.{◌≡◌, refl, ap}
+use mathlib.Core.Path.{◌≡◌, refl}
 use mathlib.Core.List.{List}
 use Prim.Native.Nat.{ℕ}
-use Rattle.refusal.proofs.Paper.{one, retract, of_number, number_back}
-use Rattle.ledger_feed.specs.Promises.{Came, turned, many, full, came}
-use Rattle.ledger_join.specs.Promises.{StartsJoin, fed_part, FeedsPart, PartEnd, onward, no_ledger_at, tooMany, noRoom, next_said, TurnsPart}
-use Rattle.ledger_join.specs.Promises.{end_said, EndsJoin}
+use Rattle.refusal.proofs.Paper.{one, retract}
+use Rattle.ledger_join.specs.Promises.{StartsJoin, FeedsPart, PartEnd, onward, no_ledger_at, tooMany, noRoom, TurnsPart, part_said}
+use Rattle.ledger_join.specs.Promises.{EndsJoin}
 use Rattle.ledger_join.specs.declared.Joining.{Joining}
-use Rattle.ledger_join.specs.declared.FedPart.{FedPart}
-use Rattle.ledger_join.specs.declared.FedPart.TheVariants as F
-use Rattle.ledger_join.specs.declared.NextPart.{NextPart}
-use Rattle.ledger_join.specs.declared.NextPart.TheVariants as N
-use Rattle.ledger_join.specs.declared.EndedJoin.{EndedJoin}
-use Rattle.ledger_join.specs.declared.EndedJoin.TheVariants as E
+use Rattle.ledger_join.specs.declared.Unjoined.{Unjoined}
+use Rattle.ledger_join.specs.declared.Unjoined.TheVariants as J
+use Rattle.std.specs.Prelude.{Result, Ok, Err}
+use Rattle.ledger_feed.specs.declared.Unwritten.{Unwritten}
+use Rattle.ledger_feed.proofs.Determined.{came_same}
 
 -- ---- answers that read the same are one
-abbrev fed_from : Came (Joining × ℕ) → FedPart
-fed_from (came p) = F.Rows p.0 p.1
-fed_from full = F.Full
-fed_from many = F.Many
-fed_from (turned n l) = F.Refused (of_number n l)
+abbrev part_from : {A : Type 0} → PartEnd A → Result A Unjoined
+part_from (onward a) = Ok a
+part_from (no_ledger_at part number) = Err (J.NoLedger part number)
+part_from tooMany = Err J.Many
+part_from noRoom = Err J.Full
 
-fed_back : (r : FedPart) → fed_from (fed_part r) ≡ r
-fed_back (F.Rows state wrote) = refl
-fed_back F.Full = refl
-fed_back F.Many = refl
-fed_back (F.Refused q) = ap F.Refused (number_back q)
-
-abbrev next_from : PartEnd Joining → NextPart
-next_from (onward s) = N.Next s
-next_from (no_ledger_at part number) = N.NoLedger part number
-next_from tooMany = N.Many
-next_from noRoom = N.Many
-
-next_back : (r : NextPart) → next_from (next_said r) ≡ r
-next_back (N.Next s) = refl
-next_back (N.NoLedger part number) = refl
-next_back N.Many = refl
-
-abbrev end_from : PartEnd ℕ → EndedJoin
-end_from (onward n) = E.Row n
-end_from (no_ledger_at part number) = E.NoLedger part number
-end_from tooMany = E.Many
-end_from noRoom = E.Full
-
-end_back : (r : EndedJoin) → end_from (end_said r) ≡ r
-end_back (E.Row n) = refl
-end_back (E.NoLedger part number) = refl
-end_back E.Full = refl
-end_back E.Many = refl
+part_back : {A : Type 0} (r : Result A Unjoined) → part_from (part_said r) ≡ r
+part_back (Ok a) = refl
+part_back (Err (J.NoLedger part number)) = refl
+part_back (Err J.Full) = refl
+part_back (Err J.Many) = refl
 
 -- ---- the functions
 pub start : (r s : Joining) → StartsJoin r → StartsJoin s → r ≡ s
 start r s p q = one p q
 
-pub feed : (state : Joining) (row chunk out : List ℕ) (r s : FedPart) (row₁ out₁ row₂ out₂ : List ℕ)
+pub feed : (state : Joining) (row chunk out : List ℕ) (r s : Result (Joining × ℕ) Unwritten) (row₁ out₁ row₂ out₂ : List ℕ)
     → FeedsPart state row chunk out r row₁ out₁ → FeedsPart state row chunk out s row₂ out₂ → (r ≡ s) × (row₁ ≡ row₂) × (out₁ ≡ out₂)
 feed state row chunk out r s row₁ out₁ row₂ out₂ p q =
-    (retract fed_part fed_from fed_back r s (one p.answer q.answer), one p.kept q.kept, one p.rows q.rows)
+    (came_same r s (one p.answer q.answer), one p.kept q.kept, one p.rows q.rows)
 
-pub next_part_holds : (state : Joining) (r s : NextPart) → TurnsPart state r → TurnsPart state s → r ≡ s
-next_part_holds state r s p q = retract next_said next_from next_back r s (one p q)
+pub next_part_holds : (state : Joining) (r s : Result Joining Unjoined) → TurnsPart state r → TurnsPart state s → r ≡ s
+next_part_holds state r s p q = retract part_said part_from part_back r s (one p q)
 
-pub finish : (state : Joining) (out : List ℕ) (r s : EndedJoin) (out₁ out₂ : List ℕ) → EndsJoin state out r out₁ → EndsJoin state out s out₂ → (r ≡ s)
+pub finish : (state : Joining) (out : List ℕ) (r s : Result ℕ Unjoined) (out₁ out₂ : List ℕ) → EndsJoin state out r out₁ → EndsJoin state out s out₂ → (r ≡ s)
     × (out₁ ≡ out₂)
-finish state out r s out₁ out₂ p q = (retract end_said end_from end_back r s (one p.answer q.answer), one p.row q.row)
+finish state out r s out₁ out₂ p q = (retract part_said part_from part_back r s (one p.answer q.answer), one p.row q.row)

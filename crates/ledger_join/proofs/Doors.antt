@@ -13,20 +13,21 @@ use Rattle.text_out.proofs.Added.{adds_to}
 use Rattle.line_cut.specs.Lines.{ends}
 use Rattle.line_cut.proofs.Counted.{ends_le}
 use Rattle.ledger_totals.proofs.Fits.{fits_last}
-use Rattle.ledger_feed.specs.Promises.{Came, turned_by, many, full, came}
+use Rattle.ledger_feed.specs.Promises.{Came, turned_by, many, full, came, came_as}
 use Rattle.ledger_feed.proofs.Doors.{written_nothing}
 use Rattle.ledger_joined_row.proofs.Laws.{and_left, and_right}
 use Rattle.ledger_join.specs.Machine.{Joint, joint, own_number, bytes_on}
-use Rattle.ledger_join.specs.Promises.{counts_fit, is_ample, fit_of, feed_part, fed_part, joint_by_value, row_after, joint_text, wrote_of, FeedsPart, RowReady}
+use Rattle.ledger_join.specs.Promises.{counts_fit, is_ample, fit_of, feed_part, joint_by_value, row_after, joint_text, wrote_of, FeedsPart, RowReady}
 use Rattle.ledger_join.specs.Promises.{TakesBytes}
 use Rattle.ledger_join.specs.Promises.{PartEnd, onward, no_ledger_at, tooMany, noRoom, next_part, next_part_of, is_between, totals_of_all, end_join_of}
-use Rattle.ledger_join.specs.Promises.{end_said, end_by_value, end_text, end_wrote, EndsJoin}
+use Rattle.ledger_join.specs.Promises.{part_said, end_by_value, end_text, end_wrote, EndsJoin}
 use Rattle.ledger_join.specs.declared.Joining.{Joining}
-use Rattle.ledger_join.specs.declared.FedPart.{FedPart}
-use Rattle.ledger_join.specs.declared.FedPart.TheVariants as F
 use Rattle.ledger_join.specs.declared.Fit.TheVariants as I
-use Rattle.ledger_join.specs.declared.EndedJoin.{EndedJoin}
-use Rattle.ledger_join.specs.declared.EndedJoin.TheVariants as E
+use Rattle.ledger_join.specs.declared.Unjoined.{Unjoined}
+use Rattle.ledger_join.specs.declared.Unjoined.TheVariants as J
+use Rattle.std.specs.Prelude.{Result, Err, Ok}
+use Rattle.ledger_feed.specs.declared.Unwritten.TheVariants as U
+use Rattle.ledger_feed.specs.declared.Unwritten.{Unwritten}
 
 -- ---- the counts
 module _ (s : Joining) (more : ℕ) (e : counts_fit s more ≡ true) where
@@ -94,8 +95,8 @@ many_counts true false e = absurd (let z : ◌≡◌ {A = ℕ} 0 1 = cc in omega
 -- ---- feed
 module _ (s : Joining) (row chunk out : List ℕ) where
   -- an answer of its own, with nothing changed
-  unchanged : (r : FedPart) (a : Came Joint) → feed_part s row chunk out ≡ a → fed_part r ≡ joint_by_value a → row_after a row ≡ row → joint_text a ≡ []
-      → wrote_of (fed_part r) ≡ 0
+  unchanged : (r : Result (Joining × ℕ) Unwritten) (a : Came Joint) → feed_part s row chunk out ≡ a → came_as r ≡ joint_by_value a → row_after a row ≡ row → joint_text a ≡ []
+      → wrote_of (came_as r) ≡ 0
       → FeedsPart s row chunk out r row out
   unchanged r a e f k t z = record {
     answer = f ∙ sym (ap joint_by_value e);
@@ -104,20 +105,20 @@ module _ (s : Joining) (row chunk out : List ℕ) where
     within = omega arith;
   }
 
-  pub feed_shape : (length row ≡ 84 → ⊥) → FeedsPart s row chunk out (F.Refused R.Shape) row out
-  feed_shape n = unchanged (F.Refused R.Shape) (turned_by R.Shape) (rw (ne_eqb (length row) 84 n)) refl refl refl refl
+  pub feed_shape : (length row ≡ 84 → ⊥) → FeedsPart s row chunk out (Err (U.Refused R.Shape)) row out
+  feed_shape n = unchanged (Err (U.Refused R.Shape)) (turned_by R.Shape) (rw (ne_eqb (length row) 84 n)) refl refl refl refl
 
   module _ (size : length row ≡ 84) where
-    pub feed_many : fit_of s chunk (length out) ≡ I.Many → FeedsPart s row chunk out F.Many row out
+    pub feed_many : fit_of s chunk (length out) ≡ I.Many → FeedsPart s row chunk out (Err U.Many) row out
     feed_many e =
         let n = many_counts (counts_fit s (ends chunk)) (leb (ends chunk) (length out / 64)) e in
-        unchanged F.Many many (rw (eq-eqb (length row) 84 size, n)) refl refl refl refl
+        unchanged (Err U.Many) many (rw (eq-eqb (length row) 84 size, n)) refl refl refl refl
 
-    pub feed_full : fit_of s chunk (length out) ≡ I.Full → FeedsPart s row chunk out F.Full row out
+    pub feed_full : fit_of s chunk (length out) ≡ I.Full → FeedsPart s row chunk out (Err U.Full) row out
     feed_full e =
         let p = full_both (counts_fit s (ends chunk)) (leb (ends chunk) (length out / 64)) e in
         let n = leb-false (ends chunk) (length out / 64) p.1 in
-        unchanged F.Full full (rw (eq-eqb (length row) 84 size, p.0, lt-leb (64 * ends chunk) (length out) (omega arith))) refl refl refl refl
+        unchanged (Err U.Full) full (rw (eq-eqb (length row) 84 size, p.0, lt-leb (64 * ends chunk) (length out) (omega arith))) refl refl refl refl
 
     module _ (e : fit_of s chunk (length out) ≡ I.Takes) where
       counts : counts_fit s (ends chunk) ≡ true
@@ -129,15 +130,15 @@ module _ (s : Joining) (row chunk out : List ℕ) where
       pub feed_ready : RowReady s out 0 (ends chunk)
       feed_ready = record { all = all_fit s (ends chunk) counts; own = own_fit s (ends chunk) counts; room = omega (arith, room) }
 
-      pub feed_rows : (r : FedPart) (row' out' : List ℕ) → TakesBytes s row chunk out r row' out' → FeedsPart s row chunk out r row' out'
+      pub feed_rows : (r : Result (Joining × ℕ) Unwritten) (row' out' : List ℕ) → TakesBytes s row chunk out r row' out' → FeedsPart s row chunk out r row' out'
       feed_rows r row' out' t =
           let e : feed_part s row chunk out ≡ came (bytes_on (joint row s []) chunk) =
           rw (eq-eqb (length row) 84 size, counts, le-leb (64 * ends chunk) (length out) (omega (arith, room))) in
           record {
-            answer = ap fed_part t.answer ∙ sym (ap joint_by_value e);
+            answer = ap came_as t.answer ∙ sym (ap joint_by_value e);
             kept = t.kept ∙ sym (ap (λ (a : Came Joint). row_after a row) e);
             rows = t.rows ∙ sym (ap (λ (a : Came Joint). written_of out 0 (joint_text a)) e);
-            within = subst (λ (q : FedPart). wrote_of (fed_part q) ≤ length out) (sym t.answer) t.within;
+            within = subst (λ (q : Result (Joining × ℕ) Unwritten). wrote_of (came_as q) ≤ length out) (sym t.answer) t.within;
           }
 
 -- ---- next_part
@@ -155,7 +156,7 @@ module _ (s : Joining) where
 
 -- ---- finish
 module _ (s : Joining) (out : List ℕ) where
-  none_put : (r : EndedJoin) (a : PartEnd (List ℕ)) → end_join_of s out ≡ a → end_said r ≡ end_by_value a → end_text a ≡ [] → end_wrote (end_said r) ≡ 0
+  none_put : (r : Result ℕ Unjoined) (a : PartEnd (List ℕ)) → end_join_of s out ≡ a → part_said r ≡ end_by_value a → end_text a ≡ [] → end_wrote (part_said r) ≡ 0
       → EndsJoin s out r out
   none_put r a e f t z = record {
     answer = f ∙ sym (ap end_by_value e);
@@ -163,18 +164,18 @@ module _ (s : Joining) (out : List ℕ) where
     within = omega arith;
   }
 
-  pub end_many : counts_fit s 1 ≡ false → EndsJoin s out E.Many out
-  end_many e = none_put E.Many tooMany (rw e) refl refl refl
+  pub end_many : counts_fit s 1 ≡ false → EndsJoin s out (Err J.Many) out
+  end_many e = none_put (Err J.Many) tooMany (rw e) refl refl refl
 
   module _ (counts : counts_fit s 1 ≡ true) where
-    pub end_open : is_between s ≡ false → (number : ℕ) → number ≡ own_number s → EndsJoin s out (E.NoLedger s.part number) out
-    end_open e number q = none_put (E.NoLedger s.part number) (no_ledger_at s.part (own_number s)) (rw (counts, e)) (ap (no_ledger_at s.part) q) refl refl
+    pub end_open : is_between s ≡ false → (number : ℕ) → number ≡ own_number s → EndsJoin s out (Err (J.NoLedger s.part number)) out
+    end_open e number q = none_put (Err (J.NoLedger s.part number)) (no_ledger_at s.part (own_number s)) (rw (counts, e)) (ap (no_ledger_at s.part) q) refl refl
 
     module _ (between : is_between s ≡ true) where
-      pub end_full : length out < 84 → EndsJoin s out E.Full out
-      end_full h = none_put E.Full noRoom (rw (counts, between, lt-leb 84 (length out) h)) refl refl refl
+      pub end_full : length out < 84 → EndsJoin s out (Err J.Full) out
+      end_full h = none_put (Err J.Full) noRoom (rw (counts, between, lt-leb 84 (length out) h)) refl refl refl
 
-      pub end_row : 84 ≤ length out → (r : ℕ) (out' : List ℕ) → Adds out 0 (totals_of_all s) out' r → EndsJoin s out (E.Row r) out'
+      pub end_row : 84 ≤ length out → (r : ℕ) (out' : List ℕ) → Adds out 0 (totals_of_all s) out' r → EndsJoin s out (Ok r) out'
       end_row h r out' a =
           let e : end_join_of s out ≡ onward (totals_of_all s) = rw (counts, between, le-leb 84 (length out) h) in
           let f = fits_last (s.loads + s.refusals) s.loads s.refusals in

@@ -15,8 +15,8 @@ use Rattle.ledger_join.specs.Machine.{Joint, joint, bytes_on}
 use Rattle.ledger_join.specs.Promises.{RowReady, SomeReady, TakesSome, KeepsNumber, TakesBytes}
 use Rattle.ledger_join.specs.declared.Joining.{Joining}
 use Rattle.ledger_join.specs.declared.SomeTaken.{SomeTaken}
-use Rattle.ledger_join.specs.declared.FedPart.TheVariants as F
 use Rattle.ledger_join.proofs.Pieces.{bytes_cut, bytes_after, bytes_bounds}
+use Rattle.std.specs.Prelude.{Ok}
 
 pub record Turn (whole : Joint) (chunk out₀ row out text : List ℕ) (s : Joining) (w i k : ℕ) : Type 0 where
   pub ran : bytes_on (joint row s (take w out)) (drop i chunk) ≡ whole
@@ -104,7 +104,7 @@ pub turn_none : (s : Joining) (row chunk out text : List ℕ) (k : ℕ) → RowR
 turn_none s row chunk out text k r e n = record { ran = refl; size = e; kept = refl; ready = r; rest = refl; within = omega arith; number = n }
 
 pub turn_end : (s₀ : Joining) (row₀ chunk out₀ row out text : List ℕ) (s : Joining) (w i k : ℕ) → length chunk ≤ i
-    → Turn (bytes_on (joint row₀ s₀ []) chunk) chunk out₀ row out text s w i k → TakesBytes s₀ row₀ chunk out₀ (F.Rows s w) row out
+    → Turn (bytes_on (joint row₀ s₀ []) chunk) chunk out₀ row out text s w i k → TakesBytes s₀ row₀ chunk out₀ (Ok (s, w)) row out
 turn_end s₀ row₀ chunk out₀ row out text s w i k h t =
     let m : bytes_on (joint row₀ s₀ []) chunk ≡ joint row s (take w out) =
     sym t.ran ∙ ap (bytes_on (joint row s (take w out))) (drop_of_length-le chunk h) ∙ bytes_none (joint row s (take w out)) in
@@ -112,7 +112,7 @@ turn_end s₀ row₀ chunk out₀ row out text s w i k h t =
     let size : length (take w out) ≡ w = length-take-le w out (omega (arith, t.kept)) in
     let fits : 0 + length (take w out) ≤ length out₀ = omega arith in
     record {
-      answer = ap₂ F.Rows (sym (ap (λ (x : Joint). x.state) m)) (sym (ap (λ (x : Joint). length x.text) m ∙ size));
+      answer = ap₂ (λ x n. Ok (x, n)) (sym (ap (λ (x : Joint). x.state) m)) (sym (ap (λ (x : Joint). length x.text) m ∙ size));
       kept = sym (ap (λ (x : Joint). x.row) m);
       rows =
           sym (take-append-drop w out) ∙ ap (λ (l : List ℕ). take w out ++ l)

@@ -1,26 +1,23 @@
 -- What each function promises, for all inputs. Definitions only.
-use Rattle.std.specs.Prelude.{◌≡◌, Bool, false, cond, not, ◌&&◌, List, [], ◌++◌, ℕ, ◌+◌, ◌-◌, ◌*◌, ◌/◌, ◌^◌, ◌≤◌, ◌<◌, eqb, leb, ltb, length, take, drop, get_or}
+use Rattle.std.specs.Prelude.{◌≡◌, Bool, false, cond, not, ◌&&◌, List, [], ◌++◌, ℕ, ◌+◌, ◌-◌, ◌*◌, ◌/◌, ◌^◌, ◌≤◌, ◌<◌, eqb, leb, ltb, length, take, drop, get_or, Result, Ok, Err}
 use Rattle.refusal.specs.declared.Refusal.TheVariants as R
 use Rattle.text_out.specs.Text.{written_of, decimal_of, Adds}
 use Rattle.line_cut.specs.Lines.{ends}
 use Rattle.ledger_totals.specs.Totals.{last_row}
-use Rattle.ledger_feed.specs.Promises.{Came, turned, many, full, came, turned_by}
+use Rattle.ledger_feed.specs.Promises.{Came, turned, many, full, came, turned_by, came_as}
 use Rattle.ledger_joined_row.specs.Promises.{row_is_rule, text_of}
 use Rattle.ledger_joined_row.specs.declared.Kind.TheVariants as K
 use Rattle.ledger_plain_row.specs.Plain.{no_row, plain_in}
 use Rattle.ledger_plain_row.specs.declared.PlainRow.{PlainRow}
 use Rattle.ledger_join.specs.Machine.{Joint, joint, after_row, own_number, whole_number, byte_held, byte_on, bytes_on}
 use Rattle.ledger_join.specs.declared.Joining.{Joining}
-use Rattle.ledger_join.specs.declared.FedPart.{FedPart}
-use Rattle.ledger_join.specs.declared.FedPart.TheVariants as F
 use Rattle.ledger_join.specs.declared.Fit.{Fit}
 use Rattle.ledger_join.specs.declared.Fit.TheVariants as I
-use Rattle.ledger_join.specs.declared.NextPart.{NextPart}
-use Rattle.ledger_join.specs.declared.NextPart.TheVariants as N
-use Rattle.ledger_join.specs.declared.EndedJoin.{EndedJoin}
-use Rattle.ledger_join.specs.declared.EndedJoin.TheVariants as E
+use Rattle.ledger_join.specs.declared.Unjoined.{Unjoined}
+use Rattle.ledger_join.specs.declared.Unjoined.TheVariants as J
 use Rattle.ledger_join.specs.declared.ByteTaken.{ByteTaken}
 use Rattle.ledger_join.specs.declared.SomeTaken.{SomeTaken}
+use Rattle.ledger_feed.specs.declared.Unwritten.{Unwritten}
 
 -- ---- before anything was read
 abbrev pub first_part : Joining
@@ -38,12 +35,6 @@ feed_part s row chunk out =
     cond (eqb (length row) 84)
     (cond (counts_fit s (ends chunk)) (cond (leb (64 * ends chunk) (length out)) (came (bytes_on (joint row s []) chunk)) full) many)
     (turned_by R.Shape)
-
-abbrev pub fed_part : FedPart → Came (Joining × ℕ)
-fed_part (F.Rows state wrote) = came (state, wrote)
-fed_part F.Full = full
-fed_part F.Many = many
-fed_part (F.Refused r) = turned_by r
 
 abbrev pub joint_by_value : Came Joint → Came (Joining × ℕ)
 joint_by_value (came m) = came (m.state, length m.text)
@@ -69,12 +60,12 @@ wrote_of (turned n l) = 0
 wrote_of many = 0
 wrote_of full = 0
 
-pub record FeedsPart (s : Joining) (row chunk out : List ℕ) (r : FedPart) (row' out' : List ℕ) : Type 0 where
-  pub answer : fed_part r ≡ joint_by_value (feed_part s row chunk out)
+pub record FeedsPart (s : Joining) (row chunk out : List ℕ) (r : Result (Joining × ℕ) Unwritten) (row' out' : List ℕ) : Type 0 where
+  pub answer : came_as r ≡ joint_by_value (feed_part s row chunk out)
   pub kept : row' ≡ row_after (feed_part s row chunk out) row
   pub rows : out' ≡ written_of out 0 (joint_text (feed_part s row chunk out))
   -- follows from the others, for who takes the rows out
-  pub within : wrote_of (fed_part r) ≤ length out
+  pub within : wrote_of (came_as r) ≤ length out
 
 -- ---- the end of a part: its totals were there, and nothing after them
 pub data PartEnd (A : Type 0) : Type 0 where
@@ -90,13 +81,15 @@ next_part_of s =
     cond (ltb (s.part + 1) (2 ^ 64) && ltb (s.loaded + s.refused + 1) (2 ^ 64))
     (cond (s.ended && not s.stopped) (onward (next_part s)) (no_ledger_at s.part (own_number s))) tooMany
 
-abbrev pub next_said : NextPart → PartEnd Joining
-next_said (N.Next s) = onward s
-next_said (N.NoLedger part number) = no_ledger_at part number
-next_said N.Many = tooMany
+-- the code's answer on the paper
+abbrev pub part_said : {A : Type 0} → Result A Unjoined → PartEnd A
+part_said (Ok a) = onward a
+part_said (Err (J.NoLedger part number)) = no_ledger_at part number
+part_said (Err J.Full) = noRoom
+part_said (Err J.Many) = tooMany
 
-abbrev pub TurnsPart : Joining → NextPart → Type 0
-TurnsPart s r = next_said r ≡ next_part_of s
+abbrev pub TurnsPart : Joining → Result Joining Unjoined → Type 0
+TurnsPart s r = part_said r ≡ next_part_of s
 
 -- ---- the end of all: between two parts, the totals of all
 abbrev pub is_between : Joining → Bool
@@ -109,12 +102,6 @@ abbrev pub end_join_of : Joining → List ℕ → PartEnd (List ℕ)
 end_join_of s out =
     cond (counts_fit s 1)
     (cond (is_between s) (cond (leb 84 (length out)) (onward (totals_of_all s)) noRoom) (no_ledger_at s.part (own_number s))) tooMany
-
-abbrev pub end_said : EndedJoin → PartEnd ℕ
-end_said (E.Row wrote) = onward wrote
-end_said (E.NoLedger part number) = no_ledger_at part number
-end_said E.Full = noRoom
-end_said E.Many = tooMany
 
 abbrev pub end_by_value : PartEnd (List ℕ) → PartEnd ℕ
 end_by_value (onward t) = onward (length t)
@@ -134,10 +121,10 @@ end_wrote (no_ledger_at part number) = 0
 end_wrote tooMany = 0
 end_wrote noRoom = 0
 
-pub record EndsJoin (s : Joining) (out : List ℕ) (r : EndedJoin) (out' : List ℕ) : Type 0 where
-  pub answer : end_said r ≡ end_by_value (end_join_of s out)
+pub record EndsJoin (s : Joining) (out : List ℕ) (r : Result ℕ Unjoined) (out' : List ℕ) : Type 0 where
+  pub answer : part_said r ≡ end_by_value (end_join_of s out)
   pub row : out' ≡ written_of out 0 (end_text (end_join_of s out))
-  pub within : end_wrote (end_said r) ≤ length out
+  pub within : end_wrote (part_said r) ≤ length out
 
 -- ---- private functions
 abbrev pub both_of : Bool → Bool → Bool
@@ -217,8 +204,8 @@ pub record KeepsNumber (text : List ℕ) (k n : ℕ) : Type 0 where
 abbrev pub is_next : List ℕ → ℕ → ℕ → ℕ → Bool
 is_next text k from to = leb 1 k && (eqb to (from + 1) && ltb (get_or text (k - 1) 0) 57)
 
-pub record TakesBytes (s : Joining) (row chunk out : List ℕ) (r : FedPart) (row' out' : List ℕ) : Type 0 where
-  pub answer : r ≡ F.Rows (bytes_on (joint row s []) chunk).state (length (bytes_on (joint row s []) chunk).text)
+pub record TakesBytes (s : Joining) (row chunk out : List ℕ) (r : Result (Joining × ℕ) Unwritten) (row' out' : List ℕ) : Type 0 where
+  pub answer : r ≡ Ok ((bytes_on (joint row s []) chunk).state, length (bytes_on (joint row s []) chunk).text)
   pub kept : row' ≡ (bytes_on (joint row s []) chunk).row
   pub rows : out' ≡ written_of out 0 (bytes_on (joint row s []) chunk).text
   pub within : length (bytes_on (joint row s []) chunk).text ≤ length out

@@ -9,6 +9,7 @@ ghost use Rattle.ledger_join.specs.Machine.{holds_more, halted as Machine·halte
 ghost use Rattle.ledger_join.specs.Promises.{StartsJoin, FeedsPart, TurnsPart, EndsJoin, ClosesRow, RowReady, HoldsByte, TakesByte, is_fresh, plain_at, PlainReady, TakesPlain, SomeReady, TakesSome, KeepsNumber, is_next, TakesBytes, counts_fit, is_ample, fit_of, next_part, both_of, is_between};
 ghost use Rattle.ledger_joined_row.specs.declared.Kind.TheVariants as K;
 
+use ledger_feed::Unwritten;
 use ledger_joined_row::Kind;
 use ledger_plain_row::PlainRow;
 use refusal::Refusal;
@@ -38,27 +39,9 @@ pub struct Joining {
     pub stopped: bool,
 }
 
-// The state after a chunk, and how many bytes of rows were written; or why nothing has changed.
+// Why the parts don't go on: one is no ledger, by its number and the row's; there is too little room; or counts would pass 64 bits.
 #[derive(Clone, Copy)]
-pub enum FedPart {
-    Rows(Joining, usize),
-    Full,
-    Many,
-    Refused(Refusal),
-}
-
-// The state before the next part; or that this part is no ledger, with its number and the row's.
-#[derive(Clone, Copy)]
-pub enum NextPart {
-    Next(Joining),
-    NoLedger(u64, u64),
-    Many,
-}
-
-// How many bytes the totals have that were written; or why none were.
-#[derive(Clone, Copy)]
-pub enum EndedJoin {
-    Row(usize),
+pub enum Unjoined {
     NoLedger(u64, u64),
     Full,
     Many,
@@ -204,7 +187,7 @@ fn close_row(s: Joining, row: &[u8], out: &mut [u8], at: usize) -> ByteTaken
     let kind = taken.kind;
     ByteTaken {
         state: after_row(s, kind),
-        end: placed.or(at),
+        end: placed.unwrap_or(at),
     }
 }
 
@@ -269,8 +252,8 @@ fn put_both(out: &mut [u8], at: usize, whole: &[u8], rest: &[u8]) -> usize
     requires { at + (length whole.now + length rest.now) ≤ length out.old }
     ensures { Adds out.old at (whole.now ++ rest.now) out.new result }
 {
-    let end = text_out::put(out, at, whole).or(at);
-    text_out::put(out, end, rest).or(end)
+    let end = text_out::put(out, at, whole).unwrap_or(at);
+    text_out::put(out, end, rest).unwrap_or(end)
 }
 
 // A loaded line's row, with its number in the whole, and kept as every row is.
@@ -333,7 +316,7 @@ fn spell(text: &mut [u8], n: u64) -> usize
     if n == MOST {
         return 0;
     }
-    text_out::decimal(text, 0, n + 1).or(0)
+    text_out::decimal(text, 0, n + 1).unwrap_or(0)
 }
 
 // One more, and no digit but the last changes.
@@ -371,7 +354,13 @@ fn count_on(text: &mut [u8], k: usize, from: u64, to: u64) -> usize
 }
 
 // The rows of a chunk, where there is room for them: the number in the whole is kept from one to the next.
-fn take_rows(s: Joining, row: &mut [u8], chunk: &[u8], out: &mut [u8], text: &mut [u8]) -> FedPart
+fn take_rows(
+    s: Joining,
+    row: &mut [u8],
+    chunk: &[u8],
+    out: &mut [u8],
+    text: &mut [u8],
+) -> Result<(Joining, usize), Unwritten>
     requires { RowReady s out.old 0 (ends chunk.now) × (length row.old ≡ 84) × (length text.old ≡ 20) }
     ensures { TakesBytes s row.old chunk.now out.old result row.new out.new }
 {
@@ -389,10 +378,15 @@ fn take_rows(s: Joining, row: &mut [u8], chunk: &[u8], out: &mut [u8], text: &mu
         i += taken.passed;
         k = count_on(text, k, before, next.loads + next.refusals);
     }
-    FedPart::Rows(state, wrote)
+    Ok((state, wrote))
 }
 
-fn take_bytes(s: Joining, row: &mut [u8], chunk: &[u8], out: &mut [u8]) -> FedPart
+fn take_bytes(
+    s: Joining,
+    row: &mut [u8],
+    chunk: &[u8],
+    out: &mut [u8],
+) -> Result<(Joining, usize), Unwritten>
     requires { RowReady s out.old 0 (ends chunk.now) × (length row.old ≡ 84) }
     ensures { TakesBytes s row.old chunk.now out.old result row.new out.new }
 {
@@ -452,17 +446,23 @@ fn fitting(s: Joining, chunk: &[u8], room: usize) -> Fit
     Fit::Takes
 }
 
-// Takes a chunk of a part, of any size: a row for each one that ends in it. It needs 64 bytes of room for each of them.
-pub fn feed(state: Joining, row: &mut [u8], chunk: &[u8], out: &mut [u8]) -> FedPart
+// Takes a chunk of a part, of any size: a row for each one that ends in it. It needs 64 bytes of room for each of them. The state after it, and how many
+// bytes of rows were written; or why nothing has changed.
+pub fn feed(
+    state: Joining,
+    row: &mut [u8],
+    chunk: &[u8],
+    out: &mut [u8],
+) -> Result<(Joining, usize), Unwritten>
     ensures { FeedsPart state row.old chunk.now out.old result row.new out.new }
 {
     if row.len() != ROW {
-        return FedPart::Refused(Refusal::Shape);
+        return Err(Unwritten::Refused(Refusal::Shape));
     }
     match fitting(state, chunk, out.len()) {
         Fit::Takes => take_bytes(state, row, chunk, out),
-        Fit::Full => FedPart::Full,
-        Fit::Many => FedPart::Many,
+        Fit::Full => Err(Unwritten::Full),
+        Fit::Many => Err(Unwritten::Many),
     }
 }
 
@@ -482,20 +482,20 @@ fn next_one(s: Joining) -> Joining
     }
 }
 
-// The end of a part: its totals are read, and nothing followed them.
-pub fn next_part(state: Joining) -> NextPart
+// The end of a part: its totals are read, and nothing followed them. The state before the next part.
+pub fn next_part(state: Joining) -> Result<Joining, Unjoined>
     ensures { TurnsPart state result }
 {
     if state.part == MOST {
-        return NextPart::Many;
+        return Err(Unjoined::Many);
     }
     if !ledger_feed::countable(state.loaded, state.refused, 1) {
-        return NextPart::Many;
+        return Err(Unjoined::Many);
     }
     if both(state.ended, !state.stopped) {
-        return NextPart::Next(next_one(state));
+        return Ok(next_one(state));
     }
-    NextPart::NoLedger(state.part, state.loaded + state.refused + 1)
+    Err(Unjoined::NoLedger(state.part, state.loaded + state.refused + 1))
 }
 
 // Between two parts.
@@ -511,20 +511,20 @@ fn between(s: Joining) -> bool
     )
 }
 
-// The end of all parts: the totals of the whole.
-pub fn finish(state: Joining, out: &mut [u8]) -> EndedJoin
+// The end of all parts: the totals of the whole, and how many bytes they have.
+pub fn finish(state: Joining, out: &mut [u8]) -> Result<usize, Unjoined>
     ensures { EndsJoin state out.old result out.new }
 {
     if !counts_fit(state, 1) {
-        return EndedJoin::Many;
+        return Err(Unjoined::Many);
     }
     if !between(state) {
-        return EndedJoin::NoLedger(state.part, state.loaded + state.refused + 1);
+        return Err(Unjoined::NoLedger(state.part, state.loaded + state.refused + 1));
     }
     if out.len() < ROW {
-        return EndedJoin::Full;
+        return Err(Unjoined::Full);
     }
     let lines = state.loads + state.refusals;
     let placed = ledger_totals::last(lines, state.loads, state.refusals, out, 0);
-    EndedJoin::Row(placed.or(0))
+    Ok(placed.unwrap_or(0))
 }

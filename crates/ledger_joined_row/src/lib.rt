@@ -9,8 +9,6 @@ ghost use Rattle.ledger_whole.specs.Whole.{ends_in_lf};
 ghost use Rattle.ledger_joined_row.specs.Rows.{begins_with as Rows·begins, digit_added, comes_to, spells as Rows·spells, is_number, is_score, is_word, is_shown, says_refused, says_loaded, has_half};
 ghost use Rattle.ledger_joined_row.specs.Promises.{front_of, rest_kind, row_kind, IsTotals, one_of_three, one_of_two, row_is_rule, renumbered, is_line, TakesRow};
 
-use text_out::Placed;
-
 // The bytes of a row of a line at most, of the totals, of a number, of a number and its space, and of a row with any other number.
 const ROW: usize = 32;
 
@@ -38,7 +36,7 @@ pub enum Kind {
 #[derive(Clone, Copy)]
 pub struct TakenRow {
     pub kind: Kind,
-    pub placed: Placed,
+    pub placed: Option<usize>,
 }
 
 fn begins(row: &[u8], front: &[u8]) -> bool
@@ -56,8 +54,8 @@ fn spaced(out: &mut [u8], at: usize, n: u64) -> usize
     requires { at + 21 ≤ length out.old }
     ensures { Adds out.old at (Row·spaced n) out.new result }
 {
-    let end = text_out::decimal(out, at, n).or(at);
-    text_out::put(out, end, b" ").or(end)
+    let end = text_out::decimal(out, at, n).unwrap_or(at);
+    text_out::put(out, end, b" ").unwrap_or(end)
 }
 
 // How long the number and its space are, where the row begins with them; else 0.
@@ -105,7 +103,7 @@ fn write_number(out: &mut [u8], n: u64) -> usize
     requires { 20 ≤ length out.old }
     ensures { Adds out.old 0 (decimal_of n) out.new result }
 {
-    text_out::decimal(out, 0, n).or(0)
+    text_out::decimal(out, 0, n).unwrap_or(0)
 }
 
 fn spells(s: &[u8], n: u64) -> bool
@@ -259,7 +257,7 @@ fn write_totals(out: &mut [u8], lines: u64, loaded: u64, refused: u64) -> usize
     requires { 84 ≤ length out.old }
     ensures { Adds out.old 0 (last_row lines loaded refused) out.new result }
 {
-    ledger_totals::last(lines, loaded, refused, out, 0).or(0)
+    ledger_totals::last(lines, loaded, refused, out, 0).unwrap_or(0)
 }
 
 fn is_totals(row: &[u8], lines: u64, loaded: u64, refused: u64) -> bool
@@ -311,7 +309,7 @@ fn renumber(out: &mut [u8], whole: u64, row: &[u8], number: u64) -> usize
 {
     let n = front(row, number);
     let end = spaced(out, 0, whole);
-    text_out::put(out, end, &row[n..]).or(end)
+    text_out::put(out, end, &row[n..]).unwrap_or(end)
 }
 
 // One row of a part: `number` is its own there and `whole` the one that it has in the whole, after so many loaded and refused rows of its

@@ -5,7 +5,7 @@ use mathlib.Core.List.{List}
 use Prim.Native.Nat.{ℕ}
 use native.Mathlib.Omega.{arith}
 use lib.IntN.{ℤ}
-use Rattle.refusal.specs.Answer.{Answer, given, refused}
+use Rattle.refusal.specs.Answer.{Answer, given, refused, answered}
 use Rattle.refusal.specs.Refusals.{number_of}
 use Rattle.refusal.specs.declared.Refusal.{Refusal}
 use Rattle.refusal.proofs.Answers.{given_not}
@@ -13,11 +13,9 @@ use Rattle.position_boards.specs.Boards.{bitboards_of}
 use Rattle.position.specs.declared.State.{State}
 use Rattle.line_ranks.specs.Promises.{empty_board}
 use Rattle.line_parse.specs.Line.{Line, line_of}
-use Rattle.line_parse.specs.Promises.{paper, by_value}
+use Rattle.line_parse.specs.Promises.{by_value}
 use Rattle.line.specs.Promises.{bitboards_after}
 use Rattle.line.proofs.Loaded.{loaded_checked}
-use Rattle.line_parse.specs.declared.Read.{Read}
-use Rattle.line_parse.specs.declared.Read.TheVariants.{Position, Refused}
 use Rattle.score_taper.specs.Parts.{in16, points_of}
 use Rattle.score_taper.specs.declared.Side.{Side}
 use Rattle.score_taper.proofs.Sides.{given_short}
@@ -29,10 +27,10 @@ use Rattle.attack.specs.Attacks.{other}
 use Rattle.score.specs.Answers.{scored}
 use Rattle.score.specs.declared.Scored.{Scored}
 use Rattle.text_out.specs.Text.{Puts}
-use Rattle.text_out.specs.declared.Placed.{Placed}
 use Rattle.ledger_row.specs.Row.{said_row, row_of, loaded_row, refused_row, is_loaded}
 use Rattle.ledger_row.specs.Promises.{PutsRow, Short}
 use Rattle.ledger_row.specs.declared.Row.{Row}
+use Rattle.std.specs.Prelude.{Result, Ok, Err, Option}
 
 -- ---- a score is short
 
@@ -50,33 +48,33 @@ score_short bbs state z e =
     let them : Side = side_of bbs (other state.side) in
     settled_short (verdict_of bbs state.side) (points_of own them (pieces bbs)) z (λ y. given_short own them (pieces bbs) y) e
 
-pub scored_short : (bbs : List ℕ) (state : State) (r : Scored) → scored r ≡ score_of bbs state → Short r
+pub scored_short : (bbs : List ℕ) (state : State) (r : Result Scored Refusal) → scored r ≡ score_of bbs state → Short r
 scored_short bbs state r e z q = score_short bbs state z (sym (ap scored q) ∙ e)
 
 -- ---- the row of what was refused, and of what was loaded
-module _ (number : ℕ) (bitboards old new : List ℕ) (at : ℕ) (read : Read) where
-  abbrev PutsIt : Read → Row → Type 0
-  PutsIt said r = PutsRow old new at (paper said) (said_row number bitboards (paper said)) r
+module _ (number : ℕ) (bitboards old new : List ℕ) (at : ℕ) (read : Result (State × ℕ) Refusal) where
+  abbrev PutsIt : Result (State × ℕ) Refusal → Row → Type 0
+  PutsIt said r = PutsRow old new at (answered said) (said_row number bitboards (answered said)) r
 
-  pub row_refused : (q : Refusal) → read ≡ Refused q → (p : Placed) → Puts old new at (refused_row number (number_of q)) p
+  pub row_refused : (q : Refusal) → read ≡ Err q → (p : Option ℕ) → Puts old new at (refused_row number (number_of q)) p
       → PutsIt read (record { placed = p; loaded = false })
-  row_refused q told p h = subst (λ (x : Read). PutsIt x (record { placed = p; loaded = false })) (sym told) (record { puts = h; loaded = refl })
+  row_refused q told p h = subst (λ (x : Result (State × ℕ) Refusal). PutsIt x (record { placed = p; loaded = false })) (sym told) (record { puts = h; loaded = refl })
 
-  pub row_loaded : (state : State) (half : ℕ) → read ≡ Position state half → (a : Answer Outcome) → a ≡ score_of bitboards state
-      → (p : Placed) → Puts old new at (loaded_row number half a) p → PutsIt read (record { placed = p; loaded = true })
+  pub row_loaded : (state : State) (half : ℕ) → read ≡ Ok (state, half) → (a : Answer Outcome) → a ≡ score_of bitboards state
+      → (p : Option ℕ) → Puts old new at (loaded_row number half a) p → PutsIt read (record { placed = p; loaded = true })
   row_loaded state half told a s p h =
-      subst (λ (x : Read). PutsIt x (record { placed = p; loaded = true })) (sym told)
+      subst (λ (x : Result (State × ℕ) Refusal). PutsIt x (record { placed = p; loaded = true })) (sym told)
       (record { puts = subst (λ (b : Answer Outcome). Puts old new at (loaded_row number half b) p) s h; loaded = refl })
 
 -- ---- what was read of a line: its row is the line's
-pub row_read : (number : ℕ) (a : Answer Line) (old new : List ℕ) (at : ℕ) (read : Read) (bitboards : List ℕ) (r : Row)
-    → paper read ≡ by_value a → bitboards ≡ bitboards_after a (bitboards_of empty_board)
-    → PutsRow old new at (paper read) (said_row number bitboards (paper read)) r → PutsRow old new at a (row_of number a) r
+pub row_read : (number : ℕ) (a : Answer Line) (old new : List ℕ) (at : ℕ) (read : Result (State × ℕ) Refusal) (bitboards : List ℕ) (r : Row)
+    → answered read ≡ by_value a → bitboards ≡ bitboards_after a (bitboards_of empty_board)
+    → PutsRow old new at (answered read) (said_row number bitboards (answered read)) r → PutsRow old new at a (row_of number a) r
 row_read number (given l) old new at read bitboards r e f h =
-    let t : said_row number bitboards (paper read) ≡ row_of number (given l) = ap₂ (said_row number) f e in
+    let t : said_row number bitboards (answered read) ≡ row_of number (given l) = ap₂ (said_row number) f e in
     record { puts = subst (λ (u : List ℕ). Puts old new at u r.placed) t h.puts; loaded = h.loaded ∙ ap is_loaded e }
 row_read number (refused n v) old new at read bitboards r e f h =
-    let t : said_row number bitboards (paper read) ≡ row_of number (refused n v) = ap (said_row number bitboards) e in
+    let t : said_row number bitboards (answered read) ≡ row_of number (refused n v) = ap (said_row number bitboards) e in
     record { puts = subst (λ (u : List ℕ). Puts old new at u r.placed) t h.puts; loaded = h.loaded ∙ ap is_loaded e }
 
 -- neither SHAPE nor anything at odds comes before a row's score

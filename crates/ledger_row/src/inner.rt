@@ -7,10 +7,9 @@ ghost use Rattle.ledger_row.specs.Promises.{PutsSaid, PutsRefused, Short};
 
 use crate::Row;
 use crate::words::{number, put, shown, spaced};
-use line_parse::Read;
+use position::State;
 use refusal::Refusal;
 use score::Scored;
-use text_out::Placed;
 
 // No row of a line is longer, whatever its numbers.
 const LONGEST: usize = 64;
@@ -31,7 +30,7 @@ fn write_refused(out: &mut [u8], line: u64, refusal: u8) -> usize
     put(out, c, b"\n")
 }
 
-fn write_loaded(out: &mut [u8], line: u64, half: u8, scored: Scored) -> usize
+fn write_loaded(out: &mut [u8], line: u64, half: u8, scored: Result<Scored, Refusal>) -> usize
     requires { (64 ≤ length out.old) × Short scored }
     ensures { Adds out.old 0 (loaded_row line half (Answers·scored scored)) out.new result }
 {
@@ -42,7 +41,13 @@ fn write_loaded(out: &mut [u8], line: u64, half: u8, scored: Scored) -> usize
 }
 
 // A row with half points and what is shown of the score.
-fn loaded(line: u64, half: u8, scored: Scored, out: &mut [u8], at: usize) -> Placed
+fn loaded(
+    line: u64,
+    half: u8,
+    scored: Result<Scored, Refusal>,
+    out: &mut [u8],
+    at: usize,
+) -> Option<usize>
     requires { Short scored }
     ensures { Puts out.old out.new at (loaded_row line half (Answers·scored scored)) result }
 {
@@ -52,7 +57,7 @@ fn loaded(line: u64, half: u8, scored: Scored, out: &mut [u8], at: usize) -> Pla
 }
 
 // The row of a line that is refused.
-pub fn refused(line: u64, refusal: Refusal, out: &mut [u8], at: usize) -> Placed
+pub fn refused(line: u64, refusal: Refusal, out: &mut [u8], at: usize) -> Option<usize>
     ensures { PutsRefused out.old out.new at line refusal result }
 {
     let mut row = [0u8; LONGEST];
@@ -61,15 +66,21 @@ pub fn refused(line: u64, refusal: Refusal, out: &mut [u8], at: usize) -> Placed
 }
 
 // The row of what a reader said, whether of a line or of a record.
-pub fn row(line: u64, read: Read, bitboards: &[u64], out: &mut [u8], at: usize) -> Row
+pub fn row(
+    line: u64,
+    read: Result<(State, u8), Refusal>,
+    bitboards: &[u64],
+    out: &mut [u8],
+    at: usize,
+) -> Row
     ensures { PutsSaid out.old out.new at line read bitboards.now result }
 {
     match read {
-        Read::Refused(refusal) => Row {
+        Err(refusal) => Row {
             placed: refused(line, refusal, out, at),
             loaded: false,
         },
-        Read::Position(state, half) => {
+        Ok((state, half)) => {
             let scored = score::inner::eval(bitboards, state);
             Row {
                 placed: loaded(line, half, scored, out, at),

@@ -10,11 +10,11 @@ use lib.ListN.{length, take, drop, length-append}
 use lib.Seq.{length-take-le, take_at, drop_at}
 use Rattle.text_in.specs.Text.{text}
 use Rattle.text_out.specs.Text.{Puts, Adds, written_of, decimal_of, digits_up_to}
-use Rattle.text_out.specs.declared.Placed.{Placed}
 use Rattle.text_out.proofs.Added.{adds_to, adds_length, adds_then, adds_4, length_20}
 use Rattle.text_out.proofs.Wrote.{written_is, written_length}
 use Rattle.ledger_totals.specs.Error.{places_of, mean_word, error_row}
 use Rattle.ledger_totals.proofs.Fits.{length_named}
+use Rattle.std.specs.Prelude.{Option}
 
 -- a byte over the first one of a text that was put
 over_first : (x : List ℕ) (a d c : ℕ) (t : List ℕ) → a + suc (length t) ≤ length x → written_of (written_of x a (d ∷ t)) a (c ∷ []) ≡ written_of x a (c ∷ t)
@@ -30,7 +30,7 @@ over_first x a d c t h =
     ap (drop (a + 1)) (is ∙ sym (append_assoc (take a x) (d ∷ []) (t ++ rest))) ∙ drop_at (take a x ++ (d ∷ [])) (t ++ rest) (a + 1) first in
     written_is w a (c ∷ []) k ∙ ap₂ (λ (p q : List ℕ). p ++ (c ∷ q)) before behind ∙ sym (written_is x a (c ∷ t) h)
 
-pub pointed : {x y z : List ℕ} {a b : ℕ} (s : List ℕ) → 0 < length s → Adds x a s y b → (p : Placed) → Puts y z a (text ".") p → a + length s ≤ length x
+pub pointed : {x y z : List ℕ} {a b : ℕ} (s : List ℕ) → 0 < length s → Adds x a s y b → (p : Option ℕ) → Puts y z a (text ".") p → a + length s ≤ length x
     → Adds x a (text "." ++ drop 1 s) z b
 pointed [] h f p g room = absurd (no h)
   where
@@ -109,7 +109,7 @@ after_room {x} {y} {t} {at} {b} k m f h room =
     omega arith
 
 pub places_adds : {x y z v : List ℕ} {at b c : ℕ} (n : ℕ) → at + 40 ≤ length x → Adds x at (decimal_of (n / 1000000000000)) y b
-    → Adds y b (decimal_of (1000000000000 + n % 1000000000000)) z c → (p : Placed) → Puts z v b (text ".") p → Adds x at (places_of n) v c
+    → Adds y b (decimal_of (1000000000000 + n % 1000000000000)) z c → (p : Option ℕ) → Puts z v b (text ".") p → Adds x at (places_of n) v c
 unfolding places_of
 places_adds {x} {y} {z} {v} {at} {b} {c} n room f g p h =
     let d : List ℕ = decimal_of (1000000000000 + n % 1000000000000) in

@@ -1,8 +1,7 @@
 -- The row of a collection's error (document 02, W-210; its form is the program's own). Definitions only.
-use Rattle.std.specs.Prelude.{cond, List, ◌++◌, ℕ, ◌+◌, ◌/◌, ◌%◌, eqb, drop}
+use Rattle.std.specs.Prelude.{cond, List, ◌++◌, ℕ, ◌+◌, ◌/◌, ◌%◌, eqb, drop, Option}
 use Rattle.text_in.specs.Text.{text}
 use Rattle.text_out.specs.Text.{Puts, decimal_of}
-use Rattle.text_out.specs.declared.Placed.{Placed}
 
 -- millionths of millionths as points squared, to twelve places: the whole points, and the twelve digits below them
 unfoldable pub places_of : ℕ → List ℕ
@@ -22,5 +21,5 @@ error_row scored apart others sum =
     ++ (mean_word scored sum ++ text "\n")
 
 -- what the function promises: the row is put at a place
-abbrev pub PutsError : List ℕ → List ℕ → ℕ → ℕ → ℕ → ℕ → ℕ → Placed → Type 0
+abbrev pub PutsError : List ℕ → List ℕ → ℕ → ℕ → ℕ → ℕ → ℕ → Option ℕ → Type 0
 PutsError old new at scored apart others sum r = Puts old new at (error_row scored apart others sum) r

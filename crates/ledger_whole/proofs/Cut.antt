@@ -21,20 +21,19 @@ use Rattle.line_cut.proofs.Counted.{ends_append}
 use Rattle.line_profile.specs.Under.{said_under}
 use Rattle.line_profile.specs.declared.Profile.{Profile}
 use Rattle.ledger_feed.specs.Machine.{Machine, Kept, at, open_of, kept_of, machine_of, close_row, run, close, tally}
-use Rattle.ledger_feed.specs.Promises.{Came, came, feed_of, fed, came_by_value, line_after, text_after, wrote, state_of, Feeds}
+use Rattle.ledger_feed.specs.Promises.{Came, came, feed_of, came_by_value, line_after, text_after, wrote, state_of, Feeds, came_as}
 use Rattle.ledger_feed.specs.declared.SoFar.{SoFar}
-use Rattle.ledger_feed.specs.declared.Fed.{Fed}
-use Rattle.ledger_feed.specs.declared.Fed.TheVariants as F
 use Rattle.ledger_feed.proofs.Counted.{tally_both}
 use Rattle.ledger_feed.proofs.Doors.{fit_came}
 use Rattle.ledger_finish.specs.Last.{totals, finished}
-use Rattle.ledger_finish.specs.Promises.{last_lines, finish_of, finish_paper, length_of, last_text, Finishes}
-use Rattle.ledger_finish.specs.declared.Finished.{Finished}
-use Rattle.ledger_finish.specs.declared.Finished.TheVariants as E
+use Rattle.ledger_finish.specs.Promises.{last_lines, finish_of, length_of, last_text, Finishes}
 use Rattle.ledger_finish.proofs.Doors.{finished_116}
 use Rattle.ledger_whole.specs.Calls.{Call, Last, next, rows_of, last_rows_of, CallsMade, all_written, input, Roomy, fresh}
 use Rattle.ledger_whole.specs.Whole.{Whole}
 use Rattle.ledger_whole.proofs.Machines.{lines_in, machine_ledger, machine_lines}
+use Rattle.std.specs.Prelude.{Result, Ok, Err}
+use Rattle.ledger_feed.specs.declared.Unwritten.TheVariants as U
+use Rattle.ledger_feed.specs.declared.Unwritten.{Unwritten}
 
 -- ---- each call begins with no text: the texts that the calls write are joined
 abbrev pub shift : List ℕ → Kept → Kept
@@ -111,27 +110,27 @@ taken out out' text e h =
     ap (take (length text)) e ∙ ap (λ (n : ℕ). take n (written_of out 0 text)) (sym (zero-add (length text)))
     ∙ written_front out 0 text (let z : 0 + length text ≤ length out = omega arith in z)
 
-pub rows_of_holds : (r : Fed) (state : SoFar) (n : ℕ) → fed r ≡ came (state, n) → r ≡ F.Rows state n
-rows_of_holds (F.Rows s k) state n e =
+pub rows_of_holds : (r : Result (SoFar × ℕ) Unwritten) (state : SoFar) (n : ℕ) → came_as r ≡ came (state, n) → r ≡ Ok (state, n)
+rows_of_holds (Ok (s, k)) state n e =
     let both : ◌≡◌ {A = SoFar × ℕ} (s, k) (state, n) = cc in
-    ap₂ F.Rows (ap (λ (p : SoFar × ℕ). p.0) both) (ap (λ (p : SoFar × ℕ). p.1) both)
-rows_of_holds F.Full state n e = absurd (let z : ◌≡◌ {A = ℕ} 0 1 = cc in omega arith)
-rows_of_holds F.Many state n e = absurd (let z : ◌≡◌ {A = ℕ} 0 1 = cc in omega arith)
-rows_of_holds (F.Refused q) state n e = absurd (let z : ◌≡◌ {A = ℕ} 0 1 = cc in omega arith)
+    ap₂ (λ x n. Ok (x, n)) (ap (λ (p : SoFar × ℕ). p.0) both) (ap (λ (p : SoFar × ℕ). p.1) both)
+rows_of_holds (Err U.Full) state n e = absurd (let z : ◌≡◌ {A = ℕ} 0 1 = cc in omega arith)
+rows_of_holds (Err U.Many) state n e = absurd (let z : ◌≡◌ {A = ℕ} 0 1 = cc in omega arith)
+rows_of_holds (Err (U.Refused q)) state n e = absurd (let z : ◌≡◌ {A = ℕ} 0 1 = cc in omega arith)
 
-pub last_of_holds : (r : Finished) (n : ℕ) → finish_paper r ≡ came n → r ≡ E.Rows n
-last_of_holds (E.Rows k) n e = ap E.Rows (cc)
-last_of_holds E.Full n e = absurd (let z : ◌≡◌ {A = ℕ} 0 1 = cc in omega arith)
-last_of_holds E.Many n e = absurd (let z : ◌≡◌ {A = ℕ} 0 1 = cc in omega arith)
-last_of_holds (E.Refused q) n e = absurd (let z : ◌≡◌ {A = ℕ} 0 1 = cc in omega arith)
+pub last_of_holds : (r : Result ℕ Unwritten) (n : ℕ) → came_as r ≡ came n → r ≡ Ok n
+last_of_holds (Ok k) n e = ap Ok (cc)
+last_of_holds (Err U.Full) n e = absurd (let z : ◌≡◌ {A = ℕ} 0 1 = cc in omega arith)
+last_of_holds (Err U.Many) n e = absurd (let z : ◌≡◌ {A = ℕ} 0 1 = cc in omega arith)
+last_of_holds (Err (U.Refused q)) n e = absurd (let z : ◌≡◌ {A = ℕ} 0 1 = cc in omega arith)
 
 -- what a call hands on
-pub record Given (m : Machine) (r : Fed) (line' out' : List ℕ) : Type 0 where
-  pub answer : r ≡ F.Rows (state_of m) (length m.text)
+pub record Given (m : Machine) (r : Result (SoFar × ℕ) Unwritten) (line' out' : List ℕ) : Type 0 where
+  pub answer : r ≡ Ok (state_of m, (length m.text))
   pub kept : line' ≡ m.line
   pub rows : rows_of r out' ≡ m.text
 
-feed_given : (profile : Profile) (state : SoFar) (line chunk out : List ℕ) (r : Fed) (line' out' : List ℕ) → Feeds profile state line chunk out r line' out'
+feed_given : (profile : Profile) (state : SoFar) (line chunk out : List ℕ) (r : Result (SoFar × ℕ) Unwritten) (line' out' : List ℕ) → Feeds profile state line chunk out r line' out'
     → length line ≡ 256 → state.loaded + state.refused + ends chunk < 2 ^ 64 → 32 * ends chunk ≤ length out
     → Given (run profile (at state line []) chunk) r line' out'
 feed_given profile state line chunk out r line' out' f size counts room =
@@ -139,24 +138,24 @@ feed_given profile state line chunk out r line' out' f size counts room =
     let e : feed_of profile state line chunk out ≡ came m =
     fit_came line (state.loaded + state.refused + ends chunk) (leb (32 * ends chunk) (length out)) m size
     (lt-ltb (state.loaded + state.refused + ends chunk) (2 ^ 64) counts) (le-leb (32 * ends chunk) (length out) room) in
-    let a : r ≡ F.Rows (state_of m) (length m.text) = rows_of_holds r (state_of m) (length m.text) (f.answer ∙ ap came_by_value e) in
-    let h : length m.text ≤ length out = subst (λ (q : Fed). wrote (fed q) ≤ length out) a f.within in
+    let a : r ≡ Ok (state_of m, (length m.text)) = rows_of_holds r (state_of m) (length m.text) (f.answer ∙ ap came_by_value e) in
+    let h : length m.text ≤ length out = subst (λ (q : Result (SoFar × ℕ) Unwritten). wrote (came_as q) ≤ length out) a f.within in
     record {
       answer = a;
       kept = f.kept ∙ ap (λ (x : Came Machine). line_after x line) e;
       rows =
-          ap (λ (q : Fed). rows_of q out') a
+          ap (λ (q : Result (SoFar × ℕ) Unwritten). rows_of q out') a
           ∙ taken out out' m.text (f.rows ∙ ap (λ (x : Came Machine). written_of out 0 (text_after x)) e) h;
     }
 
-finish_given : (profile : Profile) (state : SoFar) (line out : List ℕ) (r : Finished) (out' : List ℕ) → Finishes profile state line out r out'
+finish_given : (profile : Profile) (state : SoFar) (line out : List ℕ) (r : Result ℕ Unwritten) (out' : List ℕ) → Finishes profile state line out r out'
     → length line ≡ 256 → last_lines state < 2 ^ 64 → 116 ≤ length out → last_rows_of r out' ≡ finished profile (at state line [])
 finish_given profile state line out r out' f size counts room =
     let t : List ℕ = finished profile (at state line []) in
     let h : 0 + length t ≤ 116 = finished_116 profile state line in
     let e : finish_of profile state line out ≡ came t =
     fit_came line (last_lines state) (room_for out 0 t) t size (lt-ltb (last_lines state) (2 ^ 64) counts) (le-leb (0 + length t) (length out) (omega arith)) in
-    ap (λ (q : Finished). last_rows_of q out') (last_of_holds r (length t) (f.answer ∙ ap length_of e))
+    ap (λ (q : Result ℕ Unwritten). last_rows_of q out') (last_of_holds r (length t) (f.answer ∙ ap length_of e))
     ∙ taken out out' t (f.rows ∙ ap (λ (x : Came (List ℕ)). written_of out 0 (last_text x)) e) (omega arith)
 
 -- ---- all calls
@@ -178,7 +177,7 @@ all profile state line (c ∷ cs) last size room counts made =
     (part_counts _ (state.loaded + state.refused) (ends c.chunk) (ends s) _ total counts) room.0 in
     let rest : CallsMade profile (state_of m) m.line cs last =
     subst (λ (l : List ℕ). CallsMade profile (state_of m) l cs last) g.kept
-    (subst (λ (r : Fed). CallsMade profile (next r state) c.line' cs last) g.answer made.1) in
+    (subst (λ (r : Result (SoFar × ℕ) Unwritten). CallsMade profile (next r state) c.line' cs last) g.answer made.1) in
     ap₂ ◌++◌ g.rows
     (all profile (state_of m) m.line cs last (run_size (close_row profile) (open_of (at state line [])) (kept_of (at state line [])) c.chunk ∙ size)
     room.1 (subst (λ (n : ℕ). n < 2 ^ 64) (ap lines_in cut) counts) rest)

@@ -1,47 +1,45 @@
 -- A ledger made by calls: a chunk and a buffer for each call of `feed`, and a buffer for the call of `finish`. Definitions only.
-use Rattle.std.specs.Prelude.{false, List, [], ◌∷◌, ◌++◌, ℕ, ◌*◌, ◌≤◌, length, take}
+use Rattle.std.specs.Prelude.{false, List, [], ◌∷◌, ◌++◌, ℕ, ◌*◌, ◌≤◌, length, take, Result, Ok, Err}
 use Rattle.line_cut.specs.Lines.{ends}
 use Rattle.line_profile.specs.declared.Profile.{Profile}
 use Rattle.ledger_feed.specs.Promises.{Feeds}
 use Rattle.ledger_feed.specs.declared.SoFar.{SoFar}
-use Rattle.ledger_feed.specs.declared.Fed.{Fed}
-use Rattle.ledger_feed.specs.declared.Fed.TheVariants as F
 use Rattle.ledger_finish.specs.Promises.{Finishes}
-use Rattle.ledger_finish.specs.declared.Finished.{Finished}
-use Rattle.ledger_finish.specs.declared.Finished.TheVariants as E
+use Rattle.ledger_feed.specs.declared.Unwritten.TheVariants as U
+use Rattle.ledger_feed.specs.declared.Unwritten.{Unwritten}
 
 -- a call of `feed`: what it was lent, what it answered, and the memory afterwards
 pub record Call : Type 0 where
   pub chunk : List ℕ
   pub out : List ℕ
-  pub fed : Fed
+  pub fed : Result (SoFar × ℕ) Unwritten
   pub line' : List ℕ
   pub out' : List ℕ
 
 -- the call of `finish`
 pub record Last : Type 0 where
   pub out : List ℕ
-  pub finished : Finished
+  pub finished : Result ℕ Unwritten
   pub out' : List ℕ
 
 -- the state that a call hands on, and the rows that it wrote
-abbrev pub next : Fed → SoFar → SoFar
-next (F.Rows state wrote) before = state
-next F.Full before = before
-next F.Many before = before
-next (F.Refused r) before = before
+abbrev pub next : Result (SoFar × ℕ) Unwritten → SoFar → SoFar
+next (Ok (state, wrote)) before = state
+next (Err U.Full) before = before
+next (Err U.Many) before = before
+next (Err (U.Refused r)) before = before
 
-abbrev pub rows_of : Fed → List ℕ → List ℕ
-rows_of (F.Rows state wrote) out' = take wrote out'
-rows_of F.Full out' = []
-rows_of F.Many out' = []
-rows_of (F.Refused r) out' = []
+abbrev pub rows_of : Result (SoFar × ℕ) Unwritten → List ℕ → List ℕ
+rows_of (Ok (state, wrote)) out' = take wrote out'
+rows_of (Err U.Full) out' = []
+rows_of (Err U.Many) out' = []
+rows_of (Err (U.Refused r)) out' = []
 
-abbrev pub last_rows_of : Finished → List ℕ → List ℕ
-last_rows_of (E.Rows wrote) out' = take wrote out'
-last_rows_of E.Full out' = []
-last_rows_of E.Many out' = []
-last_rows_of (E.Refused r) out' = []
+abbrev pub last_rows_of : Result ℕ Unwritten → List ℕ → List ℕ
+last_rows_of (Ok wrote) out' = take wrote out'
+last_rows_of (Err U.Full) out' = []
+last_rows_of (Err U.Many) out' = []
+last_rows_of (Err (U.Refused r)) out' = []
 
 -- each call does what `feed` promises, from the state and the line buffer that the call before it left; then `finish`
 unfoldable pub CallsMade : Profile → SoFar → List ℕ → List Call → Last → Type 0

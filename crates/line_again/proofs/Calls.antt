@@ -9,6 +9,7 @@ use lib.ListN.{length, take, drop, get_or}
 use lib.Seq.{take-append_seam}
 use borrow.Author.Tests.{eq-eqb, le-leb, leb-true}
 use Rattle.refusal.specs.Answer.{Answer, given, refused, or_refuse}
+use Rattle.refusal.proofs.Paper.{answered_same}
 use Rattle.refusal.specs.declared.Refusal.TheVariants as R
 use Rattle.refusal.proofs.Answers.{given_not, passed}
 use Rattle.position_boards.specs.Boards.{bitboards_of}
@@ -17,33 +18,28 @@ use Rattle.position.specs.declared.State.{State}
 use Rattle.position.proofs.Doors.{through}
 use Rattle.line_parse.specs.Line.{Line, line_of}
 use Rattle.line_parse.specs.Promises.{by_value, board_after}
-use Rattle.line_parse.specs.declared.Read.{Read}
-use Rattle.line_parse.specs.declared.Read.TheVariants.{Position}
 use Rattle.line_parse.proofs.Given.{given_spells}
-use Rattle.line_parse.proofs.Determined.{read_one}
 use Rattle.line.specs.Promises.{Reads, ReadsLine, bitboards_after}
 use Rattle.line.proofs.Loaded.{loaded_checked}
 use Rattle.line_text.specs.Lines.{line_text}
 use Rattle.line_write.specs.Write.{or_room, text_written_of, buffer_after}
 use Rattle.line_write.specs.Promises.{WritesLine}
-use Rattle.line_write.specs.declared.Wanted.TheVariants.{Half}
-use Rattle.line_write.specs.declared.Written.{Written}
-use Rattle.line_write.specs.declared.Written.TheVariants.{Bytes}
-use Rattle.line_write.proofs.Determined.{written_one}
 use Rattle.line_again.specs.Again.{saying, tidied}
 use Rattle.line_again.specs.Calls.{CallAgain, CallBack}
 use Rattle.line_again.proofs.Again.{again, comes_back}
+use Rattle.std.specs.Prelude.{Result, Ok, Some}
+use Rattle.refusal.specs.declared.Refusal.{Refusal}
 
 -- ---- read again
 module _ (bitboards board : List ℕ) (state : State) (half : ℕ) (old new : List ℕ) (n : ℕ)
-    (w : WritesLine bitboards board state (Half half) old new (Bytes n)) where
+    (w : WritesLine bitboards board state (Some half) old new (Ok n)) where
   abbrev text : List ℕ
   text = line_text board state half
 
   -- each test was passed, and the number given is the text's
   tests : Fitting bitboards board state × (leb half 2 ≡ true) × (n ≡ length text)
   tests =
-      let p = through bitboards board state (text_written_of board state (Half half) old) n (sym w.answer) in
+      let p = through bitboards board state (text_written_of board state (Some half) old) n (sym w.answer) in
       let r = passed (leb half 2) R.Result n (or_room text old) p.1 in
       let s = passed (leb (length text) (length old)) R.Room n (given (length text)) r.1 in
       (p.0, r.0, (let e : n ≡ length text = cc s.1 in e))
@@ -59,7 +55,7 @@ module _ (bitboards board : List ℕ) (state : State) (half : ℕ) (old new : Li
       ap line_of front ∙ (again bitboards board state half).line (record { fits = tests.0; words = words }) h
 
 -- lent memory of the right lengths: the call gives what the line says
-lent_right : (line bbs bytes : List ℕ) (r : Read) (bbs' bytes' : List ℕ) → length bbs ≡ 14 → length bytes ≡ 64 → ReadsLine line bbs bytes r bbs' bytes'
+lent_right : (line bbs bytes : List ℕ) (r : Result (State × ℕ) Refusal) (bbs' bytes' : List ℕ) → length bbs ≡ 14 → length bytes ≡ 64 → ReadsLine line bbs bytes r bbs' bytes'
     → Reads (line_of line) bbs bytes r bbs' bytes'
 lent_right line bbs bytes r bbs' bytes' l m p =
     let e : (eqb (length bbs) 14 && eqb (length bytes) 64) ≡ true = ap₂ ◌&&◌ (eq-eqb (length bbs) 14 l) (eq-eqb (length bytes) 64 m) in
@@ -72,7 +68,7 @@ call_again bitboards board state half old new n =
           let e = read_so bitboards board state half old new n w words in
           let q = lent_right (take n new) bbs bytes r bbs' bytes' l m p in
           let t = tests bitboards board state half old new n w in (
-            read_one r (Position state half) (q.answer ∙ ap by_value e),
+            answered_same r (Ok (state, half)) (q.answer ∙ ap by_value e),
             q.boards ∙ ap (λ (a : Answer Line). bitboards_after a bbs) e
                 ∙ (again bitboards board state half).boards (record { fits = t.0; words = words }),
             q.bytes ∙ ap (λ (a : Answer Line). board_after a bytes) e,
@@ -80,22 +76,22 @@ call_again bitboards board state half old new n =
     }
 
 -- ---- and back
-module _ (line : List ℕ) (l : Line) (old new : List ℕ) (r : Written) (e : line_of line ≡ given l) (tidy : line ≡ tidied line)
+module _ (line : List ℕ) (l : Line) (old new : List ℕ) (r : Result ℕ Refusal) (e : line_of line ≡ given l) (tidy : line ≡ tidied line)
     (room_for : length line ≤ length old) where
   same : line_text l.board l.state l.half ≡ line
   same = (comes_back line l).same e tidy
 
-  fitted : text_written_of l.board l.state (Half l.half) old ≡ given (length line)
+  fitted : text_written_of l.board l.state (Some l.half) old ≡ given (length line)
   fitted =
       let h : l.half ≤ 2 = omega (arith, (given_spells line l e).half) in
       ap (λ (t : List ℕ). or_refuse (leb l.half 2) R.Result (or_room t old)) same
       ∙ rw (le-leb l.half 2 h, le-leb (length line) (length old) room_for)
 
-  back : WritesLine (bitboards_of l.board) l.board l.state (Half l.half) old new r → (r ≡ Bytes (length line))
+  back : WritesLine (bitboards_of l.board) l.board l.state (Some l.half) old new r → (r ≡ Ok (length line))
       × (new ≡ line ++ drop (length line) old)
   back w =
-      let a = loaded_checked line l e (text_written_of l.board l.state (Half l.half) old) ∙ fitted in (
-        written_one r (Bytes (length line)) (w.answer ∙ a),
+      let a = loaded_checked line l e (text_written_of l.board l.state (Some l.half) old) ∙ fitted in (
+        answered_same r (Ok (length line)) (w.answer ∙ a),
         w.buffer ∙ ap (λ (x : Answer ℕ). buffer_after x (line_text l.board l.state l.half) old) a
             ∙ ap (λ (t : List ℕ). t ++ drop (length line) old) same,
       )
@@ -109,11 +105,11 @@ record ReadOf (line : List ℕ) (state : State) (half : ℕ) (bbs' bytes' : List
   pub boards : bbs' ≡ bitboards_of line_said.board
   pub bytes : bytes' ≡ line_said.board
 
-read_of : (line bbs bytes : List ℕ) (state : State) (half : ℕ) (bbs' bytes' : List ℕ) → ReadsLine line bbs bytes (Position state half) bbs' bytes'
+read_of : (line bbs bytes : List ℕ) (state : State) (half : ℕ) (bbs' bytes' : List ℕ) → ReadsLine line bbs bytes (Ok (state, half)) bbs' bytes'
     → ReadOf line state half bbs' bytes'
 read_of line bbs bytes state half bbs' bytes' p = go (eqb (length bbs) 14 && eqb (length bytes) 64) (line_of line) refl p
   where
-    go : (t : Bool) (a : Answer Line) → line_of line ≡ a → Reads (or_refuse t R.Shape a) bbs bytes (Position state half) bbs' bytes'
+    go : (t : Bool) (a : Answer Line) → line_of line ≡ a → Reads (or_refuse t R.Shape a) bbs bytes (Ok (state, half)) bbs' bytes'
         → ReadOf line state half bbs' bytes'
     go true (given l) e q =
         let both : ◌≡◌ {A = State × ℕ} (state, half) (l.state, l.half) = cc q.answer in
@@ -129,7 +125,7 @@ read_of line bbs bytes state half bbs' bytes' p = go (eqb (length bbs) 14 && eqb
     go true (refused n v) e q = given_not q.answer
     go false a e q = given_not q.answer
 
-pub call_back : (line : List ℕ) (state : State) (half : ℕ) (bbs bytes bbs' bytes' old new : List ℕ) (r : Written)
+pub call_back : (line : List ℕ) (state : State) (half : ℕ) (bbs bytes bbs' bytes' old new : List ℕ) (r : Result ℕ Refusal)
     → CallBack line state half bbs bytes bbs' bytes' old new r
 call_back line state half bbs bytes bbs' bytes' old new r =
     record {
@@ -137,8 +133,8 @@ call_back line state half bbs bytes bbs' bytes' old new r =
           let g = read_of line bbs bytes state half bbs' bytes' p in
           let l = g.line_said in
           back line l old new r g.is t h
-          (subst (λ (k : ℕ). WritesLine (bitboards_of l.board) l.board l.state (Half k) old new r) g.half_said
-          (subst (λ (k : State). WritesLine (bitboards_of l.board) l.board k (Half half) old new r) g.state_said_holds
-          (subst (λ (k : List ℕ). WritesLine (bitboards_of l.board) k state (Half half) old new r) g.bytes
-          (subst (λ (k : List ℕ). WritesLine k bytes' state (Half half) old new r) g.boards w))));
+          (subst (λ (k : ℕ). WritesLine (bitboards_of l.board) l.board l.state (Some k) old new r) g.half_said
+          (subst (λ (k : State). WritesLine (bitboards_of l.board) l.board k (Some half) old new r) g.state_said_holds
+          (subst (λ (k : List ℕ). WritesLine (bitboards_of l.board) k state (Some half) old new r) g.bytes
+          (subst (λ (k : List ℕ). WritesLine k bytes' state (Some half) old new r) g.boards w))));
     }

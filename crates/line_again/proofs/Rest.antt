@@ -14,8 +14,6 @@ use Rattle.laws.proofs.Truth.{T_true, true_T, and_l, and_r, not_i, not_e}
 use Rattle.chess.specs.Codes.{code_of}
 use Rattle.chess.specs.Named.{white, black, pawn}
 use Rattle.position_further.specs.Rule.{stands, on_rank, empty_square, at_home, just_passed, counters_fit}
-use Rattle.position_further.specs.declared.Passant.{Passant}
-use Rattle.position_further.specs.declared.Passant.TheVariants.{Nowhere, On}
 use Rattle.position.specs.declared.State.{State}
 use Rattle.text_in.specs.Text.{text, every}
 use Rattle.text_out.specs.Text.{digits_up_to, decimal_of}
@@ -31,6 +29,7 @@ use Rattle.line_again.proofs.Fields.{is_solid, weaken, not_missing, IsWord, AreW
 use Rattle.line_again.proofs.Decimals.{digits_of, counter_back, counter_own}
 use Rattle.line_again.proofs.Rights.{rights_back, rights_own}
 use Rattle.line_again.proofs.Squares.{on_board, passant_back, passant_own}
+use Rattle.std.specs.Prelude.{Option, None, Some}
 
 -- ---- each field is a word
 side_word_holds : (side : ℕ) → side < 2 → IsWord (text_at sides side)
@@ -43,10 +42,10 @@ side_word_holds (suc (suc k)) h = absurd (omega arith)
 on_rank_holds : (rank s : ℕ) → on_rank rank s ≡ true → rank ≤ 8 → s < 64
 on_rank_holds rank s e h = let q = eqb-true (s / 8 + 1) rank e in omega arith
 
-passed_on_board : (bytes : List ℕ) (side : ℕ) (p : Passant) → just_passed bytes side p ≡ true → on_board p
+passed_on_board : (bytes : List ℕ) (side : ℕ) (p : Option ℕ) → just_passed bytes side p ≡ true → on_board p
 unfolding just_passed
-passed_on_board bytes side Nowhere e = tt
-passed_on_board bytes side (On s) e =
+passed_on_board bytes side None e = tt
+passed_on_board bytes side (Some s) e =
     go (eqb side white) (and_r (stands bytes s empty_square) _ (true_T e))
   where
     go : (t : Bool) → T (cond t (on_rank 6 s && stands bytes (s - 8) (code_of pawn black)) (on_rank 3 s && stands bytes (s + 8) (code_of pawn white))) → s < 64
@@ -57,10 +56,10 @@ squares_tried : T (all_below 64 (λ s. every is_solid (square_text s)))
 unfolding all_below every
 squares_tried = tt
 
-passant_word : (p : Passant) → on_board p → IsWord (passant_text p)
+passant_word : (p : Option ℕ) → on_board p → IsWord (passant_text p)
 unfolding every
-passant_word Nowhere h = record { some = tt; solid = tt }
-passant_word (On s) h = record { some = tt; solid = all_at 64 (λ k. every is_solid (square_text k)) squares_tried s h }
+passant_word None h = record { some = tt; solid = tt }
+passant_word (Some s) h = record { some = tt; solid = all_at 64 (λ k. every is_solid (square_text k)) squares_tried s h }
 
 figures_tried : T (all_below 58 (λ b. not (is_figure b) || is_solid b))
 unfolding all_below

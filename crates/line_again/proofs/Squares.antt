@@ -10,11 +10,10 @@ use borrow.Author.Tests.{ne_eqb, le-leb, leb-true}
 use Rattle.laws.specs.Tests.{same}
 use Rattle.laws.proofs.Tests.{is_same}
 use Rattle.laws.proofs.Truth.{true_T}
-use Rattle.position_further.specs.declared.Passant.{Passant}
-use Rattle.position_further.specs.declared.Passant.TheVariants.{Nowhere, On}
 use Rattle.text_in.specs.Text.{text}
 use Rattle.line_tail.specs.Words.{missing, named_square, passant_of}
 use Rattle.line_text.specs.Words.{or_else, square_text, passant_text}
+use Rattle.std.specs.Prelude.{Option, None, Some}
 
 -- ---- what is written is read
 square_back : (s : ℕ) → s < 64 → named_square (square_text s) ≡ s
@@ -23,14 +22,14 @@ square_back s h =
     (omega arith)
 
 -- `-`, or a square of the board
-abbrev pub on_board : Passant → Type 0
-on_board Nowhere = Unit
-on_board (On s) = s < 64
+abbrev pub on_board : Option ℕ → Type 0
+on_board None = Unit
+on_board (Some s) = s < 64
 
-pub passant_back : (p : Passant) → on_board p → passant_of (passant_text p) ≡ p
+pub passant_back : (p : Option ℕ) → on_board p → passant_of (passant_text p) ≡ p
 unfolding passant_of
-passant_back Nowhere h = refl
-passant_back (On s) h = rw (and-false (eqb (97 + s % 8) 45)) (ap On (square_back s h))
+passant_back None h = refl
+passant_back (Some s) h = rw (and-false (eqb (97 + s % 8) 45)) (ap Some (square_back s h))
 
 -- ---- what is read is written so
 -- a file from a to h and a rank from 1 to 8
@@ -63,8 +62,8 @@ unfolding passant_of
 passant_own [] h = refl
 passant_own (b ∷ s) h = go (missing (b ∷ s)) (same (b ∷ s) (text "-")) (ne_eqb (length (b ∷ s)) 0 (λ e. omega arith)) refl h
   where
-    go : (t u : Bool) → t ≡ false → same (b ∷ s) (text "-") ≡ u → on_board (cond (t || u) Nowhere (On (named_square (b ∷ s))))
-        → passant_text (cond (t || u) Nowhere (On (named_square (b ∷ s)))) ≡ b ∷ s
+    go : (t u : Bool) → t ≡ false → same (b ∷ s) (text "-") ≡ u → on_board (cond (t || u) None (Some (named_square (b ∷ s))))
+        → passant_text (cond (t || u) None (Some (named_square (b ∷ s)))) ≡ b ∷ s
     go true u d e k = absurd (true≢false d)
     go false true d e k = sym (is_same (b ∷ s) (text "-") (true_T e))
     go false false d e k = square_own (b ∷ s) k

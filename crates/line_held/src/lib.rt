@@ -6,7 +6,6 @@ ghost use Rattle.line_held.specs.Held.{ReadsHeld, ReadsLong};
 use chess::piece::Piece;
 use chess::square::Square;
 use line::inner::Loaded;
-use line_parse::Read;
 use refusal::Refusal;
 
 // What is read of a line that is too long: nothing stands on its board.
@@ -14,7 +13,7 @@ fn long() -> Loaded
     ensures { ReadsLong result }
 {
     Loaded {
-        answer: Read::Refused(Refusal::Long),
+        answer: Err(Refusal::Long),
         bitboards: [0; Piece::BOARDS],
         board: [Piece::EMPTY; Square::COUNT],
     }

@@ -1,18 +1,11 @@
 -- What each function promises, for all inputs. Definitions only.
-use Rattle.std.specs.Prelude.{◌≡◌, List, ℕ}
-use Rattle.refusal.specs.Answer.{Answer, given, refused, refusal_of}
+use Rattle.std.specs.Prelude.{◌≡◌, List, ℕ, Err}
+use Rattle.refusal.specs.Answer.{Answer, given, refused, answered}
 use Rattle.refusal.specs.declared.Refusal.{Refusal}
 use Rattle.position.specs.declared.State.{State}
 use Rattle.line_ranks.specs.Promises.{empty_board}
 use Rattle.line_parse.specs.Line.{Line, line_of}
-use Rattle.line_parse.specs.declared.Read.{Read}
-use Rattle.line_parse.specs.declared.Read.TheVariants.{Position, Refused}
 use Rattle.line_parse.specs.declared.Parsed.{Parsed}
-
--- the code's answer on the paper: a refusal, or the state and the half points
-abbrev pub paper : Read → Answer (State × ℕ)
-paper (Position state half) = given (state, half)
-paper (Refused r) = refusal_of r
 
 -- what comes back by value
 abbrev pub by_value : Answer Line → Answer (State × ℕ)
@@ -26,7 +19,7 @@ board_after (refused n v) old = old
 
 -- the answer, and the board, which is bare where there is a refusal
 pub record Says (a : Answer Line) (r : Parsed) : Type 0 where
-  pub answer : paper r.answer ≡ by_value a
+  pub answer : answered r.answer ≡ by_value a
   pub board : r.board ≡ board_after a empty_board
 
 abbrev pub Parses : List ℕ → Parsed → Type 0
@@ -34,5 +27,5 @@ Parses line r = Says (line_of line) r
 
 -- ---- private functions
 pub record Turned (refusal : Refusal) (r : Parsed) : Type 0 where
-  pub answer : r.answer ≡ Refused refusal
+  pub answer : r.answer ≡ Err refusal
   pub board : r.board ≡ empty_board

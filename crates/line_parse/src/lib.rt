@@ -12,22 +12,15 @@ use chess::piece::Piece;
 use chess::square::Square;
 use line_cut::LINE;
 use line_ranks::inner::place;
-use line_tail::inner::{Tail, read};
+use line_tail::inner::read;
 use position::State;
 use refusal::Refusal;
 use text_in::inner::{find, is, is_text, skip_spaces, trim};
 
-// The part of the position that goes by value, and the half points; or why there is none.
-#[derive(Clone, Copy)]
-pub enum Read {
-    Position(State, u8),
-    Refused(Refusal),
-}
-
-// What the line says, and its board; nothing stands there where it is refused.
+// What the line says, the part of the position that goes by value and the half points, and its board; nothing stands there where it is refused.
 #[derive(Clone, Copy)]
 pub struct Parsed {
-    pub answer: Read,
+    pub answer: Result<(State, u8), Refusal>,
     pub board: [u8; Square::COUNT],
 }
 
@@ -35,7 +28,7 @@ fn refused(refusal: Refusal) -> Parsed
     ensures { Turned refusal result }
 {
     Parsed {
-        answer: Read::Refused(refusal),
+        answer: Err(refusal),
         board: [Piece::EMPTY; Square::COUNT],
     }
 }
@@ -86,7 +79,7 @@ fn with_result(board: [u8; Square::COUNT], res: &[u8], state: State) -> Parsed
         return refused(Refusal::Result);
     }
     Parsed {
-        answer: Read::Position(state, half),
+        answer: Ok((state, half)),
         board,
     }
 }
@@ -108,8 +101,8 @@ fn read_fields(field: &[u8], res: &[u8]) -> Parsed
     let board = placed.board;
     let told = read(&board, side, rest);
     match told {
-        Tail::Refused(refusal) => refused(refusal),
-        Tail::Is(state) => with_result(board, res, state),
+        Err(refusal) => refused(refusal),
+        Ok(state) => with_result(board, res, state),
     }
 }
 

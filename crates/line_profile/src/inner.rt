@@ -2,24 +2,24 @@
 ghost use Rattle.line_profile.specs.Promises.{JudgesRead, JudgesPlayed};
 
 use crate::Profile;
-use line_parse::Read;
-use position::Checked;
+use position::State;
+use refusal::Refusal;
 
 // A refusal stays as it is; a position must keep the rules.
-fn played(answer: Read, bitboards: &[u64]) -> Read
+fn played(answer: Result<(State, u8), Refusal>, bitboards: &[u64]) -> Result<(State, u8), Refusal>
     ensures { JudgesPlayed bitboards.now answer result }
 {
-    let Read::Position(state, _) = answer else {
-        return answer;
-    };
-    match position_profile::inner::judge(bitboards, state) {
-        Checked::Refused(refusal) => Read::Refused(refusal),
-        Checked::Fit => answer,
-    }
+    let (state, _) = answer?;
+    position_profile::inner::judge(bitboards, state)?;
+    answer
 }
 
 // What was read under a profile, the bitboards of its position beside it.
-pub fn under(profile: Profile, answer: Read, bitboards: &[u64]) -> Read
+pub fn under(
+    profile: Profile,
+    answer: Result<(State, u8), Refusal>,
+    bitboards: &[u64],
+) -> Result<(State, u8), Refusal>
     ensures { JudgesRead profile bitboards.now answer result }
 {
     match profile {

@@ -1,17 +1,16 @@
 -- What each function promises, for all inputs. Definitions only.
-use Rattle.std.specs.Prelude.{List, ℕ, ◌+◌, ◌≤◌, length}
+use Rattle.std.specs.Prelude.{List, ℕ, ◌+◌, ◌≤◌, length, Option}
 use Rattle.position.specs.declared.State.{State}
 use Rattle.text_out.specs.Text.{Puts}
-use Rattle.text_out.specs.declared.Placed.{Placed}
 use Rattle.line_text.specs.Lines.{position_text, line_text, ended_line}
 
-abbrev pub PutsPosition : List ℕ → State → List ℕ → List ℕ → ℕ → Placed → Type 0
+abbrev pub PutsPosition : List ℕ → State → List ℕ → List ℕ → ℕ → Option ℕ → Type 0
 PutsPosition board state old new at r = Puts old new at (position_text board state) r
 
-abbrev pub PutsLine : List ℕ → State → ℕ → List ℕ → List ℕ → ℕ → Placed → Type 0
+abbrev pub PutsLine : List ℕ → State → ℕ → List ℕ → List ℕ → ℕ → Option ℕ → Type 0
 PutsLine board state half old new at r = Puts old new at (line_text board state half) r
 
-abbrev pub PutsEnded : List ℕ → State → ℕ → List ℕ → List ℕ → ℕ → Placed → Type 0
+abbrev pub PutsEnded : List ℕ → State → ℕ → List ℕ → List ℕ → ℕ → Option ℕ → Type 0
 PutsEnded board state half old new at r = Puts old new at (ended_line board state half) r
 
 -- ---- private functions

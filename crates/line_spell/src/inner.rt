@@ -4,7 +4,6 @@ ghost use Rattle.line_spell.specs.Promises.{PutsPosition, PutsLine, PutsEnded};
 
 use crate::spell;
 use position::State;
-use text_out::Placed;
 
 // No text is longer: of a position, of its line, of its line with LF.
 const POSITION: usize = 91;
@@ -14,7 +13,7 @@ const LINE: usize = 99;
 pub const ENDED: usize = 100;
 
 // The placement and the five fields of the state, one space between two.
-pub fn position(board: &[u8], state: State, out: &mut [u8], at: usize) -> Placed
+pub fn position(board: &[u8], state: State, out: &mut [u8], at: usize) -> Option<usize>
     ensures { PutsPosition board.now state out.old out.new at result }
 {
     let mut text = [0u8; POSITION];
@@ -23,7 +22,7 @@ pub fn position(board: &[u8], state: State, out: &mut [u8], at: usize) -> Placed
 }
 
 // And `;` and the result.
-pub fn line(board: &[u8], state: State, half: u8, out: &mut [u8], at: usize) -> Placed
+pub fn line(board: &[u8], state: State, half: u8, out: &mut [u8], at: usize) -> Option<usize>
     ensures { PutsLine board.now state half out.old out.new at result }
 {
     let mut text = [0u8; LINE];
@@ -32,7 +31,7 @@ pub fn line(board: &[u8], state: State, half: u8, out: &mut [u8], at: usize) -> 
 }
 
 // And LF, for a program that writes line after line.
-pub fn ended(board: &[u8], state: State, half: u8, out: &mut [u8], at: usize) -> Placed
+pub fn ended(board: &[u8], state: State, half: u8, out: &mut [u8], at: usize) -> Option<usize>
     ensures { PutsEnded board.now state half out.old out.new at result }
 {
     let mut text = [0u8; ENDED];

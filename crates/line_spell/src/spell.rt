@@ -9,7 +9,7 @@ ghost use Rattle.line_text.specs.Lines.{text_at, state_fields, parted, position_
 ghost use Rattle.line_spell.specs.Promises.{SquaresRoom, RankRoom};
 
 use position::State;
-use position_further::{Passant, Rights};
+use position_further::Rights;
 
 // The squares of a rank.
 const FILES: usize = 8;
@@ -107,7 +107,7 @@ fn put_ranks(board: &[u8], line: &mut [u8]) -> usize
 pub(crate) fn put(out: &mut [u8], at: usize, s: &[u8]) -> usize
     ensures { Adds out.old at s.now out.new result }
 {
-    text_out::put(out, at, s).or(at)
+    text_out::put(out, at, s).unwrap_or(at)
 }
 
 // The space, and the side.
@@ -158,10 +158,10 @@ fn put_rights(out: &mut [u8], at: usize, rights: Rights) -> usize
 }
 
 // The space, and the en passant square or `-`.
-fn put_passant(out: &mut [u8], at: usize, passant: Passant) -> usize
+fn put_passant(out: &mut [u8], at: usize, passant: Option<u8>) -> usize
     ensures { Adds out.old at (space ∷ passant_text passant) out.new result }
 {
-    let Passant::On(square) = passant else {
+    let Some(square) = passant else {
         return put(out, at, b" -");
     };
     let text = [b' ', b'a' + square % 8, b'1' + square / 8];
@@ -177,7 +177,7 @@ fn put_counter(out: &mut [u8], at: usize, n: u16) -> usize
     if n > MOST {
         return begin;
     }
-    text_out::decimal(out, begin, n as u64).or(begin)
+    text_out::decimal(out, begin, n as u64).unwrap_or(begin)
 }
 
 fn put_counters(out: &mut [u8], at: usize, halfmoves: u16, moves: u16) -> usize

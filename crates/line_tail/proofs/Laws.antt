@@ -13,11 +13,11 @@ use lib.Seq.{drop-cons, take_all}
 use borrow.Author.Tests.{eq-eqb, ne_eqb, le-leb, lt-leb}
 use Rattle.laws.specs.Tests.{same}
 use Rattle.chess.specs.Named.{square_of}
-use Rattle.position_further.specs.declared.Passant.TheVariants.{Nowhere, On}
 use Rattle.text_in.specs.Text.{text, every}
 use Rattle.line_tail.specs.Words.{missing, starts_with, taken_off, after_kq, after_kqk, rights_of, are_rights, named_square, passant_of, is_figure}
 use Rattle.line_tail.specs.Words.{decimal_from, counter_of, counter_or}
 use Rattle.line_tail.specs.Tail.{both_given}
+use Rattle.std.specs.Prelude.{None, Some}
 
 -- ---- letters
 pub starts_none : (letter : ℕ) (s : List ℕ) → length s ≡ 0 → false ≡ starts_with letter s
@@ -90,18 +90,18 @@ two s l r e = e ∙ rw (eq-eqb (length s) 2 l)
 
 -- ---- the en passant square
 module _ (s : List ℕ) where
-  pub passant_none : length s ≡ 0 → Nowhere ≡ passant_of s
+  pub passant_none : length s ≡ 0 → None ≡ passant_of s
   unfolding passant_of
   passant_none e = rw (eq-eqb (length s) 0 e)
 
   module _ (n : length s ≡ 0 → ⊥) (t : Bool) (e : t ≡ same s (text "-")) where
-    pub passant_dash : t ≡ true → Nowhere ≡ passant_of s
+    pub passant_dash : t ≡ true → None ≡ passant_of s
     unfolding passant_of
     passant_dash h = rw (ne_eqb (length s) 0 n, ← e, h)
 
-    pub passant_named : t ≡ false → (k : ℕ) → k ≡ named_square s → On k ≡ passant_of s
+    pub passant_named : t ≡ false → (k : ℕ) → k ≡ named_square s → Some k ≡ passant_of s
     unfolding passant_of
-    passant_named h k q = ap On q ∙ rw (ne_eqb (length s) 0 n, ← e, h)
+    passant_named h k q = ap Some q ∙ rw (ne_eqb (length s) 0 n, ← e, h)
 
 -- ---- counters
 -- what the digits from here on come to

@@ -11,11 +11,11 @@ use Rattle.refusal.specs.declared.Refusal.TheVariants as R
 use Rattle.refusal.proofs.Answers.{passed, given_not}
 use Rattle.position_further.specs.Rule.{at_home, just_passed, counters_fit}
 use Rattle.position_further.specs.declared.Rights.{Rights}
-use Rattle.position_further.specs.declared.Passant.{Passant}
 use Rattle.position.specs.declared.State.{State}
 use Rattle.text_in.specs.Text.{space, is_space, after, without}
 use Rattle.line_tail.specs.Words.{word_of, after_word, nth_word, missing, rights_of, are_rights, passant_of, counter_or}
 use Rattle.line_tail.specs.Tail.{both_given, rights_fit, passant_fits, counters_fit_fields, state_said, or_words, or_tail, tail_state, tail_of}
+use Rattle.std.specs.Prelude.{Option}
 
 -- ---- RIGHTS
 module _ (bytes w : List ℕ) (t : Bool) (p : t ≡ are_rights w) where
@@ -33,7 +33,7 @@ module _ (bytes : List ℕ) (side : ℕ) (v w : List ℕ) (t : Bool) (p : t ≡ 
   unfolding passant_fits
   three_fields f = sym (ap (λ (x : Bool). x && just_passed bytes side (passant_of w)) (sym p ∙ f))
 
-  pub four_fields : t ≡ true → (passant : Passant) → passant ≡ passant_of w → (r : Bool) → r ≡ just_passed bytes side passant → r ≡ passant_fits bytes side v w
+  pub four_fields : t ≡ true → (passant : Option ℕ) → passant ≡ passant_of w → (r : Bool) → r ≡ just_passed bytes side passant → r ≡ passant_fits bytes side v w
   unfolding passant_fits
   four_fields h passant q r o = o ∙ ap (just_passed bytes side) q ∙ sym (ap (λ (x : Bool). x && just_passed bytes side (passant_of w)) (sym p ∙ h))
 
@@ -58,7 +58,7 @@ module _ (h m more : List ℕ) (t : Bool) (p : t ≡ both_given h m) where
         o ∙ ap₂ counters_fit qh qm ∙ sym (ap₂ (λ (x y : Bool). x && y && shown) (sym p ∙ u) (eq-eqb (length more) 0 z))
 
 -- ---- the state
-pub state_is : (side : ℕ) (r p h m : List ℕ) (rights : Rights) (passant : Passant) (halfmoves moves : ℕ) → rights ≡ rights_of r → passant ≡ passant_of p
+pub state_is : (side : ℕ) (r p h m : List ℕ) (rights : Rights) (passant : Option ℕ) (halfmoves moves : ℕ) → rights ≡ rights_of r → passant ≡ passant_of p
     → halfmoves ≡ counter_or 0 h → moves ≡ counter_or 1 m
     → record { side = side; rights = rights; passant = passant; halfmoves = halfmoves; moves = moves } ≡ state_said side r p h m
 unfolding state_said

@@ -1,12 +1,10 @@
 -- The words of a text, and what a word may say: castling rights, a square, a counter (document 02, W-213; the letters and names as the PGN standard's FEN
 -- has them). Definitions only.
-use Rattle.std.specs.Prelude.{Bool, false, cond, not, ◌||◌, ◌&&◌, List, [], ◌∷◌, ℕ, zero, suc, ◌+◌, ◌*◌, ◌-◌, eqb, leb, length, get_or}
+use Rattle.std.specs.Prelude.{Bool, false, cond, not, ◌||◌, ◌&&◌, List, [], ◌∷◌, ℕ, zero, suc, ◌+◌, ◌*◌, ◌-◌, eqb, leb, length, get_or, Option, None, Some}
 use Prim.Native.Char.{code}
 use Rattle.laws.specs.Tests.{same}
 use Rattle.chess.specs.Named.{square_of}
 use Rattle.position_further.specs.declared.Rights.{Rights}
-use Rattle.position_further.specs.declared.Passant.{Passant}
-use Rattle.position_further.specs.declared.Passant.TheVariants.{Nowhere, On}
 use Rattle.text_in.specs.Text.{text, space, is_space, every, before, after, without}
 
 -- ---- words: parted by "one space or more"
@@ -66,8 +64,8 @@ are_rights s = same s (text "-") || missing (taken_off (code "q") (after_kqk s))
 abbrev pub named_square : List ℕ → ℕ
 named_square s = cond (eqb (length s) 2) (square_of (get_or s 0 0) (get_or s 1 0)) 64
 
-unfoldable pub passant_of : List ℕ → Passant
-passant_of s = cond (missing s || same s (text "-")) Nowhere (On (named_square s))
+unfoldable pub passant_of : List ℕ → Option ℕ
+passant_of s = cond (missing s || same s (text "-")) None (Some (named_square s))
 
 -- ---- "counters in decimal without leading zeros, 0 to 9999 and 1 to 9999"
 abbrev pub is_figure : ℕ → Bool

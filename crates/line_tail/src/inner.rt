@@ -9,17 +9,9 @@ use crate::rights::{are_rights, rights};
 use crate::words::{both_given, first, rest};
 use chess::square::Square;
 use position::State;
-use position_further::Passant;
 use position_further::inner::{at_home, counters_fit, just_passed};
 use refusal::Refusal;
 use text_in::inner::is;
-
-// The state that a position field says, or why there is none.
-#[derive(Clone, Copy)]
-pub enum Tail {
-    Is(State),
-    Refused(Refusal),
-}
 
 // No square.
 pub const NOWHERE: u8 = Square::COUNT as u8;
@@ -52,16 +44,16 @@ fn named_square(s: &[u8]) -> u8
     square(s[0], s[1])
 }
 
-fn passant(s: &[u8]) -> Passant
+fn passant(s: &[u8]) -> Option<u8>
     ensures { result ≡ passant_of s.now }
 {
     if s.len() == 0 {
-        return Passant::Nowhere;
+        return None;
     }
     if is(s, b"-") {
-        return Passant::Nowhere;
+        return None;
     }
-    Passant::On(named_square(s))
+    Some(named_square(s))
 }
 
 fn rights_fit(board: &[u8], word: &[u8]) -> bool
@@ -117,23 +109,23 @@ fn read_words(
     halfmoves: &[u8],
     moves: &[u8],
     more: &[u8],
-) -> Tail
+) -> Result<State, Refusal>
     ensures { ReadsWords board.now side rights.now passant.now halfmoves.now moves.now more.now result }
 {
     if !rights_fit(board, rights) {
-        return Tail::Refused(Refusal::Rights);
+        return Err(Refusal::Rights);
     }
     if !passant_fits(board, side, rights, passant) {
-        return Tail::Refused(Refusal::Passant);
+        return Err(Refusal::Passant);
     }
     if !fields_fit(halfmoves, moves, more) {
-        return Tail::Refused(Refusal::Counter);
+        return Err(Refusal::Counter);
     }
-    Tail::Is(state(side, rights, passant, halfmoves, moves))
+    Ok(state(side, rights, passant, halfmoves, moves))
 }
 
 // The state that follows the ranks, from the side on, for the side that was read and on the board.
-pub fn read(board: &[u8], side: u8, s: &[u8]) -> Tail
+pub fn read(board: &[u8], side: u8, s: &[u8]) -> Result<State, Refusal>
     ensures { ReadsTail board.now side s.now result }
 {
     let a = rest(s);

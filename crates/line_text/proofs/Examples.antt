@@ -6,13 +6,13 @@ use lib.ListN.{length, replicate}
 use Rattle.text_in.specs.Text.{text}
 use Rattle.text_out.specs.Text.{digits_up_to}
 use Rattle.position_further.specs.declared.Rights.{Rights}
-use Rattle.position_further.specs.declared.Passant.TheVariants.{Nowhere, On}
 use Rattle.position.specs.Checked.{no_rights, of_side}
 use Rattle.position.specs.declared.State.{State}
 use Rattle.line_ranks.specs.Ranks.{stacked}
 use Rattle.line_text.specs.Spelt.{letter_of, spelt, ranks_text}
 use Rattle.line_text.specs.Words.{rights_text, passant_text, counter_text}
 use Rattle.line_text.specs.Lines.{position_text, line_text}
+use Rattle.std.specs.Prelude.{None, Some}
 
 abbrev rights_with : Bool → Bool → Bool → Bool → Rights
 rights_with a b c d = record { white_short = a; white_long = b; black_short = c; black_long = d }
@@ -37,7 +37,7 @@ rights : rights_text (rights_with true true true true) ∷ rights_text (rights_w
     ≡ text "KQkq" ∷ text "Qk" ∷ text "-" ∷ []
 rights = refl
 
-squares : map passant_text (Nowhere ∷ On 16 ∷ On 47 ∷ []) ≡ text "-" ∷ text "a3" ∷ text "h6" ∷ []
+squares : map passant_text (None ∷ Some 16 ∷ Some 47 ∷ []) ≡ text "-" ∷ text "a3" ∷ text "h6" ∷ []
 squares = refl
 
 counters : map counter_text (0 ∷ 10 ∷ 9999 ∷ 10000 ∷ []) ≡ text "0" ∷ text "10" ∷ text "9999" ∷ [] ∷ []
@@ -47,7 +47,7 @@ counters = refl
 -- the starting position, with White to move and won; a bare board; a pawn that has just passed e3; the longest text with a result
 -- and without
 abbrev castling : State
-castling = record { side = 0; rights = rights_with true true true true; passant = Nowhere; halfmoves = 0; moves = 1 }
+castling = record { side = 0; rights = rights_with true true true true; passant = None; halfmoves = 0; moves = 1 }
 
 start : line_text (stacked 7 (text "rnbqkbnr/pppppppp/8/8/8/8/PPPPPPPP/RNBQKBNR")) castling 2
     ≡ text "rnbqkbnr/pppppppp/8/8/8/8/PPPPPPPP/RNBQKBNR w KQkq - 0 1;1-0"
@@ -59,14 +59,14 @@ unfolding ranks_text digits_up_to
 bare_board = refl
 
 abbrev passing : State
-passing = record { side = 1; rights = rights_with true false false true; passant = On 20; halfmoves = 0; moves = 12 }
+passing = record { side = 1; rights = rights_with true false false true; passant = Some 20; halfmoves = 0; moves = 12 }
 
 passed : position_text (stacked 7 (text "r3k3/8/8/8/4P3/8/8/4K2R")) passing ≡ text "r3k3/8/8/8/4P3/8/8/4K2R b Kq e3 0 12"
 unfolding stacked ranks_text digits_up_to
 passed = refl
 
 abbrev full : State
-full = record { side = 1; rights = rights_with true true true true; passant = On 20; halfmoves = 9999; moves = 9999 }
+full = record { side = 1; rights = rights_with true true true true; passant = Some 20; halfmoves = 9999; moves = 9999 }
 
 longest : length (position_text (replicate 64 2) full) ∷ length (line_text (replicate 64 2) full 1) ∷ [] ≡ 91 ∷ 99 ∷ []
 unfolding ranks_text digits_up_to

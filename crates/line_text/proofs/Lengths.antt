@@ -11,13 +11,12 @@ use Rattle.text_in.specs.Text.{text, space, semicolon, slash}
 use Rattle.text_out.specs.Text.{decimal_of}
 use Rattle.text_out.proofs.Spelled.{length_below}
 use Rattle.position_further.specs.declared.Rights.{Rights}
-use Rattle.position_further.specs.declared.Passant.{Passant}
-use Rattle.position_further.specs.declared.Passant.TheVariants.{Nowhere, On}
 use Rattle.position.specs.declared.State.{State}
 use Rattle.line_parse.specs.Line.{sides, results}
 use Rattle.line_text.specs.Spelt.{letter_of, run_digit, spelt, rank_of, rank_text, ranks_text, placement}
 use Rattle.line_text.specs.Words.{or_else, letter_for, rights_letters, rights_text, passant_text, counter_text}
 use Rattle.line_text.specs.Lines.{text_at, state_fields, parted, position_text, line_text, ended_line}
+use Rattle.std.specs.Prelude.{Option, None, Some}
 
 digit_one : (k : ℕ) → length (run_digit (suc k)) ≤ 1
 digit_one k = omega arith
@@ -81,9 +80,9 @@ rights_length r = go (rights_letters r) (letters_length r)
     go [] h = omega arith
     go (b ∷ s) h = h
 
-pub passant_length : (p : Passant) → length (passant_text p) ≤ 2
-passant_length Nowhere = omega arith
-passant_length (On s) = omega arith
+pub passant_length : (p : Option ℕ) → length (passant_text p) ≤ 2
+passant_length None = omega arith
+passant_length (Some s) = omega arith
 
 pub counter_length : (n : ℕ) → length (counter_text n) ≤ 4
 counter_length n = go (leb n 9999) refl

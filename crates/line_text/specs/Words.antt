@@ -1,9 +1,7 @@
 -- The text of castling rights, of an en passant square and of a counter (W-213), as the PGN standard's FEN has them (16.1.3.3 to 16.1.3.6). Definitions only.
-use Rattle.std.specs.Prelude.{Bool, true, false, cond, List, [], ◌∷◌, ◌++◌, ℕ, ◌+◌, ◌/◌, ◌%◌, leb}
+use Rattle.std.specs.Prelude.{Bool, true, false, cond, List, [], ◌∷◌, ◌++◌, ℕ, ◌+◌, ◌/◌, ◌%◌, leb, Option, None, Some}
 use Prim.Native.Char.{code}
 use Rattle.position_further.specs.declared.Rights.{Rights}
-use Rattle.position_further.specs.declared.Passant.{Passant}
-use Rattle.position_further.specs.declared.Passant.TheVariants.{Nowhere, On}
 use Rattle.text_in.specs.Text.{text}
 use Rattle.text_out.specs.Text.{decimal_of}
 
@@ -30,9 +28,9 @@ rights_text r = or_else (text "-") (rights_letters r)
 abbrev pub square_text : ℕ → List ℕ
 square_text s = (code "a" + s % 8) ∷ ((code "1" + s / 8) ∷ [])
 
-abbrev pub passant_text : Passant → List ℕ
-passant_text Nowhere = text "-"
-passant_text (On s) = square_text s
+abbrev pub passant_text : Option ℕ → List ℕ
+passant_text None = text "-"
+passant_text (Some s) = square_text s
 
 -- ---- "counters in decimal without leading zeros": nothing for a number past 9999, which is no counter
 abbrev pub counter_text : ℕ → List ℕ

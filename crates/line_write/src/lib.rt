@@ -3,43 +3,30 @@
 
 ghost use Rattle.line_write.specs.Promises.{WritesLine, WritesText, Shows};
 
-use position::{Checked, State};
+use position::State;
 use refusal::Refusal;
-use text_out::Placed;
-
-// A result's half points, on request: `Half(2)` is `1-0`. What is not requested can't be handed over.
-#[derive(Clone, Copy)]
-pub enum Wanted {
-    Nothing,
-    Half(u8),
-}
-
-// How many bytes were written; or why none was.
-#[derive(Clone, Copy)]
-pub enum Written {
-    Bytes(usize),
-    Refused(Refusal),
-}
 
 // The place after a text at the front is its length.
-fn shown(placed: Placed) -> Written
+fn shown(placed: Option<usize>) -> Result<usize, Refusal>
     ensures { Shows placed result }
 {
-    match placed {
-        Placed::At(end) => Written::Bytes(end),
-        Placed::Full => Written::Refused(Refusal::Room),
-    }
+    placed.ok_or(Refusal::Room)
 }
 
-// RESULT, ROOM.
-fn write_text(board: &[u8], state: State, wanted: Wanted, out: &mut [u8]) -> Written
+// How many bytes were written. A result's half points are wanted or not: 2 is `1-0`. RESULT, ROOM.
+fn write_text(
+    board: &[u8],
+    state: State,
+    wanted: Option<u8>,
+    out: &mut [u8],
+) -> Result<usize, Refusal>
     ensures { WritesText board.now state wanted out.old out.new result }
 {
     match wanted {
-        Wanted::Nothing => shown(line_spell::inner::position(board, state, out, 0)),
-        Wanted::Half(half) => {
+        None => shown(line_spell::inner::position(board, state, out, 0)),
+        Some(half) => {
             if half > 2 {
-                return Written::Refused(Refusal::Result);
+                return Err(Refusal::Result);
             }
             shown(line_spell::inner::line(board, state, half, out, 0))
         }
@@ -51,13 +38,11 @@ pub fn write_line(
     bitboards: &[u64],
     board: &[u8],
     state: State,
-    wanted: Wanted,
+    wanted: Option<u8>,
     out: &mut [u8],
-) -> Written
+) -> Result<usize, Refusal>
     ensures { WritesLine bitboards.now board.now state wanted out.old out.new result }
 {
-    match position::check(bitboards, board, state) {
-        Checked::Refused(refusal) => Written::Refused(refusal),
-        Checked::Fit => write_text(board, state, wanted, out),
-    }
+    position::check(bitboards, board, state)?;
+    write_text(board, state, wanted, out)
 }

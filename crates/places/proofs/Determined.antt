@@ -5,15 +5,15 @@ use Prim.Native.Nat.{ℕ}
 use Rattle.chess.specs.declared.color.Color.{Color}
 use Rattle.chess.specs.declared.kind.Kind.{Kind}
 use Rattle.chess.specs.declared.square.Square.{Square}
-use Rattle.refusal.proofs.Paper.{one, retract, read_back_rule, number_back}
-use Rattle.places.specs.Phases.{AllPhases, NewPhase, PhaseIndex, paper as phase-paper}
+use Rattle.refusal.proofs.Paper.{one, answered_by_one}
+use Rattle.places.specs.Phases.{AllPhases, NewPhase, PhaseIndex}
 use Rattle.places.specs.Places.{AllNamed, EntryPlace, WeightPlace, EntryOf, EntryIndex, SquareWeightOf, SquareWeightIndex, WeightOf, WeightIndex}
 use Rattle.places.specs.declared.phase.Phase.{Phase}
-use Rattle.places.specs.declared.phase.Made.{Made as PhaseMade}
-use Rattle.places.specs.declared.phase.Made.TheVariants as phase-made
 use Rattle.places.specs.declared.entry.Entry.{Entry}
 use Rattle.places.specs.declared.weight.SquareWeight.{SquareWeight}
 use Rattle.places.specs.declared.weight.Weight.{Weight}
+use Rattle.std.specs.Prelude.{Result}
+use Rattle.refusal.specs.declared.Refusal.{Refusal}
 
 -- ---- the lists of the named constants
 pub phase_all : (r s : List Phase) → AllPhases r → AllPhases s → r ≡ s
@@ -36,12 +36,8 @@ abbrev weight : ℕ → Weight
 weight n = record { 0 = n }
 
 -- ---- the constructor
-phase_back : (r : PhaseMade) → read_back_rule (λ (n : ℕ). phase-made.Is (phase n)) phase-made.Refused (phase-paper r) ≡ r
-phase_back (phase-made.Is x) = refl
-phase_back (phase-made.Refused q) = ap phase-made.Refused (number_back q)
-
-pub phase_new : (n : ℕ) (r s : PhaseMade) → NewPhase n r → NewPhase n s → r ≡ s
-phase_new n r s p q = retract phase-paper (read_back_rule (λ (k : ℕ). phase-made.Is (phase k)) phase-made.Refused) phase_back r s (one p q)
+pub phase_new : (n : ℕ) (r s : Result Phase Refusal) → NewPhase n r → NewPhase n s → r ≡ s
+phase_new n r s p q = answered_by_one (λ x. x.0) phase (λ x. refl) p q
 
 -- ---- what a value holds
 pub phase_index : (x : Phase) (r s : ℕ) → PhaseIndex x r → PhaseIndex x s → r ≡ s

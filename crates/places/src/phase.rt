@@ -12,13 +12,6 @@ pub const ENDING: u8 = 1;
 #[derive(Clone, Copy)]
 pub struct Phase(u8);
 
-// Any other number is refused as SHAPE.
-#[derive(Clone, Copy)]
-pub enum Made {
-    Is(Phase),
-    Refused(Refusal),
-}
-
 impl Phase {
     pub const COUNT: usize = 2;
 
@@ -35,13 +28,14 @@ impl Phase {
         Phase::ALL
     }
 
-    pub fn new(index: u8) -> Made
+    // Any other number is refused as SHAPE.
+    pub fn new(index: u8) -> Result<Phase, Refusal>
         ensures { NewPhase index result }
     {
         if Phase::ENDING.0 < index {
-            return Made::Refused(Refusal::Shape);
+            return Err(Refusal::Shape);
         }
-        Made::Is(Phase(index))
+        Ok(Phase(index))
     }
 
     pub fn index(self) -> u8

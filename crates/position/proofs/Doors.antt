@@ -7,7 +7,7 @@ use lib.Dec.{eqb, ltb, eqb→eq, ltb→lt}
 use lib.ListN.{length}
 use borrow.Author.Tests.{eq-eqb, ne_eqb, lt-ltb, le-ltb}
 use Rattle.laws.proofs.Truth.{true_T, and_l, and_r}
-use Rattle.refusal.specs.Answer.{Answer, given, or_refuse, refusal_of}
+use Rattle.refusal.specs.Answer.{Answer, given, or_refuse, refusal_of, answered}
 use Rattle.refusal.specs.declared.Refusal.{Refusal}
 use Rattle.refusal.specs.declared.Refusal.TheVariants as R
 use Rattle.refusal.proofs.Answers.{given_not}
@@ -19,10 +19,9 @@ use Rattle.position_odds.proofs.Exactly.{goes_on, at_odds}
 use Rattle.position_odds.proofs.Determined.{refused_one}
 use Rattle.position_further.specs.Rule.{home, at_home, just_passed, counters_fit}
 use Rattle.position.specs.Checked.{of_side, shaped, or_further, checked, Fitting}
-use Rattle.position.specs.Promises.{paper, Checks}
+use Rattle.position.specs.Promises.{Checks}
 use Rattle.position.specs.declared.State.{State}
-use Rattle.position.specs.declared.Checked.{Checked}
-use Rattle.position.specs.declared.Checked.TheVariants.{Fit, Refused}
+use Rattle.std.specs.Prelude.{Result, Ok, Err}
 
 -- ---- the shape
 pub in_shape : (bbs bytes : List ℕ) (state : State) → length bbs ≡ 14 → length bytes ≡ 64 → state.side < 2 → shaped bbs bytes state ≡ true
@@ -160,17 +159,17 @@ module _ {A : Type 0} (bbs bytes : List ℕ) (state : State) (rest : Answer A) w
 abbrev done : Answer (Unit {0})
 done = given tt
 
-module _ (bbs bytes : List ℕ) (state : State) (r : Checked) (promise : Checks bbs bytes state r) where
+module _ (bbs bytes : List ℕ) (state : State) (r : Result Unit Refusal) (promise : Checks bbs bytes state r) where
   -- it fits: every test held, and the rest of the definition is the answer
-  pub fit_all : r ≡ Fit → Fitting bbs bytes state
-  fit_all e = (through bbs bytes state done tt (sym (sym (ap paper e) ∙ promise))).0
+  pub fit_all : r ≡ Ok tt → Fitting bbs bytes state
+  fit_all e = (through bbs bytes state done tt (sym (sym (ap answered e) ∙ promise))).0
 
-  pub fit_rest : {A : Type 0} (rest : Answer A) → r ≡ Fit → rest ≡ checked bbs bytes state rest
+  pub fit_rest : {A : Type 0} (rest : Answer A) → r ≡ Ok tt → rest ≡ checked bbs bytes state rest
   fit_rest rest e = sound bbs bytes state rest (fit_all e)
 
   -- it is refused: so is every call on the position
-  pub pass_on : {A : Type 0} (rest : Answer A) (q : Refusal) → r ≡ Refused q → refusal_of q ≡ checked bbs bytes state rest
-  pass_on rest q e = refused_too bbs bytes state done q rest (sym (ap paper e) ∙ promise) (λ p. given_not (sym p))
+  pub pass_on : {A : Type 0} (rest : Answer A) (q : Refusal) → r ≡ Err q → refusal_of q ≡ checked bbs bytes state rest
+  pass_on rest q e = refused_too bbs bytes state done q rest (sym (ap answered e) ∙ promise) (λ p. given_not (sym p))
 
 -- ---- a state of which only the side is given
 pub of_side_fits : (bbs bytes : List ℕ) (side : ℕ) → shaped bbs bytes (of_side side) ≡ true → consistent bbs bytes ≡ true → Fitting bbs bytes (of_side side)

@@ -13,10 +13,9 @@ use Rattle.position_odds.specs.Named.{lowest_wrong}
 use Rattle.position_odds.specs.Odds.{or_odds}
 use Rattle.position_further.specs.Rule.{home, at_home, just_passed}
 use Rattle.position_further.specs.declared.Rights.{Rights}
-use Rattle.position_further.specs.declared.Passant.{Passant}
-use Rattle.position_further.specs.declared.Passant.TheVariants.{Nowhere, On}
 use Rattle.position.specs.Checked.{of_side, checked}
 use Rattle.position.specs.declared.State.{State}
+use Rattle.std.specs.Prelude.{Option, None, Some}
 
 -- ---- SHAPE, then OVERLAP, UNION, BYTEBOARD, then RIGHTS, PASSANT, COUNTER, then whatever comes after them
 abbrev stated : List ℕ → List ℕ → State → Answer ℕ
@@ -37,7 +36,7 @@ unfolding answers
 answers_are = refl
 
 -- White to move, every right
-abbrev with : Passant → ℕ → ℕ → State
+abbrev with : Option ℕ → ℕ → ℕ → State
 with passant halfmoves moves = record { side = 0; rights = all; passant = passant; halfmoves = halfmoves; moves = moves }
   where
     all : Rights
@@ -48,12 +47,12 @@ with passant halfmoves moves = record { side = 0; rights = all; passant = passan
 further : List (Answer ℕ)
 unfolding checked or_odds lowest_wrong first_from all_below boards_with of_colour how_many some has home at_home just_passed
 further =
-    stated start_boards start_bytes (with Nowhere 0 1) ∷ stated rookless (set start_bytes 7 0) (with Nowhere 0 1)
-    ∷ stated start_boards start_bytes (with (On 44) 0 1)
-    ∷ stated start_boards start_bytes (with Nowhere 9999 9999) ∷ stated start_boards start_bytes (with Nowhere 10000 1)
-    ∷ stated start_boards start_bytes (with Nowhere 0 0)
-    ∷ stated rookless (set start_bytes 7 0) (with (On 64) 0 0) ∷ stated start_boards start_bytes (with (On 44) 0 0)
-    ∷ stated start_boards (set start_bytes 0 0) (with (On 64) 0 0) ∷ []
+    stated start_boards start_bytes (with None 0 1) ∷ stated rookless (set start_bytes 7 0) (with None 0 1)
+    ∷ stated start_boards start_bytes (with (Some 44) 0 1)
+    ∷ stated start_boards start_bytes (with None 9999 9999) ∷ stated start_boards start_bytes (with None 10000 1)
+    ∷ stated start_boards start_bytes (with None 0 0)
+    ∷ stated rookless (set start_bytes 7 0) (with (Some 64) 0 0) ∷ stated start_boards start_bytes (with (Some 44) 0 0)
+    ∷ stated start_boards (set start_bytes 0 0) (with (Some 64) 0 0) ∷ []
   where
     rookless : List ℕ
     rookless = set (set start_boards 10 1) 0 (get_or start_boards 0 0 - 128)

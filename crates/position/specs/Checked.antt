@@ -1,12 +1,11 @@
 -- A position's shape, the consistency rule, and what comes before every answer about a position. Definitions only.
-use Rattle.std.specs.Prelude.{◌≡◌, Bool, true, false, ◌&&◌, List, ℕ, eqb, ltb, length}
+use Rattle.std.specs.Prelude.{◌≡◌, Bool, true, false, ◌&&◌, List, ℕ, eqb, ltb, length, None}
 use Rattle.refusal.specs.Answer.{Answer, or_refuse}
 use Rattle.refusal.specs.declared.Refusal.TheVariants as R
 use Rattle.position_consistent.specs.Consistent.{consistent}
 use Rattle.position_odds.specs.Odds.{or_odds}
 use Rattle.position_further.specs.Rule.{at_home, just_passed, counters_fit}
 use Rattle.position_further.specs.declared.Rights.{Rights}
-use Rattle.position_further.specs.declared.Passant.TheVariants.{Nowhere}
 use Rattle.position.specs.declared.State.{State}
 
 -- "fields not given read as no rights, no square, counters 0 and 1"
@@ -15,7 +14,7 @@ no_rights = record { white_short = false; white_long = false; black_short = fals
 
 -- "a side" to move, and nothing else given
 abbrev pub of_side : ℕ → State
-of_side side = record { side = side; rights = no_rights; passant = Nowhere; halfmoves = 0; moves = 1 }
+of_side side = record { side = side; rights = no_rights; passant = None; halfmoves = 0; moves = 1 }
 
 -- SHAPE: "not 14 bitboards, 64 bytes ..; side .. not 0 or 1"
 abbrev pub shaped : List ℕ → List ℕ → State → Bool

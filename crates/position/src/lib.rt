@@ -7,8 +7,8 @@ use chess::color::Color;
 use chess::inner::index;
 use chess::piece::Piece;
 use chess::square::Square;
+use position_further::Rights;
 use position_further::inner::{at_home, counters_fit, just_passed};
-use position_further::{Passant, Rights};
 use refusal::Refusal;
 
 // The part of a position that goes by value.
@@ -18,7 +18,7 @@ pub struct State {
     pub side: u8,
     // Who may still castle, and the en passant square.
     pub rights: Rights,
-    pub passant: Passant,
+    pub passant: Option<u8>,
     // Half moves since a capture or a pawn's move, and the number of the move.
     pub halfmoves: u16,
     pub moves: u16,
@@ -34,7 +34,7 @@ pub fn of_side(side: u8) -> State
         black_short: false,
         black_long: false,
     };
-    let passant = Passant::Nowhere;
+    let passant = None;
     State {
         side,
         rights,
@@ -44,38 +44,32 @@ pub fn of_side(side: u8) -> State
     }
 }
 
-#[derive(Clone, Copy)]
-pub enum Checked {
-    Fit,
-    Refused(Refusal),
-}
-
 // SHAPE, then OVERLAP, UNION, BYTEBOARD, then RIGHTS, PASSANT, COUNTER: the test that every call on a position begins with. Which of the pieces are at
 // odds, and at which square, is looked for after a no alone: a consistent position pays nothing for it.
-pub fn check(bitboards: &[u64], board: &[u8], state: State) -> Checked
+pub fn check(bitboards: &[u64], board: &[u8], state: State) -> Result<(), Refusal>
     ensures { Checks bitboards.now board.now state result }
 {
     if bitboards.len() != Piece::BOARDS {
-        return Checked::Refused(Refusal::Shape);
+        return Err(Refusal::Shape);
     }
     if board.len() != Square::COUNT {
-        return Checked::Refused(Refusal::Shape);
+        return Err(Refusal::Shape);
     }
     if index(state.side) >= Color::COUNT {
-        return Checked::Refused(Refusal::Shape);
+        return Err(Refusal::Shape);
     }
     if !position_consistent::fits(bitboards, board) {
-        return Checked::Refused(position_odds::at_odds(bitboards, board));
+        return Err(position_odds::at_odds(bitboards, board));
     }
     if !at_home(board, state.rights) {
-        return Checked::Refused(Refusal::Rights);
+        return Err(Refusal::Rights);
     }
     let passant = state.passant;
     if !just_passed(board, state.side, passant) {
-        return Checked::Refused(Refusal::Passant);
+        return Err(Refusal::Passant);
     }
     if !counters_fit(state.halfmoves, state.moves) {
-        return Checked::Refused(Refusal::Counter);
+        return Err(Refusal::Counter);
     }
-    Checked::Fit
+    Ok(())
 }

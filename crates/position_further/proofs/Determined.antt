@@ -6,12 +6,12 @@ use Prim.Native.Nat.{ℕ}
 use Rattle.refusal.proofs.Paper.{one}
 use Rattle.position_further.specs.Promises.{AtHome, JustPassed, CountersFit}
 use Rattle.position_further.specs.declared.Rights.{Rights}
-use Rattle.position_further.specs.declared.Passant.{Passant}
+use Rattle.std.specs.Prelude.{Option}
 
 pub at_home : (board : List ℕ) (rights : Rights) (r s : Bool) → AtHome board rights r → AtHome board rights s → r ≡ s
 at_home board rights r s = one
 
-pub just_passed_holds : (board : List ℕ) (side : ℕ) (passant : Passant) (r s : Bool) → JustPassed board side passant r → JustPassed board side passant s → r ≡ s
+pub just_passed_holds : (board : List ℕ) (side : ℕ) (passant : Option ℕ) (r s : Bool) → JustPassed board side passant r → JustPassed board side passant s → r ≡ s
 just_passed_holds board side passant r s = one
 
 pub counters_fit_holds : (halfmoves moves : ℕ) (r s : Bool) → CountersFit halfmoves moves r → CountersFit halfmoves moves s → r ≡ s

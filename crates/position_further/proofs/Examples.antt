@@ -8,7 +8,7 @@ use Rattle.chess.specs.Codes.{code_of}
 use Rattle.chess.specs.Named.{white, black, pawn, rook, king}
 use Rattle.position_further.specs.Rule.{empty_square, home, at_home, just_passed, counters_fit}
 use Rattle.position_further.specs.declared.Rights.{Rights}
-use Rattle.position_further.specs.declared.Passant.TheVariants.{Nowhere, On}
+use Rattle.std.specs.Prelude.{None, Some}
 
 abbrev bare : List ℕ
 bare = replicate 64 empty_square
@@ -44,10 +44,10 @@ pawn_on colour s = set bare s (code_of pawn colour)
 squares : List Bool
 unfolding just_passed
 squares =
-    just_passed bare white Nowhere ∷ just_passed (pawn_on black 36) white (On 44) ∷ just_passed (pawn_on white 36) white (On 44)
-    ∷ just_passed (pawn_on black 52) white (On 44)
-    ∷ just_passed (pawn_on black 28) white (On 36) ∷ just_passed (set (pawn_on black 36) 44 (code_of pawn black)) white (On 44) ∷ just_passed bare white (On 64)
-    ∷ just_passed (pawn_on white 28) black (On 20) ∷ just_passed (pawn_on white 28) white (On 20) ∷ []
+    just_passed bare white None ∷ just_passed (pawn_on black 36) white (Some 44) ∷ just_passed (pawn_on white 36) white (Some 44)
+    ∷ just_passed (pawn_on black 52) white (Some 44)
+    ∷ just_passed (pawn_on black 28) white (Some 36) ∷ just_passed (set (pawn_on black 36) 44 (code_of pawn black)) white (Some 44) ∷ just_passed bare white (Some 64)
+    ∷ just_passed (pawn_on white 28) black (Some 20) ∷ just_passed (pawn_on white 28) white (Some 20) ∷ []
 
 squares_are : squares ≡ true ∷ true ∷ false ∷ false ∷ false ∷ false ∷ false ∷ true ∷ false ∷ []
 unfolding squares

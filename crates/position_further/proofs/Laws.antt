@@ -8,8 +8,7 @@ use lib.Dec.{leb}
 use borrow.Author.Tests.{eq-eqb, ne_eqb, le-leb, lt-leb}
 use Rattle.position_further.specs.Rule.{stands, home, at_home, just_passed, counters_fit}
 use Rattle.position_further.specs.declared.Rights.{Rights}
-use Rattle.position_further.specs.declared.Passant.{Passant}
-use Rattle.position_further.specs.declared.Passant.TheVariants.{Nowhere, On}
+use Rattle.std.specs.Prelude.{Option, None, Some}
 
 -- ---- one right
 module _ (bytes : List ℕ) (right : Bool) (at king corner rook : ℕ) where
@@ -59,12 +58,12 @@ unfolding at_home
 left_q bytes r t u v d e f g h i = rw (← d, ← e, ← f, g, h, i)
 
 -- ---- the en passant square
-module _ (bytes : List ℕ) (side : ℕ) (p : Passant) where
-  pub nowhere : p ≡ Nowhere → true ≡ just_passed bytes side p
+module _ (bytes : List ℕ) (side : ℕ) (p : Option ℕ) where
+  pub nowhere : p ≡ None → true ≡ just_passed bytes side p
   unfolding just_passed
   nowhere e = rw e
 
-  module _ (s : ℕ) (e : p ≡ On s) (r : Bool) (o : r ≡ stands bytes s 0) where
+  module _ (s : ℕ) (e : p ≡ Some s) (r : Bool) (o : r ≡ stands bytes s 0) where
     pub not_empty : r ≡ false → false ≡ just_passed bytes side p
     unfolding just_passed
     not_empty f = rw (e, ← o, f)

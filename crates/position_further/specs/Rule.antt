@@ -1,11 +1,9 @@
 -- What the consistency rule asks of castling rights, the en passant square and the counters (document 02, W-213). Definitions only.
-use Rattle.std.specs.Prelude.{Bool, true, cond, ◌&&◌, List, ℕ, ◌+◌, ◌-◌, ◌/◌, eqb, leb, get_or}
+use Rattle.std.specs.Prelude.{Bool, true, cond, ◌&&◌, List, ℕ, ◌+◌, ◌-◌, ◌/◌, eqb, leb, get_or, Option, None, Some}
 use Prim.Native.Char.{code}
 use Rattle.chess.specs.Codes.{code_of}
 use Rattle.chess.specs.Named.{white, black, pawn, rook, king, square_of}
 use Rattle.position_further.specs.declared.Rights.{Rights}
-use Rattle.position_further.specs.declared.Passant.{Passant}
-use Rattle.position_further.specs.declared.Passant.TheVariants.{Nowhere, On}
 
 -- what stands on an empty square
 abbrev pub empty_square : ℕ
@@ -36,9 +34,9 @@ abbrev pub on_rank : ℕ → ℕ → Bool
 on_rank rank s = eqb (s / 8 + 1) rank
 
 -- any side but White's counts as Black's; nothing is asked where there is no such square
-unfoldable pub just_passed : List ℕ → ℕ → Passant → Bool
-just_passed bytes side Nowhere = true
-just_passed bytes side (On s) =
+unfoldable pub just_passed : List ℕ → ℕ → Option ℕ → Bool
+just_passed bytes side None = true
+just_passed bytes side (Some s) =
     stands bytes s empty_square
     && cond (eqb side white) (on_rank 6 s && stands bytes (s - 8) (code_of pawn black)) (on_rank 3 s && stands bytes (s + 8) (code_of pawn white))
 

@@ -3,7 +3,7 @@ ghost use Rattle.std.specs.Prelude.{◌≡◌};
 ghost use Rattle.position_further.specs.Rule.{stands, home};
 ghost use Rattle.position_further.specs.Promises.{AtHome, JustPassed, CountersFit};
 
-use crate::{Passant, Rights};
+use crate::Rights;
 use chess::color::WHITE;
 use chess::inner::index;
 use chess::piece::{BLACK_KING, BLACK_PAWN, BLACK_ROOK, Piece, WHITE_KING, WHITE_PAWN, WHITE_ROOK};
@@ -69,10 +69,10 @@ pub fn at_home(board: &[u8], rights: Rights) -> bool
 }
 
 // The en passant square is empty, and the pawn of the other side that passed over it stands beyond it.
-pub fn just_passed(board: &[u8], side: u8, passant: Passant) -> bool
+pub fn just_passed(board: &[u8], side: u8, passant: Option<u8>) -> bool
     ensures { JustPassed board.now side passant result }
 {
-    let Passant::On(square) = passant else {
+    let Some(square) = passant else {
         return true;
     };
     if !stands(board, square, Piece::EMPTY) {

@@ -11,10 +11,3 @@ pub struct Rights {
     pub black_short: bool,
     pub black_long: bool,
 }
-
-// The square that a pawn has just passed over, if any.
-#[derive(Clone, Copy)]
-pub enum Passant {
-    Nowhere,
-    On(u8),
-}

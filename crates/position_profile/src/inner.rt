@@ -9,7 +9,7 @@ use attack_to::inner::is_check;
 use bits::inner::at;
 use chess::color::{BLACK, BLACK_BOARD, WHITE, WHITE_BOARD};
 use chess::kind::{KING, PAWN};
-use position::{Checked, State};
+use position::State;
 use refusal::Refusal;
 use score_material::inner::number;
 
@@ -58,27 +58,27 @@ fn at_ends(bitboards: &[u64]) -> u64
 }
 
 // The rules in their order, each over both colours. The side that just moved is the one not to move.
-pub fn judge(bitboards: &[u64], state: State) -> Checked
+pub fn judge(bitboards: &[u64], state: State) -> Result<(), Refusal>
     ensures { Judges bitboards.now state result }
 {
     if !one_king(bitboards) {
-        return Checked::Refused(Refusal::Kings);
+        return Err(Refusal::Kings);
     }
     if !few_pawns(bitboards) {
-        return Checked::Refused(Refusal::Pawns);
+        return Err(Refusal::Pawns);
     }
     if !few_pieces(bitboards) {
-        return Checked::Refused(Refusal::Pieces);
+        return Err(Refusal::Pieces);
     }
     let strays = at_ends(bitboards);
     if strays != 0 {
         let pawn = bits::scan(strays) as u8;
-        return Checked::Refused(Refusal::Rank(pawn));
+        return Err(Refusal::Rank(pawn));
     }
     let moved = other(state.side);
     if is_check(bitboards, moved) {
         let king = bits::scan(standing(bitboards, KING, moved)) as u8;
-        return Checked::Refused(Refusal::Check(king));
+        return Err(Refusal::Check(king));
     }
-    Checked::Fit
+    Ok(())
 }

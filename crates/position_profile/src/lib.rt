@@ -3,16 +3,15 @@
 
 ghost use Rattle.position_profile.specs.Promises.{JudgesPosition};
 
-use position::{Checked, State};
+use position::State;
+use refusal::Refusal;
 
 pub mod inner;
 
 // Whether a position may come from real play: SHAPE, OVERLAP, UNION, BYTEBOARD, then KINGS, PAWNS, PIECES, RANK, CHECK.
-pub fn judge(bitboards: &[u64], board: &[u8], state: State) -> Checked
+pub fn judge(bitboards: &[u64], board: &[u8], state: State) -> Result<(), Refusal>
     ensures { JudgesPosition bitboards.now board.now state result }
 {
-    if let Checked::Refused(refusal) = position::check(bitboards, board, state) {
-        return Checked::Refused(refusal);
-    }
+    position::check(bitboards, board, state)?;
     inner::judge(bitboards, state)
 }

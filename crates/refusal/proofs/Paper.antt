@@ -1,10 +1,12 @@
 -- An answer of the code is read off the paper again, so two answers that read the same are one. Assumes nothing.
 use mathlib.Core.Path.{◌≡◌, refl, sym, ap, ap₂, ◌∙◌}
+use mathlib.Core.Bool.{true≢false}
 use mathlib.Core.List.{List, [], ◌∷◌}
 use Prim.Native.Nat.{ℕ, ◌<◌}
 use native.Mathlib.Omega.{arith}
 use lib.ListN.{get_or}
-use Rattle.refusal.specs.Answer.{Answer, given, refused}
+use Rattle.std.specs.Prelude.{Result, Ok, Err, IsErr, IsErrAnd}
+use Rattle.refusal.specs.Answer.{Answer, given, refused, refusal_of, answered, answered_by}
 use Rattle.refusal.specs.Refusals.{number_of, beside_of}
 use Rattle.refusal.specs.declared.Refusal.{Refusal}
 use Rattle.refusal.specs.declared.Refusal.TheVariants as R
@@ -68,6 +70,38 @@ number_one r s e f = sym (number_back r) ∙ ap₂ of_number e f ∙ number_back
 abbrev pub read_back_rule : {A X : Type 0} → (A → X) → (Refusal → X) → Answer A → X
 read_back_rule is out (given a) = is a
 read_back_rule is out (refused n l) = out (of_number n l)
+
+answered_back : {A : Type 0} (r : Result A Refusal) → read_back_rule Ok Err (answered r) ≡ r
+answered_back (Ok a) = refl
+answered_back (Err q) = ap Err (number_back q)
+
+-- two answers of the code that read the same are one
+pub answered_same : {A : Type 0} (r s : Result A Refusal) → answered r ≡ answered s → r ≡ s
+answered_same = retract answered (read_back_rule Ok Err) answered_back
+
+pub answered_one : {A : Type 0} {r s : Result A Refusal} {a : Answer A} → answered r ≡ a → answered s ≡ a → r ≡ s
+answered_one p q = answered_same _ _ (one p q)
+
+-- the same where what was given can be told from what was read of it
+pub answered_by_one : {A B : Type 0} (reading : A → B) (from : B → A) → ((x : A) → from (reading x) ≡ x) → {r s : Result A Refusal} {a : Answer B}
+    → answered_by reading r ≡ a → answered_by reading s ≡ a → r ≡ s
+answered_by_one reading from from_back p q = retract (answered_by reading) (read_back_rule (λ b. Ok (from b)) Err) back _ _ (one p q)
+  where
+    back : (r : Result _ Refusal) → read_back_rule (λ b. Ok (from b)) Err (answered_by reading r) ≡ r
+    back (Ok x) = ap Ok (from_back x)
+    back (Err q) = ap Err (number_back q)
+
+-- what `?` gives on is the refusal that came
+pub error_is : {A : Type 0} (r : Result A Refusal) (q : Refusal) → IsErr r × IsErrAnd r (λ (e : Refusal). e ≡ q) → r ≡ Err q
+error_is (Ok a) q h = absurd (true≢false (sym h.0))
+error_is (Err e) q h = ap Err h.1
+
+pub error_answered : {A : Type 0} (r : Result A Refusal) (q : Refusal) → IsErr r × IsErrAnd r (λ (e : Refusal). e ≡ q) → answered r ≡ refusal_of q
+error_answered r q h = ap answered (error_is r q h)
+
+pub error_answered_by : {A B : Type 0} (reading : A → B) (r : Result A Refusal) (q : Refusal) → IsErr r × IsErrAnd r (λ (e : Refusal). e ≡ q)
+    → answered_by reading r ≡ refusal_of q
+error_answered_by reading r q h = ap (answered_by reading) (error_is r q h)
 
 -- no refusal's number has three digits
 pub number_small : (r : Refusal) → number_of r < 100

@@ -1,5 +1,5 @@
 -- What a call gives, by documents 01 and 02, with nothing of the code in it. Definitions only.
-use Rattle.std.specs.Prelude.{Bool, cond, List, ℕ, ltb}
+use Rattle.std.specs.Prelude.{Bool, cond, List, ℕ, ltb, Result, Ok, Err}
 use Rattle.refusal.specs.Refusals.{number_of, beside_of}
 use Rattle.refusal.specs.declared.Refusal.{Refusal}
 
@@ -19,3 +19,14 @@ or_refuse holds r rest = cond holds rest (refusal_of r)
 -- a number below a bound, or the refusal
 abbrev pub below : ℕ → Refusal → ℕ → Answer ℕ
 below bound r n = or_refuse (ltb n bound) r (given n)
+
+-- ---- the code's answers on the paper
+-- what is given, read as the paper has it, or the refusal
+abbrev pub answered_by : {A B : Type 0} → (A → B) → Result A Refusal → Answer B
+answered_by reading (Ok a) = given (reading a)
+answered_by reading (Err r) = refusal_of r
+
+-- the same where what is given is on the paper as it is
+abbrev pub answered : {A : Type 0} → Result A Refusal → Answer A
+answered (Ok a) = given a
+answered (Err r) = refusal_of r

@@ -1,9 +1,7 @@
 -- The refusals of documents 01 ("Numbers given back instead") and 02. Definitions only.
-use Rattle.std.specs.Prelude.{◌≡◌, List, [], ◌∷◌, ℕ}
+use Rattle.std.specs.Prelude.{◌≡◌, List, [], ◌∷◌, ℕ, Option, None, Some}
 use Rattle.refusal.specs.declared.Refusal.{Refusal}
 use Rattle.refusal.specs.declared.Refusal.TheVariants as R
-use Rattle.refusal.specs.declared.Beside.{Beside}
-use Rattle.refusal.specs.declared.Beside.TheVariants as B
 
 -- 01's column "No." but 2, which 02's "14 OVERLAP, 15 UNION, 16 BYTEBOARD replace", then the numbers of 02's requests
 abbrev pub number_of : Refusal → ℕ
@@ -78,10 +76,10 @@ abbrev pub Numbers : Refusal → ℕ → Type 0
 Numbers r n = n ≡ number_of r
 
 -- what stands beside the number, as the list that it is on the paper
-abbrev pub listed : Beside → List ℕ
-listed B.Nothing = []
-listed (B.Square s) = s ∷ []
+abbrev pub listed : Option ℕ → List ℕ
+listed None = []
+listed (Some s) = s ∷ []
 
 -- what `Refusal::square` promises
-abbrev pub NamesSquare : Refusal → Beside → Type 0
+abbrev pub NamesSquare : Refusal → Option ℕ → Type 0
 NamesSquare r b = listed b ≡ beside_of r

@@ -43,13 +43,6 @@ pub enum Refusal {
     Absent,
 }
 
-// What stands beside a refusal's number.
-#[derive(Clone, Copy)]
-pub enum Beside {
-    Nothing,
-    Square(u8),
-}
-
 impl Refusal {
     // The documents' number.
     pub fn number(self) -> u8
@@ -91,17 +84,17 @@ impl Refusal {
     }
 
     // The square that it names: a refusal that names none has none, not a1.
-    pub fn square(self) -> Beside
+    pub fn square(self) -> Option<u8>
         ensures { NamesSquare self result }
     {
         match self {
-            Refusal::Overlap(square) => Beside::Square(square),
-            Refusal::Union(square) => Beside::Square(square),
-            Refusal::Byteboard(square) => Beside::Square(square),
-            Refusal::Code(square) => Beside::Square(square),
-            Refusal::Rank(square) => Beside::Square(square),
-            Refusal::Check(square) => Beside::Square(square),
-            _ => Beside::Nothing,
+            Refusal::Overlap(square) => Some(square),
+            Refusal::Union(square) => Some(square),
+            Refusal::Byteboard(square) => Some(square),
+            Refusal::Code(square) => Some(square),
+            Refusal::Rank(square) => Some(square),
+            Refusal::Check(square) => Some(square),
+            _ => None,
         }
     }
 }

@@ -1,11 +1,9 @@
 // Questions of attacks: a piece's, those on a square, the least attacker, check, and the step tables, which are a piece's attacks too.
 use crate::reply::{Reply, byte, yes_or_no};
-use attack::Found;
-use attack_to::Told;
 use chess::piece::Piece;
-use exchange_least::Least;
 use exchange_order::ORDER;
 use position::State;
+use refusal::Refusal;
 use replay_question::NUMBERS;
 use text_in::inner::is;
 
@@ -55,24 +53,24 @@ fn pawn(color: u8) -> u8 {
     Piece::BLACK_PAWN.code()
 }
 
-fn found(found: Found) -> Reply {
+fn found(found: Result<u64, Refusal>) -> Reply {
     match found {
-        Found::Squares(b) => Reply::Natural(b),
-        Found::Refused(r) => Reply::Refused(r),
+        Ok(b) => Reply::Natural(b),
+        Err(r) => Reply::Refused(r),
     }
 }
 
-fn told(told: Told) -> Reply {
+fn told(told: Result<bool, Refusal>) -> Reply {
     match told {
-        Told::Is(t) => yes_or_no(t),
-        Told::Refused(r) => Reply::Refused(r),
+        Ok(t) => yes_or_no(t),
+        Err(r) => Reply::Refused(r),
     }
 }
 
-fn least(least: Least) -> Reply {
+fn least(least: Result<Option<(u8, u8)>, Refusal>) -> Reply {
     match least {
-        Least::At(square, _) => Reply::Natural(square as u64),
-        Least::Nobody => Reply::Nobody,
-        Least::Refused(r) => Reply::Refused(r),
+        Ok(Some((square, _))) => Reply::Natural(square as u64),
+        Ok(None) => Reply::Nobody,
+        Err(r) => Reply::Refused(r),
     }
 }

@@ -1,6 +1,6 @@
 // Questions of bitboards: count, scan, next, shift and one square.
 use crate::reply::{Reply, byte, yes_or_no};
-use bits::{Changed, Got, Lowest};
+use refusal::Refusal;
 use replay_question::NUMBERS;
 use text_in::inner::is;
 
@@ -51,23 +51,23 @@ fn by(n: u64) -> i8 {
     64
 }
 
-fn next(next: Lowest) -> Reply {
+fn next(next: Option<(u8, u64)>) -> Reply {
     match next {
-        Lowest::At(square, rest) => Reply::Two(square as u64, rest),
-        Lowest::Done => Reply::Nobody,
+        Some((square, rest)) => Reply::Two(square as u64, rest),
+        None => Reply::Nobody,
     }
 }
 
-fn changed(changed: Changed) -> Reply {
+fn changed(changed: Result<u64, Refusal>) -> Reply {
     match changed {
-        Changed::Bitboard(b) => Reply::Natural(b),
-        Changed::Refused(r) => Reply::Refused(r),
+        Ok(b) => Reply::Natural(b),
+        Err(r) => Reply::Refused(r),
     }
 }
 
-fn got(got: Got) -> Reply {
+fn got(got: Result<bool, Refusal>) -> Reply {
     match got {
-        Got::Is(t) => yes_or_no(t),
-        Got::Refused(r) => Reply::Refused(r),
+        Ok(t) => yes_or_no(t),
+        Err(r) => Reply::Refused(r),
     }
 }

@@ -2,8 +2,8 @@
 #![tactic(auto)]
 
 use crate::reply::Reply;
-use line_parse::Read;
 use position::State;
+use refusal::Refusal;
 use std::io;
 use text_in::inner::{past, text_before};
 
@@ -51,9 +51,9 @@ fn answer(question: &[u8]) -> Reply {
     attacks::answer(word, numbers, &bitboards, &board, state(read))
 }
 
-fn state(read: Read) -> State {
+fn state(read: Result<(State, u8), Refusal>) -> State {
     match read {
-        Read::Position(state, _) => state,
-        Read::Refused(_) => position::of_side(0),
+        Ok((state, _)) => state,
+        Err(_) => position::of_side(0),
     }
 }

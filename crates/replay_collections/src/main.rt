@@ -2,11 +2,9 @@
 // stands for a million spaces. So ends of input, and lines longer than a file here should hold, are tried too.
 #![tactic(auto)]
 
-use ledger_feed::{Fed, SoFar};
-use ledger_finish::Finished;
+use ledger_feed::{SoFar, Unwritten};
 use line_profile::Profile;
-use score_collection::{Gathered, Piece};
-use score_row::ErrorWritten;
+use score_collection::Gathered;
 use std::io;
 use stream_io::Taken;
 
@@ -116,26 +114,26 @@ fn feed(
 fn feed_ledger(rt: &impl Print, state: SoFar, line: &mut [u8], chunk: &[u8]) -> io::Result<SoFar> {
     let mut out = [0u8; 32];
     match ledger_feed::feed(Profile::Any, state, line, chunk, &mut out) {
-        Fed::Rows(next, wrote) => {
+        Ok((next, wrote)) => {
             put(rt, &out, wrote)?;
             Ok(next)
         }
-        Fed::Full => Ok(state),
-        Fed::Many => Ok(state),
-        Fed::Refused(_) => Ok(state),
+        Err(Unwritten::Full) => Ok(state),
+        Err(Unwritten::Many) => Ok(state),
+        Err(Unwritten::Refused(_)) => Ok(state),
     }
 }
 
 fn feed_error(gathered: Gathered, line: &mut [u8], chunk: &[u8]) -> Gathered {
     match score_collection::feed(gathered, line, chunk) {
-        Piece::Lines(next) => next,
-        Piece::Refused(_) => gathered,
+        Ok(next) => next,
+        Err(_) => gathered,
     }
 }
 
 fn finish(rt: &impl Print, state: SoFar, line: &[u8]) -> io::Result<()> {
     let mut out = [0u8; 116];
-    if let Finished::Rows(wrote) = ledger_finish::finish(Profile::Any, state, line, &mut out) {
+    if let Ok(wrote) = ledger_finish::finish(Profile::Any, state, line, &mut out) {
         put(rt, &out, wrote)?;
     }
     Ok(())
@@ -143,7 +141,7 @@ fn finish(rt: &impl Print, state: SoFar, line: &[u8]) -> io::Result<()> {
 
 fn write_error(rt: &impl Print, gathered: Gathered, line: &[u8]) -> io::Result<()> {
     let mut out = [0u8; 164];
-    if let ErrorWritten::Row(wrote) = score_row::write(gathered, line, &mut out) {
+    if let Ok(Some(wrote)) = score_row::write(gathered, line, &mut out) {
         put(rt, &out, wrote)?;
     }
     Ok(())

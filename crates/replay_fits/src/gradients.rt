@@ -1,10 +1,9 @@
 // Lines added to the sums of a gradient, each of a position's trace.
 use crate::lists;
 use crate::reply::Reply;
-use fit_gradient::Added;
-use line_parse::Read;
 use places::entry::Entry;
 use position::State;
+use refusal::Refusal;
 use replay_question::NUMBERS;
 use text_in::inner::is;
 use trace_counts::Trace;
@@ -35,17 +34,17 @@ fn is_odd(word: &[u8]) -> bool {
 }
 
 // White to move where the line is refused, which no recorded position's is.
-fn state(read: Read) -> State {
+fn state(read: Result<(State, u8), Refusal>) -> State {
     match read {
-        Read::Position(state, _) => state,
-        Read::Refused(_) => position::of_side(0),
+        Ok((state, _)) => state,
+        Err(_) => position::of_side(0),
     }
 }
 
-fn added(answer: Added) -> Reply {
+fn added(answer: Result<(), Refusal>) -> Reply {
     match answer {
-        Added::Done => Reply::Done,
-        Added::Refused(r) => Reply::Refused(r),
+        Ok(()) => Reply::Done,
+        Err(r) => Reply::Refused(r),
     }
 }
 

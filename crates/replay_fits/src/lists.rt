@@ -31,7 +31,7 @@ pub(crate) fn ship(weights: &mut [f64]) {
     let named = abi_records::named_of(trace_shipped::weights());
     name(&named, weights);
     if weights.len() >= Weight::NAMED {
-        trace_shipped::square_weights(&mut weights[Weight::NAMED..]);
+        let _ = trace_shipped::square_weights(&mut weights[Weight::NAMED..]);
     }
 }
 

@@ -3,9 +3,8 @@
 #![tactic(auto)]
 
 use crate::reply::Reply;
-use fit_adam::Stepped;
-use fit_coefficient::Weighed;
 use places::weight::Weight;
+use refusal::Refusal;
 use replay_question::NUMBERS;
 use std::io;
 use text_in::inner::{is, past, text_before};
@@ -143,15 +142,15 @@ fn summed(question: &[u8], n: [u64; NUMBERS], sums: &mut [f64]) -> Reply {
 fn weighed(n: [u64; NUMBERS]) -> Reply {
     let half = (n[1] % 256) as u8;
     match fit_coefficient::weigh(lists::of_bits(n[0]), half, lists::of_bits(n[2]), n[3]) {
-        Weighed::Line(share) => Reply::Doubles(share.expected, share.coefficient),
-        Weighed::Refused(refusal) => Reply::Refused(refusal),
+        Ok(share) => Reply::Doubles(share.expected, share.coefficient),
+        Err(refusal) => Reply::Refused(refusal),
     }
 }
 
-fn stepped(answer: Stepped) -> Reply {
+fn stepped(answer: Result<(), Refusal>) -> Reply {
     match answer {
-        Stepped::Done => Reply::Done,
-        Stepped::Refused(r) => Reply::Refused(r),
+        Ok(()) => Reply::Done,
+        Err(r) => Reply::Refused(r),
     }
 }
 

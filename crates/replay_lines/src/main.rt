@@ -6,10 +6,8 @@ ghost use Rattle.std.specs.Prelude.{◌≤◌, length};
 
 use chess::piece::Piece;
 use chess::square::Square;
-use line_parse::Read;
-use line_write::{Wanted, Written};
 use position::State;
-use position_further::{Passant, Rights};
+use position_further::Rights;
 use refusal::Refusal;
 use std::io;
 use text_in::inner::{is, past, text_before};
@@ -64,10 +62,10 @@ fn read(rt: &impl Print, text: &[u8]) -> io::Result<()> {
     let mut board = [0u8; Square::COUNT];
     let field = line::position_field(text).len();
     match line::read_line(text, &mut bitboards, &mut board) {
-        Read::Refused(r) => {
+        Err(r) => {
             refused(rt, r, field)?;
         }
-        Read::Position(state, half) => {
+        Ok((state, half)) => {
             if !comes_back(&bitboards, &board, state, half) {
                 write(rt, b"written otherwise ")?;
             }
@@ -88,9 +86,9 @@ const LONGEST: usize = 99;
 // Whether the line of the position, read again, is the same position with the same half points.
 fn comes_back(bitboards: &[u64], board: &[u8], state: State, half: u8) -> bool {
     let mut text = [0u8; LONGEST];
-    match line_write::write_line(bitboards, board, state, Wanted::Half(half), &mut text) {
-        Written::Refused(_) => false,
-        Written::Bytes(n) => reads_as(&text, n, board, state, half),
+    match line_write::write_line(bitboards, board, state, Some(half), &mut text) {
+        Err(_) => false,
+        Ok(n) => reads_as(&text, n, board, state, half),
     }
 }
 
@@ -102,8 +100,8 @@ fn reads_as(text: &[u8], n: usize, board: &[u8], state: State, half: u8) -> bool
     let mut bitboards_read = [0u64; Piece::BOARDS];
     let mut board_read = [0u8; Square::COUNT];
     match line::read_line(&text[..n], &mut bitboards_read, &mut board_read) {
-        Read::Refused(_) => false,
-        Read::Position(state_read, half_read) => {
+        Err(_) => false,
+        Ok((state_read, half_read)) => {
             if !same(state_read, state) {
                 return false;
             }
@@ -157,10 +155,10 @@ fn one(held: bool) -> u64 {
 }
 
 // No square is past the board.
-fn number(passant: Passant) -> u64 {
+fn number(passant: Option<u8>) -> u64 {
     match passant {
-        Passant::Nowhere => 64,
-        Passant::On(square) => square as u64,
+        None => 64,
+        Some(square) => square as u64,
     }
 }
 
@@ -230,9 +228,9 @@ fn rest(rt: &impl Print, state: State) -> io::Result<()> {
     next(rt, state.moves as u64)
 }
 
-fn passed(rt: &impl Print, passant: Passant) -> io::Result<()> {
+fn passed(rt: &impl Print, passant: Option<u8>) -> io::Result<()> {
     match passant {
-        Passant::Nowhere => write(rt, b" none"),
-        Passant::On(square) => next(rt, square as u64),
+        None => write(rt, b" none"),
+        Some(square) => next(rt, square as u64),
     }
 }

@@ -4,12 +4,10 @@
 
 use crate::reply::Reply;
 use chess::kind::Kind;
-use exchange::Exchanged;
-use exchange_least::Least;
 use exchange_start::Mode;
 use exchange_told::Told;
-use line_parse::Read;
-use position::{Checked, State};
+use position::State;
+use refusal::Refusal;
 use std::io;
 use text_in::inner::{is, past, text_before};
 
@@ -104,10 +102,10 @@ fn exchanged(
     Ok(Reply::Nothing)
 }
 
-fn state(read: Read) -> State {
+fn state(read: Result<(State, u8), Refusal>) -> State {
     match read {
-        Read::Position(state, _) => state,
-        Read::Refused(_) => position::of_side(0),
+        Ok((state, _)) => state,
+        Err(_) => position::of_side(0),
     }
 }
 
@@ -135,17 +133,17 @@ fn digit(n: u64) -> u8 {
     byte(n % 10)
 }
 
-fn worth(worth: Exchanged) -> Reply {
+fn worth(worth: Result<i16, Refusal>) -> Reply {
     match worth {
-        Exchanged::Worth(value) => Reply::Score(value),
-        Exchanged::Refused(r) => Reply::Refused(r),
+        Ok(value) => Reply::Score(value),
+        Err(r) => Reply::Refused(r),
     }
 }
 
 // The captures are written here: an answer that holds lists is not to be had.
 fn told(rt: &impl Print, told: Told) -> io::Result<Reply> {
     let checked = told.checked;
-    if let Checked::Refused(r) = checked {
+    if let Err(r) = checked {
         return Ok(Reply::Refused(r));
     }
     let listed = told.listed;
@@ -158,10 +156,10 @@ fn told(rt: &impl Print, told: Told) -> io::Result<Reply> {
     Ok(Reply::Nothing)
 }
 
-fn least(least: Least) -> Reply {
+fn least(least: Result<Option<(u8, u8)>, Refusal>) -> Reply {
     match least {
-        Least::At(square, kind) => Reply::Attacker(square, kind),
-        Least::Nobody => Reply::Nobody,
-        Least::Refused(r) => Reply::Refused(r),
+        Ok(Some((square, kind))) => Reply::Attacker(square, kind),
+        Ok(None) => Reply::Nobody,
+        Err(r) => Reply::Refused(r),
     }
 }

@@ -1,6 +1,5 @@
 // What there is to say to a question, and how it is written.
 use exchange::inner::MOST;
-use exchange_value::inner::Stopped;
 use refusal::Refusal;
 use std::io;
 
@@ -72,10 +71,10 @@ pub(crate) fn captures(
 }
 
 // Where the exchange stops.
-pub(crate) fn stop(rt: &impl Print, stop: Stopped) -> io::Result<()> {
+pub(crate) fn stop(rt: &impl Print, stop: Option<usize>) -> io::Result<()> {
     match stop {
-        Stopped::PlayedOut => write(rt, b"out"),
-        Stopped::Before(k) => natural(rt, k as u64),
+        None => write(rt, b"out"),
+        Some(k) => natural(rt, k as u64),
     }
 }
 

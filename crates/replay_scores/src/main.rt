@@ -4,11 +4,10 @@
 use crate::reply::Reply;
 use chess::piece::Piece;
 use chess::square::Square;
-use exchange::Exchanged;
 use exchange_order::ORDER;
 use exchange_start::Mode;
-use line_parse::Read;
 use position::State;
+use refusal::Refusal;
 use replay_question::NUMBERS;
 use std::io;
 use text_in::inner::{is, past, text_before};
@@ -92,10 +91,10 @@ fn scored(
     scores::answer(word, n, &bitboards, &board, state)
 }
 
-fn state(read: Read) -> State {
+fn state(read: Result<(State, u8), Refusal>) -> State {
     match read {
-        Read::Position(state, _) => state,
-        Read::Refused(_) => position::of_side(0),
+        Ok((state, _)) => state,
+        Err(_) => position::of_side(0),
     }
 }
 
@@ -107,10 +106,10 @@ pub(crate) fn byte(n: u64) -> u8 {
     n as u8
 }
 
-fn worth(worth: Exchanged) -> Reply {
+fn worth(worth: Result<i16, Refusal>) -> Reply {
     match worth {
-        Exchanged::Worth(value) => Reply::Score(value),
-        Exchanged::Refused(r) => Reply::Refused(r),
+        Ok(value) => Reply::Score(value),
+        Err(r) => Reply::Refused(r),
     }
 }
 

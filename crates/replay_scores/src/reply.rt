@@ -1,5 +1,5 @@
 // What there is to say to a question, and how it is written.
-use refusal::{Beside, Refusal};
+use refusal::Refusal;
 use score_verdict::Verdict;
 use std::io;
 
@@ -7,7 +7,7 @@ use std::io;
 pub(crate) enum Reply {
     Nothing,
     Score(i16),
-    Word(Verdict),
+    Word(Option<Verdict>),
     Refused(Refusal),
 }
 
@@ -40,12 +40,12 @@ fn score(rt: &impl Print, z: i16) -> io::Result<()> {
     natural(rt, (-1 - z) as u64 + 1)
 }
 
-fn word(rt: &impl Print, verdict: Verdict) -> io::Result<()> {
+fn word(rt: &impl Print, verdict: Option<Verdict>) -> io::Result<()> {
     match verdict {
-        Verdict::Lost => write(rt, b"lost"),
-        Verdict::Won => write(rt, b"won"),
-        Verdict::Drawn => write(rt, b"drawn"),
-        Verdict::None => write(rt, b"none"),
+        Some(Verdict::Lost) => write(rt, b"lost"),
+        Some(Verdict::Won) => write(rt, b"won"),
+        Some(Verdict::Drawn) => write(rt, b"drawn"),
+        None => write(rt, b"none"),
     }
 }
 
@@ -56,7 +56,7 @@ fn refused(rt: &impl Print, refusal: Refusal) -> io::Result<()> {
     }
     write(rt, b"refused ")?;
     natural(rt, refusal.number() as u64)?;
-    if let Beside::Square(square) = refusal.square() {
+    if let Some(square) = refusal.square() {
         write(rt, b" ")?;
         natural(rt, square as u64)?;
     }

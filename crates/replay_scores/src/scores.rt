@@ -2,10 +2,10 @@
 use crate::byte;
 use crate::reply::Reply;
 use position::State;
+use refusal::Refusal;
 use replay_question::NUMBERS;
 use score::Scored;
-use score_material::Material;
-use score_verdict::{Ending, Verdict};
+use score_verdict::Verdict;
 use text_in::inner::is;
 
 pub(crate) fn answer(
@@ -35,26 +35,26 @@ fn weight(code: u8, square: u8, phase: u8) -> Reply {
     Reply::Score(score_pst::inner::weight(&table, code, square, phase))
 }
 
-pub(crate) fn scored(scored: Scored) -> Reply {
+pub(crate) fn scored(scored: Result<Scored, Refusal>) -> Reply {
     match scored {
-        Scored::Lost => Reply::Word(Verdict::Lost),
-        Scored::Won => Reply::Word(Verdict::Won),
-        Scored::Drawn => Reply::Word(Verdict::Drawn),
-        Scored::Score(z) => Reply::Score(z),
-        Scored::Refused(r) => Reply::Refused(r),
+        Ok(Scored::Lost) => Reply::Word(Some(Verdict::Lost)),
+        Ok(Scored::Won) => Reply::Word(Some(Verdict::Won)),
+        Ok(Scored::Drawn) => Reply::Word(Some(Verdict::Drawn)),
+        Ok(Scored::Score(z)) => Reply::Score(z),
+        Err(r) => Reply::Refused(r),
     }
 }
 
-fn ended(ending: Ending) -> Reply {
+fn ended(ending: Result<Option<Verdict>, Refusal>) -> Reply {
     match ending {
-        Ending::Is(verdict) => Reply::Word(verdict),
-        Ending::Refused(r) => Reply::Refused(r),
+        Ok(verdict) => Reply::Word(verdict),
+        Err(r) => Reply::Refused(r),
     }
 }
 
-fn weighed(material: Material) -> Reply {
+fn weighed(material: Result<i16, Refusal>) -> Reply {
     match material {
-        Material::Is(total) => Reply::Score(total),
-        Material::Refused(r) => Reply::Refused(r),
+        Ok(total) => Reply::Score(total),
+        Err(r) => Reply::Refused(r),
     }
 }

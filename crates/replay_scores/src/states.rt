@@ -1,7 +1,7 @@
 // The state that a question names, whether a line could say it or not.
 use crate::byte;
 use position::State;
-use position_further::{Passant, Rights};
+use position_further::Rights;
 use replay_question::NUMBERS;
 
 // In a question no square is 255.
@@ -27,11 +27,11 @@ fn rights(n: u64) -> Rights {
     }
 }
 
-fn passant(square: u8) -> Passant {
+fn passant(square: u8) -> Option<u8> {
     if square == NONE {
-        return Passant::Nowhere;
+        return None;
     }
-    Passant::On(square)
+    Some(square)
 }
 
 // The number in 16 bits; the largest of them where it is larger.

@@ -2,17 +2,15 @@
 // a double as its bits (oracle/README.md). A word that begins with `list_` asks for the same by way of the trace's list.
 #![tactic(auto)]
 
-use line_parse::Read;
 use places::entry::Entry;
 use places::weight::SquareWeight;
 use position::State;
+use refusal::Refusal;
 use replay_question::NUMBERS;
 use std::io;
 use text_in::inner::{is, past, text_after, text_before};
 use trace_counts::{Trace, Weights};
-use trace_double::Doubled;
 use trace_list::BYTES;
-use trace_list_turn::Listed;
 
 mod prints;
 mod seeds;
@@ -106,7 +104,7 @@ fn of_seed(
     kind: u64,
     weights_seed: u64,
     as_list: bool,
-) -> Doubled {
+) -> Result<f64, Refusal> {
     let mut numbers = [0i32; seeds::NUMBERS];
     let mut entries = [0i32; Entry::COUNT];
     let next = seeds::numbers(seed, &mut numbers);
@@ -122,7 +120,13 @@ fn of_seed(
     )
 }
 
-fn of_trace(t: Trace, entries: &[i32], kind: u64, seed: u64, as_list: bool) -> Doubled {
+fn of_trace(
+    t: Trace,
+    entries: &[i32],
+    kind: u64,
+    seed: u64,
+    as_list: bool,
+) -> Result<f64, Refusal> {
     if as_list {
         return turned(t, entries, kind, seed);
     }
@@ -182,15 +186,15 @@ fn print_list(
 
 fn print_flat(rt: &impl Print, t: Trace, used: u8, bytes: &[u8; BYTES]) -> io::Result<()> {
     let mut entries = [0i32; Entry::COUNT];
-    trace_list_turn::flat_of(t, used, bytes, &mut entries);
+    let _ = trace_list_turn::flat_of(t, used, bytes, &mut entries);
     prints::trace(rt, t, &entries)
 }
 
 // White to move where the line is refused, which no recorded position's is.
-fn state(read: Read) -> State {
+fn state(read: Result<(State, u8), Refusal>) -> State {
     match read {
-        Read::Position(state, _) => state,
-        Read::Refused(_) => position::of_side(0),
+        Ok((state, _)) => state,
+        Err(_) => position::of_side(0),
     }
 }
 
@@ -204,30 +208,33 @@ fn weights(kind: u64, seed: u64) -> Weights {
 
 fn square_weights(kind: u64, seed: u64, squares: &mut [f64]) {
     if kind == 0 {
-        trace_shipped::square_weights(squares);
+        let _ = trace_shipped::square_weights(squares);
         return;
     }
     seeds::squares(kind, seeds::after_named(seed), squares);
 }
 
 // The double of a trace with these weights.
-fn doubled(t: Trace, entries: &[i32], kind: u64, seed: u64) -> Doubled {
+fn doubled(t: Trace, entries: &[i32], kind: u64, seed: u64) -> Result<f64, Refusal> {
     let mut squares = [0.0f64; SquareWeight::COUNT];
     square_weights(kind, seed, &mut squares);
     trace_double::eval(t, entries, weights(kind, seed), &squares)
 }
 
 // The same by way of the list that the trace is turned into.
-fn turned(t: Trace, entries: &[i32], kind: u64, seed: u64) -> Doubled {
+fn turned(t: Trace, entries: &[i32], kind: u64, seed: u64) -> Result<f64, Refusal> {
     let mut bytes = [0u8; BYTES];
-    let listed = trace_list_turn::list_of(t, entries, &mut bytes);
-    match listed {
-        Listed::Used(used) => list_doubled(t, used, &bytes, kind, seed),
-        Listed::Refused(refusal) => Doubled::Refused(refusal),
-    }
+    let used = trace_list_turn::list_of(t, entries, &mut bytes)?;
+    list_doubled(t, used, &bytes, kind, seed)
 }
 
-fn list_doubled(t: Trace, used: u8, bytes: &[u8; BYTES], kind: u64, seed: u64) -> Doubled {
+fn list_doubled(
+    t: Trace,
+    used: u8,
+    bytes: &[u8; BYTES],
+    kind: u64,
+    seed: u64,
+) -> Result<f64, Refusal> {
     let mut squares = [0.0f64; SquareWeight::COUNT];
     square_weights(kind, seed, &mut squares);
     trace_list_double::eval_list(t, used, bytes, weights(kind, seed), &squares)

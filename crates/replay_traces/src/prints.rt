@@ -2,7 +2,6 @@
 use refusal::Refusal;
 use std::io;
 use trace_counts::Trace;
-use trace_double::Doubled;
 
 fn write(rt: &impl Print, text: &[u8]) -> io::Result<()> {
     rt.write_all(text)
@@ -77,10 +76,10 @@ fn counts(rt: &impl Print, t: Trace) -> io::Result<()> {
     numbers(rt, &queens)
 }
 
-pub(crate) fn doubled(rt: &impl Print, doubled: Doubled) -> io::Result<()> {
+pub(crate) fn doubled(rt: &impl Print, doubled: Result<f64, Refusal>) -> io::Result<()> {
     let said = match doubled {
-        Doubled::Is(x) => bits(rt, x),
-        Doubled::Refused(r) => refused(rt, r),
+        Ok(x) => bits(rt, x),
+        Err(r) => refused(rt, r),
     };
     said?;
     write(rt, b"\n")

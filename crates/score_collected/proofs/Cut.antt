@@ -5,7 +5,7 @@ use mathlib.Core.List.{List, [], ◌∷◌}
 use Prim.Native.Nat.{ℕ}
 use lib.ListN.{length}
 use borrow.Author.Tests.{eq-eqb}
-use Rattle.refusal.specs.Answer.{Answer, given, or_refuse}
+use Rattle.refusal.specs.Answer.{Answer, given, or_refuse, answered}
 use Rattle.refusal.specs.declared.Refusal.TheVariants as R
 use Rattle.refusal.proofs.Answers.{given_not}
 use Rattle.line_cut.specs.Lines.{lines_of}
@@ -16,26 +16,25 @@ use Rattle.line_cut.proofs.Folded.{folded}
 use Rattle.line_held.proofs.Said.{follows}
 use Rattle.line_parse.specs.Line.{line_of}
 use Rattle.score_collection.specs.Gather.{line_more}
-use Rattle.score_collection.specs.Answers.{piece_paper}
 use Rattle.score_collection.specs.Promises.{close_more, nothing, gathered_of, gathered_in, gather_of, line_kept, Gathers, outcome_of, end_of, EndsCollection}
 use Rattle.score_collection.specs.declared.Sum.{Sum}
 use Rattle.score_collection.specs.declared.Gathered.{Gathered}
-use Rattle.score_collection.specs.declared.Piece.{Piece}
-use Rattle.score_collection.specs.declared.Piece.TheVariants as T
-use Rattle.score_collection.specs.declared.Ended.{Ended}
 use Rattle.score_collected.specs.Collected.{collected_of, PieceCall, handed_on, PiecesThen, whole_input, begun, Collected}
 use Rattle.score_collected.proofs.Totals.{all_lines}
+use Rattle.std.specs.Prelude.{Result, Ok, Err}
+use Rattle.refusal.specs.declared.Refusal.{Refusal}
+use Rattle.score_errors.specs.declared.Totals.{Totals}
 
 -- ---- a call with a buffer of 256 bytes
-lines_of_holds : (p : Piece) (g : Gathered) → piece_paper p ≡ given g → p ≡ T.Lines g
-lines_of_holds (T.Lines x) g e = ap T.Lines (cc)
-lines_of_holds (T.Refused q) g e = given_not (sym e)
+lines_of_holds : (p : Result Gathered Refusal) (g : Gathered) → answered p ≡ given g → p ≡ Ok g
+lines_of_holds (Ok x) g e = ap Ok (cc)
+lines_of_holds (Err q) g e = given_not (sym e)
 
-record Goes (m : CutSoFar Sum) (p : Piece) (line' : List ℕ) : Type 0 where
-  piece : p ≡ T.Lines (gathered_of m)
+record Goes (m : CutSoFar Sum) (p : Result Gathered Refusal) (line' : List ℕ) : Type 0 where
+  piece : p ≡ Ok (gathered_of m)
   kept : line' ≡ m.left.line
 
-goes : (g : Gathered) (line chunk : List ℕ) (p : Piece) (line' : List ℕ) → length line ≡ 256 → Gathers g line chunk p line'
+goes : (g : Gathered) (line chunk : List ℕ) (p : Result Gathered Refusal) (line' : List ℕ) → length line ≡ 256 → Gathers g line chunk p line'
     → Goes (run_by close_more (opened g.begun line) g.sum chunk) p line'
 goes g line chunk p line' size f =
     let m : CutSoFar Sum = run_by close_more (opened g.begun line) g.sum chunk in
@@ -61,7 +60,7 @@ come last g line (c ∷ cs) size made =
     let k = goes g line c.chunk c.piece c.line' size made.0 in
     let rest : PiecesThen last (gathered_of m) m.left.line cs =
     subst (λ (l : List ℕ). PiecesThen last (gathered_of m) l cs) k.kept
-    (subst (λ (p : Piece). PiecesThen last (handed_on p g) c.line' cs) k.piece made.1) in
+    (subst (λ (p : Result Gathered Refusal). PiecesThen last (handed_on p g) c.line' cs) k.piece made.1) in
     subst (λ (x : CutSoFar Sum). last (gathered_of x) x.left.line) (sym (run_append close_more (opened g.begun line) g.sum c.chunk (whole_input cs)))
     (come last (gathered_of m) m.left.line cs (run_size close_more (opened g.begun line) g.sum c.chunk ∙ size) rest)
 
@@ -76,7 +75,7 @@ end_left line input size =
     ∙ all_lines (lines_of input)
 
 -- the claim, for every line buffer and all calls
-pub collected : (line : List ℕ) (calls : List PieceCall) (r : Ended) → Collected line calls r
+pub collected : (line : List ℕ) (calls : List PieceCall) (r : Result (Totals × ℕ) Refusal) → Collected line calls r
 collected line calls r = record {
   totals = λ size made.
       come (λ (g : Gathered) (l : List ℕ). EndsCollection g l r) begun line calls size made ∙ end_left line (whole_input calls) size;

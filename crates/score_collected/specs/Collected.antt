@@ -1,6 +1,6 @@
 -- The totals of a whole collection, by the ledger's lines (document 02, W-210), and calls of `feed` and `end`. Definitions only.
-use Rattle.std.specs.Prelude.{◌≡◌, false, ◌&&◌, List, [], ◌∷◌, ◌++◌, ℕ, ◌^◌, leb, ltb, length}
-use Rattle.refusal.specs.Answer.{Answer, given, refused, or_refuse}
+use Rattle.std.specs.Prelude.{◌≡◌, false, ◌&&◌, List, [], ◌∷◌, ◌++◌, ℕ, ◌^◌, leb, ltb, length, Result, Ok, Err}
+use Rattle.refusal.specs.Answer.{Answer, given, refused, or_refuse, answered}
 use Rattle.refusal.specs.declared.Refusal.TheVariants as R
 use Rattle.position_boards.specs.Boards.{bitboards_of}
 use Rattle.line_parse.specs.Line.{Line, line_of}
@@ -10,12 +10,9 @@ use Rattle.score_errors.specs.Collection.{LoadedLine, fresh_of, scored_in, apart
 use Rattle.score_errors.specs.declared.Totals.{Totals}
 use Rattle.line_profile.specs.declared.Profile.TheVariants as P
 use Rattle.ledger_whole.specs.Ledger.{refused_in}
-use Rattle.score_collection.specs.Answers.{ended_paper}
 use Rattle.score_collection.specs.Promises.{nothing, Gathers, EndsCollection}
 use Rattle.score_collection.specs.declared.Gathered.{Gathered}
-use Rattle.score_collection.specs.declared.Piece.{Piece}
-use Rattle.score_collection.specs.declared.Piece.TheVariants as T
-use Rattle.score_collection.specs.declared.Ended.{Ended}
+use Rattle.refusal.specs.declared.Refusal.{Refusal}
 
 -- what the loaded lines show: the side to move, the answer that their row in the ledger shows, the half points
 abbrev pub shown_before : Answer Line → List LoadedLine → List LoadedLine
@@ -39,13 +36,13 @@ collected_of whole_input = collection_totals (lines_of whole_input)
 -- ---- a call of `feed`: what it was lent, what it answered, and the line buffer afterwards
 pub record PieceCall : Type 0 where
   pub chunk : List ℕ
-  pub piece : Piece
+  pub piece : Result Gathered Refusal
   pub line' : List ℕ
 
 -- what a call hands on
-abbrev pub handed_on : Piece → Gathered → Gathered
-handed_on (T.Lines gathered) before = gathered
-handed_on (T.Refused r) before = before
+abbrev pub handed_on : Result Gathered Refusal → Gathered → Gathered
+handed_on (Ok gathered) before = gathered
+handed_on (Err r) before = before
 
 -- each call does what `feed` promises, from what the call before it gathered and left in the line buffer; then whatever is done last, with what was gathered
 unfoldable pub PiecesThen : (Gathered → List ℕ → Type 0) → Gathered → List ℕ → List PieceCall → Type 0
@@ -53,7 +50,7 @@ PiecesThen last gathered line [] = last gathered line
 PiecesThen last gathered line (c ∷ cs) = Gathers gathered line c.chunk c.piece c.line' × PiecesThen last (handed_on c.piece gathered) c.line' cs
 
 -- and where that is `end`
-abbrev pub PiecesMade : Gathered → List ℕ → List PieceCall → Ended → Type 0
+abbrev pub PiecesMade : Gathered → List ℕ → List PieceCall → Result (Totals × ℕ) Refusal → Type 0
 PiecesMade gathered line calls r = PiecesThen (λ (g : Gathered) (l : List ℕ). EndsCollection g l r) gathered line calls
 
 -- the whole input, which the pieces are cut from
@@ -66,5 +63,5 @@ abbrev pub begun : Gathered
 begun = record { begun = record { held = 0; cr = false }; sum = nothing }
 
 -- for every way the input is cut, whatever the line buffer held, what comes back are the totals of the whole collection
-pub record Collected (line : List ℕ) (calls : List PieceCall) (r : Ended) : Type 0 where
-  pub totals : length line ≡ 256 → PiecesMade begun line calls r → ended_paper r ≡ collected_of (whole_input calls)
+pub record Collected (line : List ℕ) (calls : List PieceCall) (r : Result (Totals × ℕ) Refusal) : Type 0 where
+  pub totals : length line ≡ 256 → PiecesMade begun line calls r → answered r ≡ collected_of (whole_input calls)

@@ -1,6 +1,6 @@
 -- What each function promises, for all inputs. Definitions only.
-use Rattle.std.specs.Prelude.{◌≡◌, Bool, false, cond, not, List, ℕ, eqb, length}
-use Rattle.refusal.specs.Answer.{Answer, given, refused, or_refuse}
+use Rattle.std.specs.Prelude.{◌≡◌, Bool, false, cond, not, List, ℕ, eqb, length, Result}
+use Rattle.refusal.specs.Answer.{Answer, given, refused, or_refuse, answered}
 use Rattle.refusal.specs.declared.Refusal.TheVariants as R
 use Rattle.line_held.specs.Held.{said_of}
 use Rattle.line_cut.specs.Cut.{CutSoFar, run_by, end_by}
@@ -8,11 +8,9 @@ use Rattle.line_cut.specs.Promises.{opened}
 use Rattle.score_errors.specs.Promises.{none}
 use Rattle.score_errors.specs.declared.Totals.{Totals}
 use Rattle.score_collection.specs.Gather.{line_by, line_more}
-use Rattle.score_collection.specs.Answers.{piece_paper, ended_paper}
 use Rattle.score_collection.specs.declared.Sum.{Sum}
 use Rattle.score_collection.specs.declared.Gathered.{Gathered}
-use Rattle.score_collection.specs.declared.Piece.{Piece}
-use Rattle.score_collection.specs.declared.Ended.{Ended}
+use Rattle.refusal.specs.declared.Refusal.{Refusal}
 
 -- what a line that ends does, by the buffer and the line's length
 abbrev pub close_more : Sum → List ℕ → ℕ → Sum
@@ -40,8 +38,8 @@ abbrev pub line_kept : Answer (CutSoFar Sum) → List ℕ → List ℕ
 line_kept (given r) old = r.left.line
 line_kept (refused n beside) old = old
 
-pub record Gathers (gathered : Gathered) (line chunk : List ℕ) (r : Piece) (line' : List ℕ) : Type 0 where
-  pub answer : piece_paper r ≡ gathered_in (gather_of gathered line chunk)
+pub record Gathers (gathered : Gathered) (line chunk : List ℕ) (r : Result Gathered Refusal) (line' : List ℕ) : Type 0 where
+  pub answer : answered r ≡ gathered_in (gather_of gathered line chunk)
   pub kept : line' ≡ line_kept (gather_of gathered line chunk) line
 
 -- ---- the end: MANY where a line found no room
@@ -52,8 +50,8 @@ abbrev pub end_of : Gathered → List ℕ → Answer (Totals × ℕ)
 end_of gathered line =
     or_refuse (eqb (length line) 256) R.Shape (outcome_of (end_by close_more (record { left = opened gathered.begun line; kept = gathered.sum })))
 
-abbrev pub EndsCollection : Gathered → List ℕ → Ended → Type 0
-EndsCollection gathered line r = ended_paper r ≡ end_of gathered line
+abbrev pub EndsCollection : Gathered → List ℕ → Result (Totals × ℕ) Refusal → Type 0
+EndsCollection gathered line r = answered r ≡ end_of gathered line
 
 -- ---- the inner functions, by whatever table is lent
 abbrev pub close_with : List ℕ → Sum → List ℕ → ℕ → Sum
@@ -72,5 +70,5 @@ pub record TakesBy (close : Sum → List ℕ → ℕ → Sum) (gathered : Gather
 abbrev pub TakesPiece : List ℕ → Gathered → List ℕ → List ℕ → Gathered → List ℕ → Type 0
 TakesPiece t gathered line chunk r line' = TakesBy (close_with t) gathered line chunk r line'
 
-abbrev pub Comes : Sum → Ended → Type 0
-Comes sum r = ended_paper r ≡ outcome_of sum
+abbrev pub Comes : Sum → Result (Totals × ℕ) Refusal → Type 0
+Comes sum r = answered r ≡ outcome_of sum

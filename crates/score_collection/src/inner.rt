@@ -4,10 +4,9 @@ ghost use Rattle.score_collection.specs.Gather.{refused_more};
 ghost use Rattle.score_collection.specs.Answers.{note_with};
 ghost use Rattle.score_collection.specs.Promises.{ClosesLine, CountsLine, TakesPiece, Comes};
 
-use crate::{Ended, Gathered, Sum};
-use line_parse::Read;
+use crate::{Gathered, Sum};
 use refusal::Refusal;
-use score_errors::Added;
+use score_errors::Totals;
 use score_expected::COUNT;
 
 // The largest count.
@@ -35,10 +34,10 @@ fn refused(sum: Sum) -> Sum
 }
 
 // What adding a line came to.
-fn note(sum: Sum, added: Added) -> Sum
+fn note(sum: Sum, added: Result<Totals, Refusal>) -> Sum
     ensures { result ≡ note_with sum added }
 {
-    let Added::Line(totals) = added else {
+    let Ok(totals) = added else {
         let totals = sum.totals;
         return Sum {
             totals,
@@ -60,8 +59,8 @@ fn read_line(sum: Sum, line: &[u8], size: usize, expected: &[u32; COUNT]) -> Sum
     let read = line_held::read(line, size);
     let answer = read.answer;
     match answer {
-        Read::Refused(_) => refused(sum),
-        Read::Position(state, half) => {
+        Err(_) => refused(sum),
+        Ok((state, half)) => {
             let bitboards = read.bitboards;
             let scored = score::inner::eval(&bitboards, state);
             let totals = sum.totals;
@@ -102,12 +101,12 @@ pub fn take(gathered: Gathered, line: &mut [u8], chunk: &[u8], expected: &[u32; 
 }
 
 // What all lines came to: MANY where one found no room.
-pub fn outcome(sum: Sum) -> Ended
+pub fn outcome(sum: Sum) -> Result<(Totals, u64), Refusal>
     ensures { Comes sum result }
 {
     if sum.full {
-        return Ended::Refused(Refusal::Many);
+        return Err(Refusal::Many);
     }
     let totals = sum.totals;
-    Ended::Sum(totals, sum.refused)
+    Ok((totals, sum.refused))
 }

@@ -24,20 +24,6 @@ pub struct Gathered {
     pub sum: Sum,
 }
 
-// What is gathered after a piece, or why nothing has changed.
-#[derive(Clone, Copy)]
-pub enum Piece {
-    Lines(Gathered),
-    Refused(Refusal),
-}
-
-// The totals of a whole collection and how many of its lines were refused, or why there are none.
-#[derive(Clone, Copy)]
-pub enum Ended {
-    Sum(Totals, u64),
-    Refused(Refusal),
-}
-
 // Before anything was read.
 pub fn begin() -> Gathered
     ensures { Begins result }
@@ -53,22 +39,22 @@ pub fn begin() -> Gathered
 }
 
 // Takes a piece of any size. SHAPE.
-pub fn feed(gathered: Gathered, line: &mut [u8], chunk: &[u8]) -> Piece
+pub fn feed(gathered: Gathered, line: &mut [u8], chunk: &[u8]) -> Result<Gathered, Refusal>
     ensures { Gathers gathered line.old chunk.now result line.new }
 {
     if line.len() != LINE {
-        return Piece::Refused(Refusal::Shape);
+        return Err(Refusal::Shape);
     }
     let expected = score_expected::inner::table();
-    Piece::Lines(inner::take(gathered, line, chunk, &expected))
+    Ok(inner::take(gathered, line, chunk, &expected))
 }
 
-// The end of the input: an unfinished line ends there. SHAPE, MANY.
-pub fn end(gathered: Gathered, line: &[u8]) -> Ended
+// The end of the input: an unfinished line ends there. The totals of the whole collection, and how many of its lines were refused: SHAPE, MANY.
+pub fn end(gathered: Gathered, line: &[u8]) -> Result<(Totals, u64), Refusal>
     ensures { EndsCollection gathered line.now result }
 {
     if line.len() != LINE {
-        return Ended::Refused(Refusal::Shape);
+        return Err(Refusal::Shape);
     }
     let expected = score_expected::inner::table();
     let begun = gathered.begun;

@@ -14,6 +14,8 @@ use Rattle.score.specs.declared.Scored.TheVariants as S
 use Rattle.score.specs.contracts.Scored.{the_type}
 use Rattle.score_errors.specs.Errors.{scored_of, apart_of, square_with, counted_with, added_with}
 use Rattle.score_errors.specs.declared.Totals.{Totals}
+use Rattle.std.specs.Prelude.{Result, Ok}
+use Rattle.refusal.specs.declared.Refusal.{Refusal}
 
 module _ (t : List ℕ) (totals : Totals) (side half : ℕ) where
   pub no_side : (a : Answer Outcome) → 2 ≤ side → refused 1 [] ≡ added_with t totals side a half
@@ -25,13 +27,15 @@ module _ (t : List ℕ) (totals : Totals) (side half : ℕ) where
   pub both : (a : Answer Outcome) → side < 2 → half < 3 → counted_with t totals side a half ≡ added_with t totals side a half
   both a h k = simp (lt-ltb side 2 h, lt-ltb half 3 k)
 
-  -- no score: `Score` is the fourth of the five variants
-  pub not_scored : (a : Scored) → OneOf (0 ∷ 1 ∷ 2 ∷ 4 ∷ []) (tag_of the_type a) → apart_of totals ≡ counted_with t totals side (scored a) half
-  not_scored S.Lost o = refl
-  not_scored S.Won o = refl
-  not_scored S.Drawn o = refl
-  not_scored (S.Score z) o = absurd (miss (0 ∷ 1 ∷ 2 ∷ 4 ∷ []) 3 tt o)
-  not_scored (S.Refused r) o = refl
+  -- no score but a verdict: `Score` is the fourth of the four variants
+  pub not_scored : (a : Result Scored Refusal) (o : Scored) → a ≡ Ok o → OneOf (0 ∷ 1 ∷ 2 ∷ []) (tag_of the_type o) → apart_of totals ≡ counted_with t totals side (scored a) half
+  not_scored a o e n = by o n ∙ ap (λ (x : Result Scored Refusal). counted_with t totals side (scored x) half) (sym e)
+    where
+      by : (o : Scored) → OneOf (0 ∷ 1 ∷ 2 ∷ []) (tag_of the_type o) → apart_of totals ≡ counted_with t totals side (scored (Ok o)) half
+      by S.Lost o = refl
+      by S.Won o = refl
+      by S.Drawn o = refl
+      by (S.Score z) o = absurd (miss (0 ∷ 1 ∷ 2 ∷ []) 3 tt o)
 
-  pub with_score : (a : Scored) (z : ℤ) (q : ℕ) → a ≡ S.Score z → q ≡ square_with t side z half → scored_of totals q ≡ counted_with t totals side (scored a) half
-  with_score a z q e p = ap (scored_of totals) p ∙ ap (λ (x : Scored). counted_with t totals side (scored x) half) (sym e)
+  pub with_score : (a : Result Scored Refusal) (z : ℤ) (q : ℕ) → a ≡ Ok (S.Score z) → q ≡ square_with t side z half → scored_of totals q ≡ counted_with t totals side (scored a) half
+  with_score a z q e p = ap (scored_of totals) p ∙ ap (λ (x : Result Scored Refusal). counted_with t totals side (scored x) half) (sym e)

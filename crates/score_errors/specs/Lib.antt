@@ -1,4 +1,3 @@
 pub mod Errors
-pub mod Answers
 pub mod Promises
 pub mod Collection

@@ -2,10 +2,10 @@
 ghost use Rattle.std.specs.Prelude.{◌≡◌};
 ghost use Rattle.chess.specs.Named.{turned_for_black};
 ghost use Rattle.score_errors.specs.Errors.{apart_by, error_square, scored_of, apart_of};
-ghost use Rattle.score_errors.specs.Answers.{added_paper};
 ghost use Rattle.score_errors.specs.Promises.{AddsWith};
+ghost use Rattle.refusal.specs.Answer.{answered};
 
-use crate::{Added, Totals};
+use crate::Totals;
 use chess::color::{BLACK, WHITE};
 use refusal::Refusal;
 use score::Scored;
@@ -50,20 +50,20 @@ fn square(half: u8, expected: u32) -> u64
 }
 
 // A line more that has a score.
-fn scored(totals: Totals, square: u64) -> Added
-    ensures { added_paper result ≡ scored_of totals square }
+fn scored(totals: Totals, square: u64) -> Result<Totals, Refusal>
+    ensures { answered result ≡ scored_of totals square }
 {
     let scored = totals.scored;
     let sum = totals.sum;
     if MOST <= scored {
-        return Added::Refused(Refusal::Many);
+        return Err(Refusal::Many);
     }
     if LARGEST - sum < square {
-        return Added::Refused(Refusal::Many);
+        return Err(Refusal::Many);
     }
     let lines = scored + 1;
     let summed = sum + square;
-    Added::Line(Totals {
+    Ok(Totals {
         scored: lines,
         apart: totals.apart,
         sum: summed,
@@ -71,15 +71,15 @@ fn scored(totals: Totals, square: u64) -> Added
 }
 
 // A line more that has a verdict or `over`.
-fn apart(totals: Totals) -> Added
-    ensures { added_paper result ≡ apart_of totals }
+fn apart(totals: Totals) -> Result<Totals, Refusal>
+    ensures { answered result ≡ apart_of totals }
 {
     let apart = totals.apart;
     if MOST <= apart {
-        return Added::Refused(Refusal::Many);
+        return Err(Refusal::Many);
     }
     let lines = apart + 1;
-    Added::Line(Totals {
+    Ok(Totals {
         scored: totals.scored,
         apart: lines,
         sum: totals.sum,
@@ -87,16 +87,25 @@ fn apart(totals: Totals) -> Added
 }
 
 // A line more, by whatever table is lent: SHAPE, RESULT, MANY.
-pub fn add(totals: Totals, side: u8, answer: Scored, half: u8, table: &[u32; COUNT]) -> Added
+pub fn add(
+    totals: Totals,
+    side: u8,
+    answer: Result<Scored, Refusal>,
+    half: u8,
+    table: &[u32; COUNT],
+) -> Result<Totals, Refusal>
     ensures { AddsWith table.now totals side answer half result }
 {
     if BLACK < side {
-        return Added::Refused(Refusal::Shape);
+        return Err(Refusal::Shape);
     }
     if WHOLE < half {
-        return Added::Refused(Refusal::Result);
+        return Err(Refusal::Result);
     }
-    let Scored::Score(z) = answer else {
+    let Ok(outcome) = answer else {
+        return apart(totals);
+    };
+    let Scored::Score(z) = outcome else {
         return apart(totals);
     };
     scored(totals, square(half, entry(table, turned(side, z))))

@@ -16,13 +16,6 @@ pub struct Totals {
     pub sum: u64,
 }
 
-// The totals with a line more; or why nothing has changed.
-#[derive(Clone, Copy)]
-pub enum Added {
-    Line(Totals),
-    Refused(Refusal),
-}
-
 // Before any line.
 pub fn start() -> Totals
     ensures { StartsTotals result }
@@ -34,8 +27,13 @@ pub fn start() -> Totals
     }
 }
 
-// A line more, by its side to move, its answer and its half points: SHAPE, RESULT, MANY.
-pub fn add(totals: Totals, side: u8, answer: Scored, half: u8) -> Added
+// The totals with a line more, by its side to move, its answer and its half points: SHAPE, RESULT, MANY.
+pub fn add(
+    totals: Totals,
+    side: u8,
+    answer: Result<Scored, Refusal>,
+    half: u8,
+) -> Result<Totals, Refusal>
     ensures { AddsLine totals side answer half result }
 {
     let table = score_expected::inner::table();

@@ -3,14 +3,13 @@ use mathlib.Core.Path.{◌≡◌, sym, ap₂, ◌∙◌}
 use Prim.Native.Nat.{ℕ, ◌+◌, ◌^◌, ◌<◌, ◌≤◌}
 use native.Mathlib.Omega.{arith}
 use borrow.Author.Tests.{le-leb, lt-leb, lt-ltb, le-ltb}
-use Rattle.refusal.specs.Answer.{given, refusal_of}
+use Rattle.refusal.specs.Answer.{given, refusal_of, answered}
 use Rattle.refusal.specs.declared.Refusal.TheVariants as R
 use Rattle.score_errors.specs.declared.Totals.{Totals}
-use Rattle.score_collection.specs.Answers.{ended_paper}
-use Rattle.score_collection.specs.declared.Ended.{Ended}
-use Rattle.score_collection.specs.declared.Ended.TheVariants as E
 use Rattle.score_joined.specs.Sums.{totals_of_both, sum_of_both, sums_joined}
 use Rattle.score_joined.specs.Promises.{JoinsSums, TotalsFit}
+use Rattle.std.specs.Prelude.{Result, Ok}
+use Rattle.refusal.specs.declared.Refusal.{Refusal}
 
 module _ (x y : Totals) (m n : ℕ) where
   pub many_scored : 1000000 < x.scored + y.scored → refusal_of R.Many ≡ sum_of_both (x, m) (y, n)
@@ -47,5 +46,5 @@ module _ (x y : Totals) (m n : ℕ) where
         they_fit = record { scored = omega arith; apart = omega arith; sum = omega arith }
 
   -- both parts have a sum
-  pub both_given_holds : (first second r : Ended) → first ≡ E.Sum x m → second ≡ E.Sum y n → ended_paper r ≡ sum_of_both (x, m) (y, n) → JoinsSums first second r
-  both_given_holds first second r e f p = p ∙ sym (ap₂ (λ (a b : Ended). sums_joined (ended_paper a) (ended_paper b)) e f)
+  pub both_given_holds : (first second r : Result (Totals × ℕ) Refusal) → first ≡ Ok (x, m) → second ≡ Ok (y, n) → answered r ≡ sum_of_both (x, m) (y, n) → JoinsSums first second r
+  both_given_holds first second r e f p = p ∙ sym (ap₂ (λ (a b : Result (Totals × ℕ) Refusal). sums_joined (answered a) (answered b)) e f)

@@ -1,12 +1,13 @@
 -- What `join` promises, for all inputs. Definitions only.
-use Rattle.std.specs.Prelude.{◌≡◌, ◌+◌, ◌^◌, ◌<◌}
+use Rattle.std.specs.Prelude.{◌≡◌, ◌+◌, ◌^◌, ◌<◌, Result}
 use Rattle.score_errors.specs.declared.Totals.{Totals}
-use Rattle.score_collection.specs.Answers.{ended_paper}
-use Rattle.score_collection.specs.declared.Ended.{Ended}
 use Rattle.score_joined.specs.Sums.{sums_joined}
+use Rattle.refusal.specs.declared.Refusal.{Refusal}
+use Rattle.refusal.specs.Answer.{answered}
+use Prim.Native.Nat.{ℕ}
 
-abbrev pub JoinsSums : Ended → Ended → Ended → Type 0
-JoinsSums first second r = ended_paper r ≡ sums_joined (ended_paper first) (ended_paper second)
+abbrev pub JoinsSums : Result (Totals × ℕ) Refusal → Result (Totals × ℕ) Refusal → Result (Totals × ℕ) Refusal → Type 0
+JoinsSums first second r = answered r ≡ sums_joined (answered first) (answered second)
 
 -- ---- a private function: totals whose sums have room
 pub record TotalsFit (x y : Totals) : Type 0 where

@@ -2,12 +2,11 @@
 #![tactic(auto)]
 
 ghost use Rattle.std.specs.Prelude.{◌≡◌, ◌+◌, ltb};
-ghost use Rattle.score_collection.specs.Answers.{ended_paper};
 ghost use Rattle.score_joined.specs.Sums.{totals_of_both, sum_of_both};
 ghost use Rattle.score_joined.specs.Promises.{JoinsSums, TotalsFit};
+ghost use Rattle.refusal.specs.Answer.{answered};
 
 use refusal::Refusal;
-use score_collection::Ended;
 use score_errors::Totals;
 
 // As many lines of a kind are counted.
@@ -45,34 +44,33 @@ fn added(x: Totals, y: Totals) -> Totals
 }
 
 // The totals and the refused lines of both: MANY.
-fn both(x: Totals, m: u64, y: Totals, n: u64) -> Ended
-    ensures { ended_paper result ≡ sum_of_both (x, m) (y, n) }
+fn both(x: Totals, m: u64, y: Totals, n: u64) -> Result<(Totals, u64), Refusal>
+    ensures { answered result ≡ sum_of_both (x, m) (y, n) }
 {
     if past(x.scored, y.scored, MOST) {
-        return Ended::Refused(Refusal::Many);
+        return Err(Refusal::Many);
     }
     if past(x.apart, y.apart, MOST) {
-        return Ended::Refused(Refusal::Many);
+        return Err(Refusal::Many);
     }
     if past(x.sum, y.sum, LARGEST) {
-        return Ended::Refused(Refusal::Many);
+        return Err(Refusal::Many);
     }
     if past(m, n, LARGEST) {
-        return Ended::Refused(Refusal::Many);
+        return Err(Refusal::Many);
     }
     let lines = m + n;
-    Ended::Sum(added(x, y), lines)
+    Ok((added(x, y), lines))
 }
 
 // The sum over two parts, by the sum over each: MANY; and a part that was refused is refused again.
-pub fn join(first: Ended, second: Ended) -> Ended
+pub fn join(
+    first: Result<(Totals, u64), Refusal>,
+    second: Result<(Totals, u64), Refusal>,
+) -> Result<(Totals, u64), Refusal>
     ensures { JoinsSums first second result }
 {
-    let Ended::Sum(x, m) = first else {
-        return first;
-    };
-    let Ended::Sum(y, n) = second else {
-        return second;
-    };
+    let (x, m) = first?;
+    let (y, n) = second?;
     both(x, m, y, n)
 }

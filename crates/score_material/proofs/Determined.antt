@@ -1,21 +1,18 @@
 -- Each public function is determined by its promise: two results that it allows are equal. Assumes nothing.
-use mathlib.Core.Path.{◌≡◌, refl, ap}
+use mathlib.Core.Path.{◌≡◌}
 use mathlib.Core.List.{List}
 use Prim.Native.Nat.{ℕ}
-use Rattle.refusal.proofs.Paper.{one, retract, read_back_rule, number_back}
+use Rattle.refusal.proofs.Paper.{one, answered_one}
 use Rattle.position.specs.declared.State.{State}
-use Rattle.score_material.specs.Promises.{material_paper, EvalsMaterial, CountsKind, SideWorth, Pairs}
-use Rattle.score_material.specs.declared.Material.{Material}
-use Rattle.score_material.specs.declared.Material.TheVariants.{Is, Refused}
+use Rattle.score_material.specs.Promises.{EvalsMaterial, CountsKind, SideWorth, Pairs}
+use Rattle.std.specs.Prelude.{Result}
+use Rattle.refusal.specs.declared.Refusal.{Refusal}
+use lib.IntN.{ℤ}
 
 -- answers that read the same are one
-material_back : (r : Material) → read_back_rule Is Refused (material_paper r) ≡ r
-material_back (Is z) = refl
-material_back (Refused q) = ap Refused (number_back q)
-
-pub eval_material : (bitboards board : List ℕ) (state : State) (colour : ℕ) (r s : Material)
+pub eval_material : (bitboards board : List ℕ) (state : State) (colour : ℕ) (r s : Result ℤ Refusal)
     → EvalsMaterial bitboards board state colour r → EvalsMaterial bitboards board state colour s → r ≡ s
-eval_material bitboards board state colour r s p q = retract material_paper (read_back_rule Is Refused) material_back r s (one p q)
+eval_material bitboards board state colour r s p q = answered_one p q
 
 -- ---- the inner functions
 pub inner_number : (bitboards : List ℕ) (kind colour r s : ℕ) → CountsKind bitboards kind colour r → CountsKind bitboards kind colour s → r ≡ s

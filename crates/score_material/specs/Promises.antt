@@ -1,19 +1,13 @@
 -- What each function answers and promises, for all inputs. Definitions only.
-use Rattle.std.specs.Prelude.{◌≡◌, List, ℕ, ◌*◌, ℤ}
-use Rattle.refusal.specs.Answer.{Answer, given, refusal_of}
+use Rattle.std.specs.Prelude.{◌≡◌, List, ℕ, ◌*◌, ℤ, Result}
+use Rattle.refusal.specs.Answer.{answered}
 use Rattle.position.specs.declared.State.{State}
 use Rattle.score_material.specs.Pieces.{count}
 use Rattle.score_material.specs.Material.{worth, pair, pair_value, material_of}
-use Rattle.score_material.specs.declared.Material.{Material}
-use Rattle.score_material.specs.declared.Material.TheVariants.{Is, Refused}
+use Rattle.refusal.specs.declared.Refusal.{Refusal}
 
--- the answer on the paper
-abbrev pub material_paper : Material → Answer ℤ
-material_paper (Is z) = given z
-material_paper (Refused r) = refusal_of r
-
-abbrev pub EvalsMaterial : List ℕ → List ℕ → State → ℕ → Material → Type 0
-EvalsMaterial bitboards board state colour r = material_paper r ≡ material_of bitboards board state colour
+abbrev pub EvalsMaterial : List ℕ → List ℕ → State → ℕ → Result ℤ Refusal → Type 0
+EvalsMaterial bitboards board state colour r = answered r ≡ material_of bitboards board state colour
 
 -- ---- the inner functions, on any bitboards
 abbrev pub CountsKind : List ℕ → ℕ → ℕ → ℕ → Type 0

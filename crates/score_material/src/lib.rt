@@ -6,17 +6,10 @@ ghost use Rattle.score_material.specs.Promises.{EvalsMaterial};
 use chess::color::BLACK;
 use chess::kind::Kind;
 use chess::piece::Piece;
-use position::{Checked, State};
+use position::State;
 use refusal::Refusal;
 
 pub mod inner;
-
-// A colour's material: SHAPE, OVERLAP, UNION, BYTEBOARD, SCORE.
-#[derive(Clone, Copy)]
-pub enum Material {
-    Is(i16),
-    Refused(Refusal),
-}
 
 // By code, for both colours.
 #[rattlefmt::skip]
@@ -37,18 +30,21 @@ pub const BISHOP_PAIR: u32 = 33;
 const LARGEST: u32 = 32767;
 
 // What a colour's pieces are worth, without the pair of bishops: SHAPE, OVERLAP, UNION, BYTEBOARD, SCORE.
-pub fn eval_material(bitboards: &[u64], board: &[u8], state: State, color: u8) -> Material
+pub fn eval_material(
+    bitboards: &[u64],
+    board: &[u8],
+    state: State,
+    color: u8,
+) -> Result<i16, Refusal>
     ensures { EvalsMaterial bitboards.now board.now state color result }
 {
     if color > BLACK {
-        return Material::Refused(Refusal::Shape);
+        return Err(Refusal::Shape);
     }
-    if let Checked::Refused(refusal) = position::check(bitboards, board, state) {
-        return Material::Refused(refusal);
-    }
+    position::check(bitboards, board, state)?;
     let total = inner::material(bitboards, color);
     if total > LARGEST {
-        return Material::Refused(Refusal::Score);
+        return Err(Refusal::Score);
     }
-    Material::Is(total as i16)
+    Ok(total as i16)
 }

@@ -12,9 +12,8 @@ use Rattle.refusal.proofs.Answers.{was_given, was_refused}
 use Rattle.score_taper.specs.Parts.{in16, opening_product, ending_product, products_of, side_part, side_fits, first, second, total, sum_fits_rule, points_of}
 use Rattle.score_taper.specs.Answers.{part, brought_of}
 use Rattle.score_taper.specs.declared.Side.{Side}
-use Rattle.score_taper.specs.declared.inner.Part.{Part}
-use Rattle.score_taper.specs.declared.inner.Part.TheVariants.{Is, Over}
 use Rattle.score_taper.proofs.Short.{quot_abs}
+use Rattle.std.specs.Prelude.{Option, None, Some}
 
 -- ---- a side's answer
 pub record Brought (side : Side) (x : ℕ) (z : ℤ) : Type 0 where
@@ -29,12 +28,12 @@ part_small side x e =
     && in16 (ending_product side.ending x) in
     quot_abs z (negsuc 29) (T_true (in16 z) (and_r rest (in16 z) (true_T e)))
 
-pub brought : (side : Side) (x : ℕ) (r : Part) (z : ℤ) → part r ≡ brought_of side x → r ≡ Is z → Brought side x z
+pub brought : (side : Side) (x : ℕ) (r : Option ℤ) (z : ℤ) → part r ≡ brought_of side x → r ≡ Some z → Brought side x z
 brought side x r z promise e =
     let g = was_given (side_fits side x) R.Score z (side_part side x) (sym (ap part e) ∙ promise) in
     record { fit = g.0; is = g.1; small = subst (λ (v : ℤ). nat_abs v ≤ 32768) (sym g.1) (part_small side x g.0) }
 
-pub nothing : (side : Side) (x : ℕ) (r : Part) → part r ≡ brought_of side x → r ≡ Over → side_fits side x ≡ false
+pub nothing : (side : Side) (x : ℕ) (r : Option ℤ) → part r ≡ brought_of side x → r ≡ None → side_fits side x ≡ false
 nothing side x r promise e = was_refused (side_fits side x) R.Score 3 [] (side_part side x) (sym (ap part e) ∙ promise)
 
 -- ---- the two sides and the sum

@@ -1,22 +1,18 @@
 -- The code's answers on the paper, and what each function promises. Definitions only.
-use Rattle.std.specs.Prelude.{◌≡◌, ◌&&◌, ℕ, ℤ, pos, neg_ℤ, ◌+ℤ◌}
+use Rattle.std.specs.Prelude.{◌≡◌, ◌&&◌, ℕ, ℤ, pos, neg_ℤ, ◌+ℤ◌, Option, None, Some}
 use Rattle.std.specs.Int.Signed.{quot_z}
 use Rattle.refusal.specs.Answer.{Answer, given, or_refuse, refusal_of}
 use Rattle.refusal.specs.declared.Refusal.TheVariants as R
 use Rattle.score_taper.specs.Parts as P
 use Rattle.score_taper.specs.declared.Side.{Side}
-use Rattle.score_taper.specs.declared.Points.{Points}
-use Rattle.score_taper.specs.declared.Points.TheVariants as O
-use Rattle.score_taper.specs.declared.inner.Part.{Part}
-use Rattle.score_taper.specs.declared.inner.Part.TheVariants as I
 
-abbrev pub points : Points → Answer ℤ
-points (O.Is z) = given z
-points O.Over = refusal_of R.Score
+abbrev pub points : Option ℤ → Answer ℤ
+points (Some z) = given z
+points None = refusal_of R.Score
 
-abbrev pub part : Part → Answer ℤ
-part (I.Is z) = given z
-part I.Over = refusal_of R.Score
+abbrev pub part : Option ℤ → Answer ℤ
+part (Some z) = given z
+part None = refusal_of R.Score
 
 -- two products, their sum, and its quotient
 abbrev pub divided_of : ℤ → ℤ → Answer ℤ
@@ -31,5 +27,5 @@ joined_of p m q =
 abbrev pub brought_of : Side → ℕ → Answer ℤ
 brought_of side x = or_refuse (P.side_fits side x) R.Score (given (P.side_part side x))
 
-abbrev pub Scores : Side → Side → ℕ → Points → Type 0
+abbrev pub Scores : Side → Side → ℕ → Option ℤ → Type 0
 Scores own other x r = points r ≡ P.points_of own other x

@@ -3,7 +3,7 @@ ghost use Rattle.std.specs.Prelude.{◌≡◌, ◌≤◌, pos, nat_abs, ◌-ℤ�
 ghost use Rattle.score_taper.specs.Parts.{in16};
 ghost use Rattle.score_taper.specs.Answers.{part, divided_of, brought_of, joined_of, points, Scores};
 
-use crate::{Points, Side, TEMPO};
+use crate::{Side, TEMPO};
 
 // The bounds of 16 bits; a sum of material or mobility is never below zero.
 const SMALLEST: i64 = -32768;
@@ -11,13 +11,6 @@ const SMALLEST: i64 = -32768;
 const LARGEST: i64 = 32767;
 
 const LARGEST_SUM: u32 = 32767;
-
-// A side's part, or that a step to it leaves 16 bits.
-#[derive(Clone, Copy)]
-enum Part {
-    Is(i64),
-    Over,
-}
 
 // Whether a number is one of 16 bits.
 fn short(z: i64) -> bool
@@ -58,32 +51,32 @@ fn product(y: i32, a: u32, b: u32) -> i64
     times(wide(y), less(a, b))
 }
 
-// The two products of a side, added and divided by -30, toward zero.
-fn divided(opening: i64, ending: i64) -> Part
+// The two products of a side, added and divided by -30, toward zero; none where a step leaves 16 bits, here and in the three below.
+fn divided(opening: i64, ending: i64) -> Option<i64>
     ensures { part result ≡ divided_of opening ending }
 {
     if !short(opening) {
-        return Part::Over;
+        return None;
     }
     if !short(ending) {
-        return Part::Over;
+        return None;
     }
     let sum = opening + ending;
     if !short(sum) {
-        return Part::Over;
+        return None;
     }
-    Part::Is(sum / -30)
+    Some(sum / -30)
 }
 
 // A side's part, where x pieces stand.
-fn brought(side: Side, x: u32) -> Part
+fn brought(side: Side, x: u32) -> Option<i64>
     ensures { part result ≡ brought_of side x }
 {
     if LARGEST_SUM < side.material {
-        return Part::Over;
+        return None;
     }
     if LARGEST_SUM < side.mobility {
-        return Part::Over;
+        return None;
     }
     let opening = product(side.opening, 2, x);
     let ending = product(side.ending, x, 32);
@@ -91,36 +84,36 @@ fn brought(side: Side, x: u32) -> Part
 }
 
 // The differences of square weights, material and mobility added from left to right, then the tempo.
-fn joined(weights: i64, material: i64, mobility: i64) -> Points
+fn joined(weights: i64, material: i64, mobility: i64) -> Option<i16>
     requires { (nat_abs weights ≤ 4294967295) × (nat_abs material ≤ 4294967295) × (nat_abs mobility ≤ 4294967295) }
     ensures { points result ≡ joined_of weights material mobility }
 {
     let first = weights + material;
     if !short(first) {
-        return Points::Over;
+        return None;
     }
     let second = first + mobility;
     if !short(second) {
-        return Points::Over;
+        return None;
     }
     let total = second + TEMPO as i64;
     if !short(total) {
-        return Points::Over;
+        return None;
     }
-    Points::Is(total as i16)
+    Some(total as i16)
 }
 
 // The score of own less other, where x pieces stand; SCORE where 01 says so.
-pub fn score(own: Side, other: Side, x: u32) -> Points
+pub fn score(own: Side, other: Side, x: u32) -> Option<i16>
     ensures { Scores own other x result }
 {
     let a = brought(own, x);
-    let Part::Is(mine) = a else {
-        return Points::Over;
+    let Some(mine) = a else {
+        return None;
     };
     let b = brought(other, x);
-    let Part::Is(theirs) = b else {
-        return Points::Over;
+    let Some(theirs) = b else {
+        return None;
     };
     let material = less(own.material, other.material);
     let mobility = less(own.mobility / 10, other.mobility / 10);

@@ -14,10 +14,3 @@ pub struct Side {
     pub material: u32,
     pub mobility: u32,
 }
-
-// A number of 16 bits, or SCORE.
-#[derive(Clone, Copy)]
-pub enum Points {
-    Is(i16),
-    Over,
-}

@@ -1,39 +1,35 @@
 -- Each public function is determined by its promise: two results that it allows are equal. Assumes nothing.
-use mathlib.Core.Path.{◌≡◌, refl, ap}
+use mathlib.Core.Path.{◌≡◌, refl}
 use mathlib.Core.List.{List}
 use Prim.Native.Nat.{ℕ}
-use Rattle.refusal.proofs.Paper.{one, retract, read_back_rule, number_back}
+use Rattle.refusal.proofs.Paper.{one, retract, answered_by_one}
 use Rattle.position.specs.declared.State.{State}
 use Rattle.score_verdict.specs.Verdict as P
-use Rattle.score_verdict.specs.Answers.{verdict_paper, ending}
+use Rattle.score_verdict.specs.Answers.{verdict_paper}
 use Rattle.score_verdict.specs.Promises.{EvalsEnding, Ends}
 use Rattle.score_verdict.specs.declared.Verdict.{Verdict}
 use Rattle.score_verdict.specs.declared.Verdict.TheVariants as C
-use Rattle.score_verdict.specs.declared.Ending.{Ending}
-use Rattle.score_verdict.specs.declared.Ending.TheVariants as E
+use Rattle.std.specs.Prelude.{Result, Option, None, Some}
+use Rattle.refusal.specs.declared.Refusal.{Refusal}
 
 -- ---- answers that read the same are one
-abbrev from_verdict : P.Verdict → Verdict
-from_verdict P.lost = C.Lost
-from_verdict P.won = C.Won
-from_verdict P.drawn = C.Drawn
-from_verdict P.none = C.None
+abbrev from_verdict : P.Verdict → Option Verdict
+from_verdict P.lost = Some C.Lost
+from_verdict P.won = Some C.Won
+from_verdict P.drawn = Some C.Drawn
+from_verdict P.none = None
 
-verdict_back : (v : Verdict) → from_verdict (verdict_paper v) ≡ v
-verdict_back C.Lost = refl
-verdict_back C.Won = refl
-verdict_back C.Drawn = refl
-verdict_back C.None = refl
-
-ending_back : (r : Ending) → read_back_rule (λ (v : P.Verdict). E.Is (from_verdict v)) E.Refused (ending r) ≡ r
-ending_back (E.Is v) = ap E.Is (verdict_back v)
-ending_back (E.Refused q) = ap E.Refused (number_back q)
+verdict_back : (v : Option Verdict) → from_verdict (verdict_paper v) ≡ v
+verdict_back (Some C.Lost) = refl
+verdict_back (Some C.Won) = refl
+verdict_back (Some C.Drawn) = refl
+verdict_back None = refl
 
 -- ---- the door
-pub eval_ending : (bitboards board : List ℕ) (state : State) (r s : Ending)
+pub eval_ending : (bitboards board : List ℕ) (state : State) (r s : Result (Option Verdict) Refusal)
     → EvalsEnding bitboards board state r → EvalsEnding bitboards board state s → r ≡ s
-eval_ending bitboards board state r s p q = retract ending (read_back_rule (λ (v : P.Verdict). E.Is (from_verdict v)) E.Refused) ending_back r s (one p q)
+eval_ending bitboards board state r s p q = answered_by_one verdict_paper from_verdict verdict_back p q
 
 -- ---- the inner function
-pub inner_ending : (bitboards : List ℕ) (side : ℕ) (r s : Verdict) → Ends bitboards side r → Ends bitboards side s → r ≡ s
+pub inner_ending : (bitboards : List ℕ) (side : ℕ) (r s : Option Verdict) → Ends bitboards side r → Ends bitboards side s → r ≡ s
 inner_ending bitboards side r s p q = retract verdict_paper from_verdict verdict_back r s (one p q)

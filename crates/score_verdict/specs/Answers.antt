@@ -1,17 +1,11 @@
 -- The code's answers on the paper. Definitions only.
-use Rattle.refusal.specs.Answer.{Answer, given, refusal_of}
 use Rattle.score_verdict.specs.Verdict as P
 use Rattle.score_verdict.specs.declared.Verdict.{Verdict}
 use Rattle.score_verdict.specs.declared.Verdict.TheVariants as C
-use Rattle.score_verdict.specs.declared.Ending.{Ending}
-use Rattle.score_verdict.specs.declared.Ending.TheVariants as E
+use Rattle.std.specs.Prelude.{Option, None, Some}
 
-abbrev pub verdict_paper : Verdict → P.Verdict
-verdict_paper C.Lost = P.lost
-verdict_paper C.Won = P.won
-verdict_paper C.Drawn = P.drawn
-verdict_paper C.None = P.none
-
-abbrev pub ending : Ending → Answer P.Verdict
-ending (E.Is v) = given (verdict_paper v)
-ending (E.Refused r) = refusal_of r
+abbrev pub verdict_paper : Option Verdict → P.Verdict
+verdict_paper (Some C.Lost) = P.lost
+verdict_paper (Some C.Won) = P.won
+verdict_paper (Some C.Drawn) = P.drawn
+verdict_paper None = P.none

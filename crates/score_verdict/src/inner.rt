@@ -30,21 +30,21 @@ fn heavy(bitboards: &[u64]) -> u32
 }
 
 // Verdicts: fewer than two kings in all, or fewer than four pieces and only kings, knights and bishops.
-pub fn ending(bitboards: &[u64], side: u8) -> Verdict
+pub fn ending(bitboards: &[u64], side: u8) -> Option<Verdict>
     ensures { Ends bitboards.now side result }
 {
     if number(bitboards, KING, WHITE) + number(bitboards, KING, BLACK) < 2 {
         if number(bitboards, KING, to_move(side)) == 0 {
-            return Verdict::Lost;
+            return Some(Verdict::Lost);
         }
-        return Verdict::Won;
+        return Some(Verdict::Won);
     }
     let x = bits::count(occupied(bitboards));
     if 3 < x {
-        return Verdict::None;
+        return None;
     }
     if heavy(bitboards) != 0 {
-        return Verdict::None;
+        return None;
     }
-    Verdict::Drawn
+    Some(Verdict::Drawn)
 }

@@ -3,7 +3,7 @@
 
 ghost use Rattle.score_verdict.specs.Promises.{EvalsEnding};
 
-use position::{Checked, State};
+use position::State;
 use refusal::Refusal;
 
 pub mod inner;
@@ -14,22 +14,16 @@ pub enum Verdict {
     Lost,
     Won,
     Drawn,
-    None,
-}
-
-// A verdict: SHAPE, OVERLAP, UNION, BYTEBOARD.
-#[derive(Clone, Copy)]
-pub enum Ending {
-    Is(Verdict),
-    Refused(Refusal),
 }
 
 // Lost, won or drawn, for the side to move, or none of them: SHAPE, OVERLAP, UNION, BYTEBOARD.
-pub fn eval_ending(bitboards: &[u64], board: &[u8], state: State) -> Ending
+pub fn eval_ending(
+    bitboards: &[u64],
+    board: &[u8],
+    state: State,
+) -> Result<Option<Verdict>, Refusal>
     ensures { EvalsEnding bitboards.now board.now state result }
 {
-    if let Checked::Refused(refusal) = position::check(bitboards, board, state) {
-        return Ending::Refused(refusal);
-    }
-    Ending::Is(inner::ending(bitboards, state.side))
+    position::check(bitboards, board, state)?;
+    Ok(inner::ending(bitboards, state.side))
 }

@@ -4,7 +4,6 @@ ghost use Rattle.score_walks.specs.Promises.{WalksPawns, WalksKnights, WalksBish
 use crate::Walked;
 use attack_rays::inner::{bishop, queen, rook};
 use attack_steps::inner::{KNIGHT_ROW, reached};
-use bits::Lowest;
 use chess::inner::flip;
 use score_weights::inner::{bishop_word, king_word, knight_word, pawn_word, queen_word, rook_word};
 
@@ -16,7 +15,7 @@ pub fn pawns(pieces: u64, color: u8) -> u64
     let mut rest = pieces;
     loop {
         let n = bits::next(rest);
-        let Lowest::At(square, r) = n else {
+        let Some((square, r)) = n else {
             return words;
         };
         words += pawn_word(flip(square, color));
@@ -31,7 +30,7 @@ pub fn kings(pieces: u64, color: u8) -> u64
     let mut rest = pieces;
     loop {
         let n = bits::next(rest);
-        let Lowest::At(square, r) = n else {
+        let Some((square, r)) = n else {
             return words;
         };
         words += king_word(flip(square, color));
@@ -47,7 +46,7 @@ pub fn knights(pieces: u64, color: u8) -> Walked
     let mut rest = pieces;
     loop {
         let n = bits::next(rest);
-        let Lowest::At(square, r) = n else {
+        let Some((square, r)) = n else {
             return Walked { attacked, words };
         };
         attacked += bits::count(reached(KNIGHT_ROW, square));
@@ -64,7 +63,7 @@ pub fn bishops(pieces: u64, color: u8, occupied: u64) -> Walked
     let mut rest = pieces;
     loop {
         let n = bits::next(rest);
-        let Lowest::At(square, r) = n else {
+        let Some((square, r)) = n else {
             return Walked { attacked, words };
         };
         attacked += bits::count(bishop(square, occupied));
@@ -81,7 +80,7 @@ pub fn rooks(pieces: u64, color: u8, occupied: u64) -> Walked
     let mut rest = pieces;
     loop {
         let n = bits::next(rest);
-        let Lowest::At(square, r) = n else {
+        let Some((square, r)) = n else {
             return Walked { attacked, words };
         };
         attacked += bits::count(rook(square, occupied));
@@ -98,7 +97,7 @@ pub fn queens(pieces: u64, color: u8, occupied: u64) -> Walked
     let mut rest = pieces;
     loop {
         let n = bits::next(rest);
-        let Lowest::At(square, r) = n else {
+        let Some((square, r)) = n else {
             return Walked { attacked, words };
         };
         attacked += bits::count(queen(square, occupied));

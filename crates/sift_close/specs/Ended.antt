@@ -1,17 +1,17 @@
 -- A line or a record where it ends: what it makes, or its row. Definitions only.
-use Rattle.std.specs.Prelude.{◌≡◌, Bool, true, false, cond, List, [], ℕ}
+use Rattle.std.specs.Prelude.{◌≡◌, Bool, true, false, cond, List, [], ℕ, Result, Ok, Err}
 use Rattle.refusal.specs.Answer.{Answer, given, refused}
 use Rattle.refusal.specs.Refusals.{number_of}
 use Rattle.text_out.specs.Text.{Adds}
 use Rattle.line_parse.specs.Line.{Line}
-use Rattle.line_parse.specs.declared.Read.{Read}
-use Rattle.line_parse.specs.declared.Read.TheVariants as A
 use Rattle.line.specs.declared.inner.Loaded.{Loaded}
 use Rattle.line_held.specs.Held.{said_of}
 use Rattle.ledger_row.specs.Row.{refused_row, row_of, is_loaded}
 use Rattle.sift_form.specs.Forms.{made_from, made_of}
 use Rattle.sift_form.specs.declared.Form.{Form}
 use Rattle.sift_close.specs.declared.Closed.{Closed}
+use Rattle.refusal.specs.declared.Refusal.{Refusal}
+use Rattle.position.specs.declared.State.{State}
 
 -- what a line makes, by whatever is made of a loaded one: of a refused one nothing is
 abbrev pub made_by_rule : (Line → List ℕ) → Answer Line → List ℕ
@@ -36,17 +36,17 @@ abbrev pub ClosesSifted : Form → List ℕ → ℕ → ℕ → List ℕ → ℕ
 ClosesSifted form line size number made at rows from r made' rows' = ClosesSaid form (said_of line size) number made at rows from r made' rows'
 
 -- ---- the same by what a reader gave, whether of a line or of a record
-abbrev pub is_read : Read → Bool
-is_read (A.Position state half) = true
-is_read (A.Refused q) = false
+abbrev pub is_read : Result (State × ℕ) Refusal → Bool
+is_read (Ok (state, half)) = true
+is_read (Err q) = false
 
-abbrev pub made_read : Form → List ℕ → List ℕ → Read → List ℕ
-made_read form bbs board (A.Position state half) = made_from form bbs board state half
-made_read form bbs board (A.Refused q) = []
+abbrev pub made_read : Form → List ℕ → List ℕ → Result (State × ℕ) Refusal → List ℕ
+made_read form bbs board (Ok (state, half)) = made_from form bbs board state half
+made_read form bbs board (Err q) = []
 
-abbrev pub row_read_rule : ℕ → Read → List ℕ
-row_read_rule number (A.Position state half) = []
-row_read_rule number (A.Refused q) = refused_row number (number_of q)
+abbrev pub row_read_rule : ℕ → Result (State × ℕ) Refusal → List ℕ
+row_read_rule number (Ok (state, half)) = []
+row_read_rule number (Err q) = refused_row number (number_of q)
 
 -- what `tell` promises
 pub record TellsRead (form : Form) (read : Loaded) (number : ℕ) (made : List ℕ) (at : ℕ) (rows : List ℕ) (from : ℕ) (r : Closed)

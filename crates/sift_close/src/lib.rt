@@ -4,7 +4,6 @@
 ghost use Rattle.sift_close.specs.Ended.{ClosesSifted, TellsRead};
 
 use line::inner::Loaded;
-use line_parse::Read;
 use sift_form::Form;
 
 // One line, counted as loaded or as refused; and the place after what was added to each buffer.
@@ -30,19 +29,21 @@ pub fn tell(
 {
     let answer = read.answer;
     match answer {
-        Read::Refused(refusal) => Closed {
+        Err(refusal) => Closed {
             loaded: 0,
             refused: 1,
             made: at,
-            rows: ledger_row::inner::refused(number, refusal, rows, from).or(from),
+            rows: ledger_row::inner::refused(number, refusal, rows, from).unwrap_or(from),
         },
-        Read::Position(state, half) => {
+        Ok((state, half)) => {
             let bitboards = read.bitboards;
             let board = read.board;
             Closed {
                 loaded: 1,
                 refused: 0,
-                made: sift_form::make(form, &bitboards, &board, state, half, made, at).or(at),
+                made: sift_form::make(form, &bitboards, &board, state, half, made, at).unwrap_or(
+                    at,
+                ),
                 rows: from,
             }
         }

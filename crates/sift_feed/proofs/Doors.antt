@@ -12,16 +12,17 @@ use Rattle.refusal.specs.declared.Refusal.TheVariants as R
 use Rattle.text_out.specs.Text.{written_of}
 use Rattle.line_cut.specs.Lines.{ends}
 use Rattle.line_cut.specs.Cut.{CutSoFar}
-use Rattle.ledger_feed.specs.Promises.{Came, turned_by, many, full, came}
+use Rattle.ledger_feed.specs.Promises.{Came, turned_by, many, full, came, came_as}
 use Rattle.ledger_feed.specs.declared.SoFar.{SoFar}
 use Rattle.ledger_feed.proofs.Doors.{written_nothing, fit_shape, fit_many, fit_full, fit_came}
 use Rattle.sift_form.specs.Forms.{room_of, made_of}
 use Rattle.sift_form.specs.declared.Form.{Form}
 use Rattle.sift_form.proofs.Rooms.{room_some}
 use Rattle.sift_feed.specs.Sifting.{Sifting, sift_run}
-use Rattle.sift_feed.specs.Promises.{sift_room, sift_of, sifted, sifted_by_value, line_sifted, sifting_in, sifted_bytes, Sifts, ReadyToSift, TakesSifted}
-use Rattle.sift_feed.specs.declared.Sifted.{Sifted}
-use Rattle.sift_feed.specs.declared.Sifted.TheVariants as S
+use Rattle.sift_feed.specs.Promises.{sift_room, sift_of, sifted_by_value, line_sifted, sifting_in, sifted_bytes, Sifts, ReadyToSift, TakesSifted}
+use Rattle.std.specs.Prelude.{Result, Err}
+use Rattle.ledger_feed.specs.declared.Unwritten.TheVariants as U
+use Rattle.ledger_feed.specs.declared.Unwritten.{Unwritten}
 
 -- ---- room, as the code asks for it: how often a size goes into a length
 pub room_lacks : (size n k : ℕ) → 0 < size → n / size < k → n < size * k
@@ -56,9 +57,9 @@ module _ (state : SoFar) (form : Form) (line chunk made rows : List ℕ) where
   nothing = record { loaded = 0; refused = 0; made = []; rows = [] }
 
   -- an answer of its own, with nothing changed
-  unchanged : (r : Sifted) (a : Came (CutSoFar Sifting)) → sift_of state form line chunk made rows ≡ a → sifted r ≡ sifted_by_value a
+  unchanged : (r : Result (SoFar × ℕ × ℕ) Unwritten) (a : Came (CutSoFar Sifting)) → sift_of state form line chunk made rows ≡ a → came_as r ≡ sifted_by_value a
       → line_sifted a line ≡ line → sifting_in a ≡ nothing
-      → sifted_bytes (sifted r) ≡ (0, 0) → Sifts state form line chunk made rows r line made rows
+      → sifted_bytes (came_as r) ≡ (0, 0) → Sifts state form line chunk made rows r line made rows
   unchanged r a e f k t z = record {
     answer = f ∙ sym (ap sifted_by_value e);
     kept = sym (ap (λ (b : Came (CutSoFar Sifting)). line_sifted b line) e ∙ k);
@@ -70,23 +71,23 @@ module _ (state : SoFar) (form : Form) (line chunk made rows : List ℕ) where
     rows_within = subst (λ (x : ℕ × ℕ). x.1 ≤ length rows) (sym z) (omega arith);
   }
 
-  pub feed_shape : (length line ≡ 256 → ⊥) → Sifts state form line chunk made rows (S.Refused R.Shape) line made rows
-  feed_shape n = unchanged (S.Refused R.Shape) (turned_by R.Shape) (fit_shape line lines room run n) refl refl refl refl
+  pub feed_shape : (length line ≡ 256 → ⊥) → Sifts state form line chunk made rows (Err (U.Refused R.Shape)) line made rows
+  feed_shape n = unchanged (Err (U.Refused R.Shape)) (turned_by R.Shape) (fit_shape line lines room run n) refl refl refl refl
 
   module _ (size : length line ≡ 256) where
-    pub feed_many : ltb (state.loaded + state.refused + ends chunk) (2 ^ 64) ≡ false → Sifts state form line chunk made rows S.Many line made rows
-    feed_many n = unchanged S.Many many (fit_many line lines room run size n) refl refl refl refl
+    pub feed_many : ltb (state.loaded + state.refused + ends chunk) (2 ^ 64) ≡ false → Sifts state form line chunk made rows (Err U.Many) line made rows
+    feed_many n = unchanged (Err U.Many) many (fit_many line lines room run size n) refl refl refl refl
 
     module _ (counts : ltb (state.loaded + state.refused + ends chunk) (2 ^ 64) ≡ true) where
-      too_full : room ≡ false → Sifts state form line chunk made rows S.Full line made rows
-      too_full e = unchanged S.Full full (fit_full line lines room run size counts e) refl refl refl refl
+      too_full : room ≡ false → Sifts state form line chunk made rows (Err U.Full) line made rows
+      too_full e = unchanged (Err U.Full) full (fit_full line lines room run size counts e) refl refl refl refl
 
-      pub feed_full : length made / room_of form < ends chunk → Sifts state form line chunk made rows S.Full line made rows
+      pub feed_full : length made / room_of form < ends chunk → Sifts state form line chunk made rows (Err U.Full) line made rows
       feed_full h =
           too_full (ap (λ (t : Bool). t && leb (32 * ends chunk) (length rows))
           (lt-leb (room_of form * ends chunk) (length made) (room_lacks (room_of form) (length made) (ends chunk) (room_some form) h)))
 
-      pub feed_rows_full : length rows / 32 < ends chunk → Sifts state form line chunk made rows S.Full line made rows
+      pub feed_rows_full : length rows / 32 < ends chunk → Sifts state form line chunk made rows (Err U.Full) line made rows
       feed_rows_full h =
           too_full (and_false (leb (room_of form * ends chunk) (length made)) (leb (32 * ends chunk) (length rows))
           (lt-leb (32 * ends chunk) (length rows) (omega arith)))
@@ -104,17 +105,17 @@ module _ (state : SoFar) (form : Form) (line chunk made rows : List ℕ) where
               omega arith;
         }
 
-        pub feed_lines : (r : Sifted) (line' made' rows' : List ℕ) → TakesSifted state form line chunk made rows r line' made' rows'
+        pub feed_lines : (r : Result (SoFar × ℕ × ℕ) Unwritten) (line' made' rows' : List ℕ) → TakesSifted state form line chunk made rows r line' made' rows'
             → Sifts state form line chunk made rows r line' made' rows'
         feed_lines r line' made' rows' t =
             let e : sift_of state form line chunk made rows ≡ came run =
             fit_came line lines room run size counts
             (ap₂ ◌&&◌ (le-leb (room_of form * ends chunk) (length made) enough) (le-leb (32 * ends chunk) (length rows) (omega arith))) in
             record {
-              answer = ap sifted t.answer ∙ sym (ap sifted_by_value e);
+              answer = ap came_as t.answer ∙ sym (ap sifted_by_value e);
               kept = t.kept ∙ sym (ap (λ (a : Came (CutSoFar Sifting)). line_sifted a line) e);
               making = t.making ∙ sym (ap (λ (a : Came (CutSoFar Sifting)). written_of made 0 (sifting_in a).made) e);
               rowing = t.rowing ∙ sym (ap (λ (a : Came (CutSoFar Sifting)). written_of rows 0 (sifting_in a).rows) e);
-              made_within = subst (λ (q : Sifted). (sifted_bytes (sifted q)).0 ≤ length made) (sym t.answer) t.made_within;
-              rows_within = subst (λ (q : Sifted). (sifted_bytes (sifted q)).1 ≤ length rows) (sym t.answer) t.rows_within;
+              made_within = subst (λ (q : Result (SoFar × ℕ × ℕ) Unwritten). (sifted_bytes (came_as q)).0 ≤ length made) (sym t.answer) t.made_within;
+              rows_within = subst (λ (q : Result (SoFar × ℕ × ℕ) Unwritten). (sifted_bytes (came_as q)).1 ≤ length rows) (sym t.answer) t.rows_within;
             }

@@ -32,7 +32,7 @@ use Rattle.sift_close.specs.declared.Closed.{Closed}
 use Rattle.sift_close.proofs.Said.{made_most, row_most}
 use Rattle.sift_feed.specs.Sifting.{Sifting, close_sift, sift_run, so_far_in}
 use Rattle.sift_feed.specs.Promises.{ReadyToSift, TakesSifted}
-use Rattle.sift_feed.specs.declared.Sifted.TheVariants as S
+use Rattle.std.specs.Prelude.{Ok}
 
 -- ---- a buffer that is filled: its first w bytes are written, and it has room for so many texts more of so many bytes at most
 pub record Filling (most more : ℕ) (old new : List ℕ) (w : ℕ) : Type 0 where
@@ -200,7 +200,7 @@ turn_none state form line chunk made rows r = record {
 -- after the last
 pub turn_end : (state : SoFar) (form : Form) (line₀ chunk made₀ rows₀ line made rows : List ℕ) (begun : Begun) (loaded refused w v i : ℕ) → length chunk ≤ i
     → Turn form (sift_run (made_of form) state line₀ chunk) chunk made₀ rows₀ line made rows begun loaded refused w v i
-    → TakesSifted state form line₀ chunk made₀ rows₀ (S.Lines (record { held = begun.held; cr = begun.cr; loaded = loaded; refused = refused }) w v)
+    → TakesSifted state form line₀ chunk made₀ rows₀ (Ok (record { held = begun.held; cr = begun.cr; loaded = loaded; refused = refused }, w, v))
     line made rows
 turn_end state form line₀ chunk made₀ rows₀ line made rows begun loaded refused w v i h t =
     let run : CutSoFar Sifting = sift_run (made_of form) state line₀ chunk in
@@ -212,7 +212,7 @@ turn_end state form line₀ chunk made₀ rows₀ line made rows begun loaded re
     let am : length run.kept.made ≡ w = ap (λ (x : CutSoFar Sifting). length x.kept.made) m ∙ a in
     let bm : length run.kept.rows ≡ v = ap (λ (x : CutSoFar Sifting). length x.kept.rows) m ∙ b in
     record {
-      answer = ap (λ (x : SoFar). S.Lines x w v) (sym (ap so_far_in m)) ∙ sym (ap₂ (S.Lines (so_far_in run)) am bm);
+      answer = ap (λ (x : SoFar). Ok (x, w, v)) (sym (ap so_far_in m)) ∙ sym (ap₂ (λ x y. Ok (so_far_in run, x, y)) am bm);
       kept = sym (ap (λ (x : CutSoFar Sifting). x.left.line) m);
       making = fill_written (room_of form) many made₀ made w t.making ∙ sym (ap (λ (x : CutSoFar Sifting). written_of made₀ 0 x.kept.made) m);
       rowing = fill_written 32 many rows₀ rows v t.rowing ∙ sym (ap (λ (x : CutSoFar Sifting). written_of rows₀ 0 x.kept.rows) m);

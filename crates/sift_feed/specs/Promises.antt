@@ -1,15 +1,14 @@
 -- What `feed` promises, for all inputs. Definitions only.
-use Rattle.std.specs.Prelude.{◌≡◌, Bool, ◌&&◌, List, [], ℕ, ◌+◌, ◌*◌, ◌^◌, ◌≤◌, ◌<◌, leb, length}
+use Rattle.std.specs.Prelude.{◌≡◌, Bool, ◌&&◌, List, [], ℕ, ◌+◌, ◌*◌, ◌^◌, ◌≤◌, ◌<◌, leb, length, Result, Ok}
 use Rattle.text_out.specs.Text.{written_of}
 use Rattle.line_cut.specs.Lines.{ends}
 use Rattle.line_cut.specs.Cut.{CutSoFar}
-use Rattle.ledger_feed.specs.Promises.{Came, turned, turned_by, many, full, came, fit}
+use Rattle.ledger_feed.specs.Promises.{Came, turned, many, full, came, fit, came_as}
 use Rattle.ledger_feed.specs.declared.SoFar.{SoFar}
 use Rattle.sift_form.specs.Forms.{room_of, made_of}
 use Rattle.sift_form.specs.declared.Form.{Form}
 use Rattle.sift_feed.specs.Sifting.{Sifting, sift_run, so_far_in}
-use Rattle.sift_feed.specs.declared.Sifted.{Sifted}
-use Rattle.sift_feed.specs.declared.Sifted.TheVariants as S
+use Rattle.ledger_feed.specs.declared.Unwritten.{Unwritten}
 
 -- room for each line that ends in the chunk: for what is made of it, and 32 bytes for its row
 abbrev pub sift_room : Form → List ℕ → List ℕ → List ℕ → Bool
@@ -19,13 +18,6 @@ sift_room form chunk made rows = leb (room_of form * ends chunk) (length made) &
 abbrev pub sift_of : SoFar → Form → List ℕ → List ℕ → List ℕ → List ℕ → Came (CutSoFar Sifting)
 sift_of state form line chunk made rows =
     fit line (state.loaded + state.refused + ends chunk) (sift_room form chunk made rows) (sift_run (made_of form) state line chunk)
-
--- the code's answer on the paper: the state, and how many bytes were written into each buffer
-abbrev pub sifted : Sifted → Came (SoFar × ℕ × ℕ)
-sifted (S.Lines state made rows) = came (state, made, rows)
-sifted S.Full = full
-sifted S.Many = many
-sifted (S.Refused r) = turned_by r
 
 abbrev pub sifted_by_value : Came (CutSoFar Sifting) → Came (SoFar × ℕ × ℕ)
 sifted_by_value (came r) = came (so_far_in r, length r.kept.made, length r.kept.rows)
@@ -53,14 +45,14 @@ sifted_bytes (turned n l) = (0, 0)
 sifted_bytes many = (0, 0)
 sifted_bytes full = (0, 0)
 
-pub record Sifts (state : SoFar) (form : Form) (line chunk made rows : List ℕ) (r : Sifted) (line' made' rows' : List ℕ) : Type 0 where
-  pub answer : sifted r ≡ sifted_by_value (sift_of state form line chunk made rows)
+pub record Sifts (state : SoFar) (form : Form) (line chunk made rows : List ℕ) (r : Result (SoFar × ℕ × ℕ) Unwritten) (line' made' rows' : List ℕ) : Type 0 where
+  pub answer : came_as r ≡ sifted_by_value (sift_of state form line chunk made rows)
   pub kept : line' ≡ line_sifted (sift_of state form line chunk made rows) line
   pub making : made' ≡ written_of made 0 (sifting_in (sift_of state form line chunk made rows)).made
   pub rowing : rows' ≡ written_of rows 0 (sifting_in (sift_of state form line chunk made rows)).rows
   -- follow from the others, for who takes the bytes out
-  pub made_within : (sifted_bytes (sifted r)).0 ≤ length made
-  pub rows_within : (sifted_bytes (sifted r)).1 ≤ length rows
+  pub made_within : (sifted_bytes (came_as r)).0 ≤ length made
+  pub rows_within : (sifted_bytes (came_as r)).1 ≤ length rows
 
 -- ---- a private function: a chunk whose lines have room, and what was taken
 pub record ReadyToSift (state : SoFar) (form : Form) (line chunk made rows : List ℕ) : Type 0 where
@@ -69,9 +61,12 @@ pub record ReadyToSift (state : SoFar) (form : Form) (line chunk made rows : Lis
   pub making : room_of form * ends chunk ≤ length made
   pub rowing : 32 * ends chunk ≤ length rows
 
-pub record TakesSifted (state : SoFar) (form : Form) (line chunk made rows : List ℕ) (r : Sifted) (line' made' rows' : List ℕ) : Type 0 where
-  pub answer : r ≡ S.Lines (so_far_in (sift_run (made_of form) state line chunk)) (length (sift_run (made_of form) state line chunk).kept.made)
-      (length (sift_run (made_of form) state line chunk).kept.rows)
+pub record TakesSifted (state : SoFar) (form : Form) (line chunk made rows : List ℕ) (r : Result (SoFar × ℕ × ℕ) Unwritten) (line' made' rows' : List ℕ) : Type 0 where
+  pub answer : r ≡ Ok (
+    so_far_in (sift_run (made_of form) state line chunk),
+    length (sift_run (made_of form) state line chunk).kept.made,
+    length (sift_run (made_of form) state line chunk).kept.rows,
+  )
   pub kept : line' ≡ (sift_run (made_of form) state line chunk).left.line
   pub making : made' ≡ written_of made 0 (sift_run (made_of form) state line chunk).kept.made
   pub rowing : rows' ≡ written_of rows 0 (sift_run (made_of form) state line chunk).kept.rows

@@ -4,23 +4,13 @@
 
 ghost use Rattle.sift_feed.specs.Promises.{Sifts, ReadyToSift, TakesSifted};
 
-use ledger_feed::SoFar;
+use ledger_feed::{SoFar, Unwritten};
 use line_cut::{Begun, LINE};
 use refusal::Refusal;
 use sift_form::Form;
 
 // The room that a row takes at most.
 const ROW: usize = 32;
-
-// The state after a chunk, and how many bytes were made and how many bytes of rows written; or why nothing has changed: too little room, counts
-// that would pass 64 bits, or a line buffer that has not 256 bytes.
-#[derive(Clone, Copy)]
-pub enum Sifted {
-    Lines(SoFar, usize, usize),
-    Full,
-    Many,
-    Refused(Refusal),
-}
 
 // The bytes of a chunk, where there is room: from line's end to line's end.
 fn take(
@@ -30,7 +20,7 @@ fn take(
     chunk: &[u8],
     made: &mut [u8],
     rows: &mut [u8],
-) -> Sifted
+) -> Result<(SoFar, usize, usize), Unwritten>
     requires { ReadyToSift state form line.old chunk.now made.old rows.old }
     ensures { TakesSifted state form line.old chunk.now made.old rows.old result line.new made.new rows.new }
 {
@@ -72,10 +62,11 @@ fn take(
         loaded,
         refused,
     };
-    Sifted::Lines(after, made_end, rows_end)
+    Ok((after, made_end, rows_end))
 }
 
-// Takes a chunk of any size. Each line that ends in it needs the room of its form, and 32 bytes for a row.
+// Takes a chunk of any size. The state after it, how many bytes were made and how many bytes of rows written; or why nothing has changed: a line buffer
+// that has not 256 bytes, counts that would pass 64 bits, less room than each line that ends in it needs for its form, and 32 bytes for its row.
 pub fn feed(
     state: SoFar,
     form: Form,
@@ -83,21 +74,21 @@ pub fn feed(
     chunk: &[u8],
     made: &mut [u8],
     rows: &mut [u8],
-) -> Sifted
+) -> Result<(SoFar, usize, usize), Unwritten>
     ensures { Sifts state form line.old chunk.now made.old rows.old result line.new made.new rows.new }
 {
     if line.len() != LINE {
-        return Sifted::Refused(Refusal::Shape);
+        return Err(Unwritten::Refused(Refusal::Shape));
     }
     let ends = line_cut::ends(chunk);
     if !ledger_feed::countable(state.loaded, state.refused, ends) {
-        return Sifted::Many;
+        return Err(Unwritten::Many);
     }
     if made.len() / sift_form::room(form) < ends {
-        return Sifted::Full;
+        return Err(Unwritten::Full);
     }
     if rows.len() / ROW < ends {
-        return Sifted::Full;
+        return Err(Unwritten::Full);
     }
     take(state, form, line, chunk, made, rows)
 }

@@ -9,8 +9,7 @@ use lib.Dec.{ltb}
 use lib.ListN.{length, length-append}
 use borrow.Author.Tests.{lt-ltb, le-ltb}
 use Rattle.refusal.specs.Answer.{Answer}
-use Rattle.text_out.specs.Text.{Puts, Adds, place, after_of}
-use Rattle.text_out.specs.declared.Placed.{Placed}
+use Rattle.text_out.specs.Text.{Puts, Adds}
 use Rattle.text_out.proofs.Added.{adds_or, adds_then}
 use Rattle.line_parse.specs.Line.{Line}
 use Rattle.line_held.specs.Held.{said_of}
@@ -33,7 +32,8 @@ use Rattle.sift_close.proofs.Said.{made_most, row_most}
 use Rattle.sift_feed.specs.Sifting.{Sifting, close_sift, sifting_at}
 use Rattle.sift_feed.proofs.Turn.{tally_loaded, tally_refused, tally_either}
 use Rattle.sift_finish.specs.Last.{sift_end, all_rows, ReadyToEnd, WritesLast, EndsSifted}
-use Rattle.sift_finish.specs.declared.Finished.TheVariants as E
+use Rattle.std.specs.Prelude.{Option, Ok}
+use Rattle.std.specs.Option.{unwrap_or}
 
 -- ---- how long they are
 pub end_made : (form : Form) (state : SoFar) (line : List ℕ) → length (sift_end (made_of form) state line).made ≤ room_of form * unfinished state.held
@@ -62,9 +62,9 @@ end_rows form state line = go (ltb 0 state.held)
     go false = omega (arith, fits_last (state.loaded + state.refused) state.loaded state.refused)
 
 -- ---- no line is unfinished
-pub last_none : (form : Form) (state : SoFar) (line made rows rows' : List ℕ) → state.held ≡ 0 → (p : Placed)
+pub last_none : (form : Form) (state : SoFar) (line made rows rows' : List ℕ) → state.held ≡ 0 → (p : Option ℕ)
     → Puts rows rows' 0 (last_row (state.loaded + state.refused) state.loaded state.refused) p
-    → (end : ℕ) → end ≡ after_of (place p) 0 → EndsSifted state form line made rows (E.Rows 0 end) made rows'
+    → (end : ℕ) → end ≡ unwrap_or p 0 → EndsSifted state form line made rows (Ok (0, end)) made rows'
 last_none form state line made rows rows' none p puts end after =
     let s : sift_end (made_of form) state line ≡ sifting_at state =
     ap (λ (t : Bool). cond t (close_sift (made_of form) (sifting_at state) line state.held) (sifting_at state)) (le-ltb 0 state.held (omega arith)) in
@@ -95,9 +95,9 @@ module _ (form : Form) (state : SoFar) (line made rows : List ℕ) (ready : Read
         let h = last_counts in
         (omega arith, omega arith)
 
-    pub last_some : (rows'' : List ℕ) (p : Placed) → Puts rows' rows'' c.rows
+    pub last_some : (rows'' : List ℕ) (p : Option ℕ) → Puts rows' rows'' c.rows
         (last_row (state.loaded + state.refused + 1) (state.loaded + c.loaded) (state.refused + c.refused)) p
-        → (end : ℕ) → end ≡ after_of (place p) c.rows → EndsSifted state form line made rows (E.Rows c.made end) made' rows''
+        → (end : ℕ) → end ≡ unwrap_or p c.rows → EndsSifted state form line made rows (Ok (c.made, end)) made' rows''
     last_some rows'' p puts end after =
         let t : Bool = is_loaded said in
         let row : List ℕ = refused_row_of (state.loaded + state.refused + 1) said in

@@ -1,17 +1,16 @@
 -- The end of the input that was sifted: an unfinished line ends there, and the ledger's last row follows. Definitions only.
-use Rattle.std.specs.Prelude.{◌≡◌, Bool, ◌&&◌, List, [], ◌++◌, ℕ, ◌+◌, ◌*◌, ◌^◌, ◌≤◌, ◌<◌, leb, length}
+use Rattle.std.specs.Prelude.{◌≡◌, Bool, ◌&&◌, List, [], ◌++◌, ℕ, ◌+◌, ◌*◌, ◌^◌, ◌≤◌, ◌<◌, leb, length, Result, Ok}
 use Rattle.text_out.specs.Text.{written_of, Adds}
 use Rattle.line_parse.specs.Line.{Line}
 use Rattle.line_cut.specs.Cut.{end_by}
 use Rattle.ledger_totals.specs.Totals.{last_row}
-use Rattle.ledger_feed.specs.Promises.{Came, turned, turned_by, many, full, came, fit}
+use Rattle.ledger_feed.specs.Promises.{Came, turned, many, full, came, fit, came_as}
 use Rattle.ledger_feed.specs.declared.SoFar.{SoFar}
 use Rattle.ledger_finish.specs.Promises.{unfinished, last_lines}
 use Rattle.sift_form.specs.Forms.{room_of, made_of}
 use Rattle.sift_form.specs.declared.Form.{Form}
 use Rattle.sift_feed.specs.Sifting.{Sifting, close_sift, sifting_at, open_at}
-use Rattle.sift_finish.specs.declared.Finished.{Finished}
-use Rattle.sift_finish.specs.declared.Finished.TheVariants as E
+use Rattle.ledger_feed.specs.declared.Unwritten.{Unwritten}
 
 -- the last line, CR and all
 abbrev pub sift_end : (Line → List ℕ) → SoFar → List ℕ → Sifting
@@ -27,13 +26,6 @@ last_room state form made rows = leb (room_of form * unfinished state.held) (len
 
 abbrev pub sifted_last : SoFar → Form → List ℕ → List ℕ → List ℕ → Came Sifting
 sifted_last state form line made rows = fit line (last_lines state) (last_room state form made rows) (sift_end (made_of form) state line)
-
--- the code's answer on the paper: how many bytes were written into each buffer
-abbrev pub last_paper : Finished → Came (ℕ × ℕ)
-last_paper (E.Rows made rows) = came (made, rows)
-last_paper E.Full = full
-last_paper E.Many = many
-last_paper (E.Refused r) = turned_by r
 
 abbrev pub last_lengths : Came Sifting → Came (ℕ × ℕ)
 last_lengths (came s) = came (length s.made, length (all_rows s))
@@ -60,13 +52,13 @@ last_bytes many = (0, 0)
 last_bytes full = (0, 0)
 
 -- what the function promises, for all inputs
-pub record FinishesSifted (state : SoFar) (form : Form) (line made rows : List ℕ) (r : Finished) (made' rows' : List ℕ) : Type 0 where
-  pub answer : last_paper r ≡ last_lengths (sifted_last state form line made rows)
+pub record FinishesSifted (state : SoFar) (form : Form) (line made rows : List ℕ) (r : Result (ℕ × ℕ) Unwritten) (made' rows' : List ℕ) : Type 0 where
+  pub answer : came_as r ≡ last_lengths (sifted_last state form line made rows)
   pub making : made' ≡ written_of made 0 (last_made (sifted_last state form line made rows))
   pub rowing : rows' ≡ written_of rows 0 (last_rows (sifted_last state form line made rows))
   -- follow from the others, for who takes the bytes out
-  pub made_within : (last_bytes (last_paper r)).0 ≤ length made
-  pub rows_within : (last_bytes (last_paper r)).1 ≤ length rows
+  pub made_within : (last_bytes (came_as r)).0 ≤ length made
+  pub rows_within : (last_bytes (came_as r)).1 ≤ length rows
 
 -- ---- a private function: there is room, and what was written
 pub record ReadyToEnd (state : SoFar) (form : Form) (made rows : List ℕ) : Type 0 where
@@ -79,8 +71,8 @@ pub record WritesLast (s : Sifting) (made rows : List ℕ) (w v : ℕ) (made' ro
   pub making : Adds made 0 s.made made' w
   pub rowing : Adds rows 0 (all_rows s) rows' v
 
-pub record EndsSifted (state : SoFar) (form : Form) (line made rows : List ℕ) (r : Finished) (made' rows' : List ℕ) : Type 0 where
+pub record EndsSifted (state : SoFar) (form : Form) (line made rows : List ℕ) (r : Result (ℕ × ℕ) Unwritten) (made' rows' : List ℕ) : Type 0 where
   pub w : ℕ
   pub v : ℕ
-  pub is : r ≡ E.Rows w v
+  pub is : r ≡ Ok (w, v)
   pub written : WritesLast (sift_end (made_of form) state line) made rows w v made' rows'

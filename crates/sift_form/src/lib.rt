@@ -4,7 +4,6 @@
 ghost use Rattle.sift_form.specs.Promises.{TakesRoom, MakesForm};
 
 use position::State;
-use text_out::Placed;
 
 // The forms: a sample for a fit; the line written back, with LF; the record of a store.
 #[derive(Clone, Copy)]
@@ -34,7 +33,7 @@ pub fn make(
     half: u8,
     out: &mut [u8],
     at: usize,
-) -> Placed
+) -> Option<usize>
     ensures { MakesForm form bitboards.now board.now state half out.old out.new at result }
 {
     match form {

@@ -5,26 +5,16 @@
 // bound, no last row follows and the reason is said; that all is as it should be is said on descriptor 3, last of all.
 #![tactic(auto)]
 
-use ledger_feed::SoFar;
+use ledger_feed::{SoFar, Unwritten};
 use ledger_files::Ending;
-use ledger_finish::Finished;
 use line_profile::Profile;
-use sift_feed::Sifted;
 use sift_form::Form;
-use stream_io::Taken;
+use stream_io::{Taken, Turn};
 
 // Room for what is made of as many lines as a read may have, in the form of a text or a shorter one, and for as many rows.
 const MADE: usize = 409600;
 
 const ROWS: usize = 131072;
-
-// What follows a read: another one, the end of the input, or nothing more.
-#[derive(Clone, Copy)]
-enum Turn {
-    More(SoFar),
-    End,
-    Stopped,
-}
 
 // The whole program. The three texts are what a fault of standard input, output and error is said of, as `rewrite: standard input`.
 pub fn run(rt: &HostRuntime, form: Form, input: &[u8], output: &[u8], errors: &[u8]) {
@@ -73,7 +63,7 @@ fn read_all(
     input: &[u8],
     output: &[u8],
     errors: &[u8],
-) -> Turn {
+) -> Turn<SoFar> {
     let read = read_to_end(rt, form, line, chunk, made, rows, input, output, errors);
     let Turn::More(state) = read else {
         return Turn::Stopped;
@@ -91,7 +81,7 @@ fn end_input(
     rows: &mut [u8],
     output: &[u8],
     errors: &[u8],
-) -> Turn {
+) -> Turn<SoFar> {
     match ledger_files::closing(state) {
         Ending::Nothing => Turn::More(state),
         Ending::Lf => feed(rt, state, form, line, b"\n", made, rows, output, errors),
@@ -110,7 +100,7 @@ fn read_to_end(
     input: &[u8],
     output: &[u8],
     errors: &[u8],
-) -> Turn {
+) -> Turn<SoFar> {
     let mut state = ledger_feed::start();
     let mut turns: u64 = 0;
     while stream::may_go_on(turns) {
@@ -145,7 +135,7 @@ fn read_some(
     input: &[u8],
     output: &[u8],
     errors: &[u8],
-) -> Turn {
+) -> Turn<SoFar> {
     match stream_io::read(rt.stderr(), &mut rt.stdin(), chunk, input) {
         Taken::Bytes(n) => feed(
             rt,
@@ -173,20 +163,20 @@ fn feed(
     rows: &mut [u8],
     output: &[u8],
     errors: &[u8],
-) -> Turn {
+) -> Turn<SoFar> {
     match sift_feed::feed(state, form, line, chunk, made, rows) {
-        Sifted::Lines(next, written, told) => {
+        Ok((next, written, told)) => {
             if write(rt, &made[..written], &rows[..told], output, errors) {
                 return Turn::More(next);
             }
         }
-        Sifted::Full => {
+        Err(Unwritten::Full) => {
             stop(rt, output, b": too little room for lines\n");
         }
-        Sifted::Many => {
+        Err(Unwritten::Many) => {
             stop(rt, output, b": more lines than 64 bits count\n");
         }
-        Sifted::Refused(_) => {
+        Err(Unwritten::Refused(_)) => {
             stop(rt, output, b": no line buffer\n");
         }
     }
@@ -196,10 +186,10 @@ fn feed(
 // No line is unfinished any more: the ledger's end is its last row alone.
 fn finish(rt: &HostRuntime, state: SoFar, line: &[u8], rows: &mut [u8], errors: &[u8]) -> bool {
     match ledger_finish::finish(Profile::Any, state, line, rows) {
-        Finished::Rows(told) => tell(rt, &rows[..told], errors),
-        Finished::Full => stop(rt, errors, b": too little room for the last rows\n"),
-        Finished::Many => stop(rt, errors, b": more lines than 64 bits count\n"),
-        Finished::Refused(_) => stop(rt, errors, b": no line buffer\n"),
+        Ok(told) => tell(rt, &rows[..told], errors),
+        Err(Unwritten::Full) => stop(rt, errors, b": too little room for the last rows\n"),
+        Err(Unwritten::Many) => stop(rt, errors, b": more lines than 64 bits count\n"),
+        Err(Unwritten::Refused(_)) => stop(rt, errors, b": no line buffer\n"),
     }
 }
 

@@ -1,6 +1,6 @@
 -- A collection sifted by calls: a chunk and two buffers for each call of `feed`, and two buffers for the call of `finish`; and what is claimed.
 -- Definitions only.
-use Rattle.std.specs.Prelude.{◌≡◌, List, [], ◌∷◌, ◌++◌, ℕ, ◌*◌, ◌^◌, ◌≤◌, ◌<◌, length, take}
+use Rattle.std.specs.Prelude.{◌≡◌, List, [], ◌∷◌, ◌++◌, ℕ, ◌*◌, ◌^◌, ◌≤◌, ◌<◌, length, take, Result, Ok, Err}
 use Rattle.line_cut.specs.Lines.{ends, lines_of}
 use Rattle.line_profile.specs.declared.Profile.TheVariants as P
 use Rattle.ledger_feed.specs.declared.SoFar.{SoFar}
@@ -10,19 +10,17 @@ use Rattle.sift_form.specs.Forms.{room_of, made_of}
 use Rattle.sift_form.specs.declared.Form.{Form}
 use Rattle.sift_form.specs.declared.Form.TheVariants as M
 use Rattle.sift_feed.specs.Promises.{Sifts}
-use Rattle.sift_feed.specs.declared.Sifted.{Sifted}
-use Rattle.sift_feed.specs.declared.Sifted.TheVariants as S
 use Rattle.sift_finish.specs.Last.{FinishesSifted}
-use Rattle.sift_finish.specs.declared.Finished.{Finished}
-use Rattle.sift_finish.specs.declared.Finished.TheVariants as E
 use Rattle.sift_whole.specs.Sifted.{made_of_all, rows_of_all}
+use Rattle.ledger_feed.specs.declared.Unwritten.TheVariants as U
+use Rattle.ledger_feed.specs.declared.Unwritten.{Unwritten}
 
 -- a call of `feed`: what it was lent, what it answered, and the memory afterwards
 pub record SiftCall : Type 0 where
   pub chunk : List ℕ
   pub made : List ℕ
   pub rows : List ℕ
-  pub sifted : Sifted
+  pub sifted : Result (SoFar × ℕ × ℕ) Unwritten
   pub line' : List ℕ
   pub made' : List ℕ
   pub rows' : List ℕ
@@ -31,40 +29,40 @@ pub record SiftCall : Type 0 where
 pub record SiftLast : Type 0 where
   pub made : List ℕ
   pub rows : List ℕ
-  pub finished : Finished
+  pub finished : Result (ℕ × ℕ) Unwritten
   pub made' : List ℕ
   pub rows' : List ℕ
 
 -- the state that a call hands on, and the bytes that it wrote
-abbrev pub next_so_far : Sifted → SoFar → SoFar
-next_so_far (S.Lines state made rows) before = state
-next_so_far S.Full before = before
-next_so_far S.Many before = before
-next_so_far (S.Refused r) before = before
+abbrev pub next_so_far : Result (SoFar × ℕ × ℕ) Unwritten → SoFar → SoFar
+next_so_far (Ok (state, made, rows)) before = state
+next_so_far (Err U.Full) before = before
+next_so_far (Err U.Many) before = before
+next_so_far (Err (U.Refused r)) before = before
 
-abbrev pub made_is : Sifted → List ℕ → List ℕ
-made_is (S.Lines state made rows) made' = take made made'
-made_is S.Full made' = []
-made_is S.Many made' = []
-made_is (S.Refused r) made' = []
+abbrev pub made_is : Result (SoFar × ℕ × ℕ) Unwritten → List ℕ → List ℕ
+made_is (Ok (state, made, rows)) made' = take made made'
+made_is (Err U.Full) made' = []
+made_is (Err U.Many) made' = []
+made_is (Err (U.Refused r)) made' = []
 
-abbrev pub rows_are : Sifted → List ℕ → List ℕ
-rows_are (S.Lines state made rows) rows' = take rows rows'
-rows_are S.Full rows' = []
-rows_are S.Many rows' = []
-rows_are (S.Refused r) rows' = []
+abbrev pub rows_are : Result (SoFar × ℕ × ℕ) Unwritten → List ℕ → List ℕ
+rows_are (Ok (state, made, rows)) rows' = take rows rows'
+rows_are (Err U.Full) rows' = []
+rows_are (Err U.Many) rows' = []
+rows_are (Err (U.Refused r)) rows' = []
 
-abbrev pub last_made_is : Finished → List ℕ → List ℕ
-last_made_is (E.Rows made rows) made' = take made made'
-last_made_is E.Full made' = []
-last_made_is E.Many made' = []
-last_made_is (E.Refused r) made' = []
+abbrev pub last_made_is : Result (ℕ × ℕ) Unwritten → List ℕ → List ℕ
+last_made_is (Ok (made, rows)) made' = take made made'
+last_made_is (Err U.Full) made' = []
+last_made_is (Err U.Many) made' = []
+last_made_is (Err (U.Refused r)) made' = []
 
-abbrev pub last_rows_are : Finished → List ℕ → List ℕ
-last_rows_are (E.Rows made rows) rows' = take rows rows'
-last_rows_are E.Full rows' = []
-last_rows_are E.Many rows' = []
-last_rows_are (E.Refused r) rows' = []
+abbrev pub last_rows_are : Result (ℕ × ℕ) Unwritten → List ℕ → List ℕ
+last_rows_are (Ok (made, rows)) rows' = take rows rows'
+last_rows_are (Err U.Full) rows' = []
+last_rows_are (Err U.Many) rows' = []
+last_rows_are (Err (U.Refused r)) rows' = []
 
 -- each call does what `feed` promises, from the state and the line buffer that the call before it left; then `finish`
 unfoldable pub SiftedBy : Form → SoFar → List ℕ → List SiftCall → SiftLast → Type 0

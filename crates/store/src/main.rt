@@ -5,18 +5,10 @@
 // error; that all is written is said on descriptor 3, last of all.
 #![tactic(auto)]
 
-use ledger_finish::Finished;
+use ledger_feed::Unwritten;
 use store_record::inner::RECORD;
-use store_rows::{StoreFed, StoreSoFar};
-use stream_io::Taken;
-
-// What follows a read: another one, the end of the input, or nothing more.
-#[derive(Clone, Copy)]
-enum Turn {
-    More(StoreSoFar),
-    End,
-    Stopped,
-}
+use store_rows::StoreSoFar;
+use stream_io::{Taken, Turn};
 
 fn main(rt: HostRuntime) {
     let mut chunk = io::buffer();
@@ -37,7 +29,12 @@ fn write_rows(rt: &HostRuntime, chunk: &mut [u8], out: &mut [u8]) -> bool {
 }
 
 // All reads, and the rows of the pieces that end in them.
-fn read_to_end(rt: &HostRuntime, piece: &mut [u8], chunk: &mut [u8], out: &mut [u8]) -> Turn {
+fn read_to_end(
+    rt: &HostRuntime,
+    piece: &mut [u8],
+    chunk: &mut [u8],
+    out: &mut [u8],
+) -> Turn<StoreSoFar> {
     let mut state = store_rows::start();
     let mut turns: u64 = 0;
     while stream::may_go_on(turns) {
@@ -65,7 +62,7 @@ fn read_some(
     piece: &mut [u8],
     chunk: &mut [u8],
     out: &mut [u8],
-) -> Turn {
+) -> Turn<StoreSoFar> {
     match stream_io::read(
         rt.stderr(),
         &mut rt.stdin(),
@@ -84,20 +81,20 @@ fn feed(
     piece: &mut [u8],
     chunk: &[u8],
     out: &mut [u8],
-) -> Turn {
+) -> Turn<StoreSoFar> {
     match store_rows::feed(state, piece, chunk, out) {
-        StoreFed::Rows(next, wrote) => {
+        Ok((next, wrote)) => {
             if write(rt, &out[..wrote]) {
                 return Turn::More(next);
             }
         }
-        StoreFed::Full => {
+        Err(Unwritten::Full) => {
             stop(rt, b": too little room for rows\n");
         }
-        StoreFed::Many => {
+        Err(Unwritten::Many) => {
             stop(rt, b": more records than 64 bits count\n");
         }
-        StoreFed::Refused(_) => {
+        Err(Unwritten::Refused(_)) => {
             stop(rt, b": no piece buffer\n");
         }
     }
@@ -106,10 +103,10 @@ fn feed(
 
 fn finish(rt: &HostRuntime, state: StoreSoFar, out: &mut [u8]) -> bool {
     match store_finish::finish(state, out) {
-        Finished::Rows(wrote) => write(rt, &out[..wrote]),
-        Finished::Full => stop(rt, b": too little room for the last rows\n"),
-        Finished::Many => stop(rt, b": more records than 64 bits count\n"),
-        Finished::Refused(_) => stop(rt, b": no piece buffer\n"),
+        Ok(wrote) => write(rt, &out[..wrote]),
+        Err(Unwritten::Full) => stop(rt, b": too little room for the last rows\n"),
+        Err(Unwritten::Many) => stop(rt, b": more records than 64 bits count\n"),
+        Err(Unwritten::Refused(_)) => stop(rt, b": no piece buffer\n"),
     }
 }
 

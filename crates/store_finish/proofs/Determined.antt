@@ -4,11 +4,12 @@ use mathlib.Core.Path.{◌≡◌}
 use mathlib.Core.List.{List}
 use Prim.Native.Nat.{ℕ}
 use Rattle.refusal.proofs.Paper.{one}
-use Rattle.ledger_finish.specs.declared.Finished.{Finished}
-use Rattle.ledger_finish.proofs.Determined.{finished_one}
 use Rattle.store_rows.specs.declared.StoreSoFar.{StoreSoFar}
 use Rattle.store_finish.specs.Promises.{FinishesStore}
+use Rattle.std.specs.Prelude.{Result}
+use Rattle.ledger_feed.specs.declared.Unwritten.{Unwritten}
+use Rattle.ledger_feed.proofs.Determined.{came_same}
 
-pub finish : (state : StoreSoFar) (out : List ℕ) (r s : Finished) (out₁ out₂ : List ℕ) → FinishesStore state out r out₁
+pub finish : (state : StoreSoFar) (out : List ℕ) (r s : Result ℕ Unwritten) (out₁ out₂ : List ℕ) → FinishesStore state out r out₁
     → FinishesStore state out s out₂ → (r ≡ s) × (out₁ ≡ out₂)
-finish state out r s out₁ out₂ p q = (finished_one r s (one p.answer q.answer), one p.rows q.rows)
+finish state out r s out₁ out₂ p q = (came_same r s (one p.answer q.answer), one p.rows q.rows)

@@ -11,23 +11,22 @@ use borrow.Author.Tests.{lt-ltb, le-ltb, leb-true}
 use Rattle.refusal.specs.Answer.{refusal_of}
 use Rattle.refusal.specs.declared.Refusal.TheVariants as R
 use Rattle.text_out.specs.Text.{Puts, Adds, place, written_of, room_for}
-use Rattle.text_out.specs.declared.Placed.{Placed}
-use Rattle.text_out.specs.declared.Placed.TheVariants.{At, Full}
 use Rattle.text_out.proofs.Added.{adds_then}
 use Rattle.ledger_row.specs.Row.{refused_row}
 use Rattle.ledger_row.proofs.Lengths.{refused_32}
 use Rattle.ledger_totals.specs.Totals.{last_row}
 use Rattle.ledger_totals.proofs.Fits.{fits_last}
 use Rattle.ledger_feed.specs.Machine.{Kept, with_totals, row_more}
-use Rattle.ledger_feed.specs.Promises.{Came, turned_by, many, full, came}
+use Rattle.ledger_feed.specs.Promises.{Came, turned_by, many, full, came, came_as}
 use Rattle.ledger_feed.proofs.Doors.{written_nothing}
-use Rattle.ledger_finish.specs.Promises.{finish_paper, length_of, last_text, last_wrote}
-use Rattle.ledger_finish.specs.declared.Finished.{Finished}
-use Rattle.ledger_finish.specs.declared.Finished.TheVariants as E
+use Rattle.ledger_finish.specs.Promises.{length_of, last_text, last_wrote}
 use Rattle.ledger_finish.proofs.Doors.{placed_at, placed_full, unwritten}
 use Rattle.store_rows.specs.Promises.{store_counts}
 use Rattle.store_rows.specs.declared.StoreSoFar.{StoreSoFar}
 use Rattle.store_finish.specs.Promises.{store_finished, last_pieces, fit_last, store_finish_of, FinishesStore}
+use Rattle.std.specs.Prelude.{Option, None, Some, Result, Ok, Err}
+use Rattle.ledger_feed.specs.declared.Unwritten.TheVariants as U
+use Rattle.ledger_feed.specs.declared.Unwritten.{Unwritten}
 
 -- ---- the last rows
 module _ (state : StoreSoFar) where
@@ -81,7 +80,7 @@ module _ (state : StoreSoFar) (out : List ℕ) where
   by_tests s t u p q r = ap₂ (λ (x y : Bool). fit_last x y (room_for out 0 (store_finished state)) (store_finished state)) p q
       ∙ ap (λ (z : Bool). fit_last s t z (store_finished state)) r
 
-  silent : (r : Finished) (a : Came (List ℕ)) → store_finish_of state out ≡ a → finish_paper r ≡ length_of a → last_text a ≡ [] → last_wrote (finish_paper r) ≡ 0
+  silent : (r : Result ℕ Unwritten) (a : Came (List ℕ)) → store_finish_of state out ≡ a → came_as r ≡ length_of a → last_text a ≡ [] → last_wrote (came_as r) ≡ 0
       → (out' : List ℕ) → out' ≡ out → FinishesStore state out r out'
   silent r a e f t z out' o = record {
     answer = f ∙ sym (ap length_of e);
@@ -89,25 +88,25 @@ module _ (state : StoreSoFar) (out : List ℕ) where
     within = omega arith;
   }
 
-  pub finish_shape : 34 ≤ state.held → FinishesStore state out (E.Refused R.Shape) out
-  finish_shape n = silent (E.Refused R.Shape) (turned_by R.Shape) (by_tests false _ _ (le-ltb state.held 34 n) refl refl) refl refl refl out refl
+  pub finish_shape : 34 ≤ state.held → FinishesStore state out (Err (U.Refused R.Shape)) out
+  finish_shape n = silent (Err (U.Refused R.Shape)) (turned_by R.Shape) (by_tests false _ _ (le-ltb state.held 34 n) refl refl) refl refl refl out refl
 
   module _ (short : state.held < 34) where
-    pub finish_many : ltb (last_pieces state) (2 ^ 64) ≡ false → FinishesStore state out E.Many out
-    finish_many n = silent E.Many many (by_tests true false _ (lt-ltb state.held 34 short) n refl) refl refl refl out refl
+    pub finish_many : ltb (last_pieces state) (2 ^ 64) ≡ false → FinishesStore state out (Err U.Many) out
+    finish_many n = silent (Err U.Many) many (by_tests true false _ (lt-ltb state.held 34 short) n refl) refl refl refl out refl
 
-    module _ (counts : ltb (last_pieces state) (2 ^ 64) ≡ true) (text : List ℕ) (is : text ≡ store_finished state) (out' : List ℕ) (p : Placed)
+    module _ (counts : ltb (last_pieces state) (2 ^ 64) ≡ true) (text : List ℕ) (is : text ≡ store_finished state) (out' : List ℕ) (p : Option ℕ)
         (put : Puts out out' 0 text p) where
       puts : Puts out out' 0 (store_finished state) p
       puts = subst (λ (t : List ℕ). Puts out out' 0 t p) is put
 
-      pub finish_full : p ≡ Full → FinishesStore state out E.Full out'
+      pub finish_full : p ≡ None → FinishesStore state out (Err U.Full) out'
       unfolding last
       finish_full told =
           let none = placed_full out 0 last (sym (ap place told) ∙ puts.0) in
-          silent E.Full full (by_tests true true false (lt-ltb state.held 34 short) counts none) refl refl refl out' (puts.1 ∙ unwritten out 0 last none)
+          silent (Err U.Full) full (by_tests true true false (lt-ltb state.held 34 short) counts none) refl refl refl out' (puts.1 ∙ unwritten out 0 last none)
 
-      pub finish_rows : (n : ℕ) → p ≡ At n → FinishesStore state out (E.Rows n) out'
+      pub finish_rows : (n : ℕ) → p ≡ Some n → FinishesStore state out (Ok n) out'
       unfolding last
       finish_rows n told =
           let one = placed_at out 0 last n (sym (ap place told) ∙ puts.0) in

@@ -5,11 +5,10 @@ ghost use Rattle.std.specs.Prelude.{◌^◌, ◌≤◌, ◌<◌, length};
 ghost use Rattle.text_out.specs.Text.{Adds};
 ghost use Rattle.store_finish.specs.Promises.{store_finished, last_pieces, FinishesStore};
 
-use ledger_finish::Finished;
+use ledger_feed::Unwritten;
 use refusal::Refusal;
 use store_record::inner::RECORD;
 use store_rows::StoreSoFar;
-use text_out::Placed;
 
 // The room that a last piece's row and the totals take at most.
 const ROWS: usize = 116;
@@ -27,32 +26,32 @@ fn last_rows(state: StoreSoFar, out: &mut [u8]) -> usize
             out,
             0,
         )
-        .or(0);
+        .unwrap_or(0);
     }
     let lines = state.loaded + state.refused + 1;
-    let next = ledger_row::inner::refused(lines, Refusal::Length, out, 0).or(0);
-    ledger_totals::last(lines, state.loaded, state.refused + 1, out, next).or(next)
+    let next = ledger_row::inner::refused(lines, Refusal::Length, out, 0).unwrap_or(0);
+    ledger_totals::last(lines, state.loaded, state.refused + 1, out, next).unwrap_or(next)
 }
 
 // The end of the input: the row of a short last piece, and the totals.
-pub fn finish(state: StoreSoFar, out: &mut [u8]) -> Finished
+pub fn finish(state: StoreSoFar, out: &mut [u8]) -> Result<usize, Unwritten>
     ensures { FinishesStore state out.old result out.new }
 {
     if state.held >= RECORD {
-        return Finished::Refused(Refusal::Shape);
+        return Err(Unwritten::Refused(Refusal::Shape));
     }
     if !ledger_feed::countable(
         state.loaded,
         state.refused,
         ledger_finish::unfinished(state.held),
     ) {
-        return Finished::Many;
+        return Err(Unwritten::Many);
     }
     let mut rows = [0u8; ROWS];
     let end = last_rows(state, &mut rows);
     let placed = text_out::put(out, 0, &rows[..end]);
     match placed {
-        Placed::At(wrote) => Finished::Rows(wrote),
-        Placed::Full => Finished::Full,
+        Some(wrote) => Ok(wrote),
+        None => Err(Unwritten::Full),
     }
 }

@@ -13,11 +13,11 @@ use Rattle.store_gather.specs.Gather.{Gathered}
 use Rattle.store_gather.specs.Promises.{run_gather, pieces_gathered, state_in, gathered_piece, summary_after, FeedsSummary, TakesPieces, end_first, EndsSummary}
 use Rattle.store_gather.specs.declared.First.{First}
 use Rattle.store_gather.specs.declared.GatheredSoFar.{GatheredSoFar}
-use Rattle.store_gather.specs.declared.Gathering.TheVariants as G
+use Rattle.std.specs.Prelude.{Ok, Err}
 
 module _ (state : GatheredSoFar) (piece chunk summary : List ℕ) where
   refuses : (eqb (length piece) 34 && eqb (length summary) 770) && ltb state.held 34 ≡ false
-      → FeedsSummary state piece chunk summary (G.Refused R.Shape) piece summary
+      → FeedsSummary state piece chunk summary (Err R.Shape) piece summary
   refuses e =
       let a : refusal_of R.Shape ≡ pieces_gathered state piece chunk summary =
       sym (ap (λ (t : Bool). or_refuse t R.Shape (given (run_gather state piece chunk summary))) e) in
@@ -28,22 +28,22 @@ module _ (state : GatheredSoFar) (piece chunk summary : List ℕ) where
             ap (λ (x : Answer (PiecesSoFar Gathered)). summary_after x summary) a;
       }
 
-  pub no_buffer : (length piece ≡ 34 → ⊥) → FeedsSummary state piece chunk summary (G.Refused R.Shape) piece summary
+  pub no_buffer : (length piece ≡ 34 → ⊥) → FeedsSummary state piece chunk summary (Err R.Shape) piece summary
   no_buffer n = refuses (ap (λ (t : Bool). (t && eqb (length summary) 770) && ltb state.held 34) (ne_eqb (length piece) 34 n))
 
-  pub no_summary : (length summary ≡ 770 → ⊥) → FeedsSummary state piece chunk summary (G.Refused R.Shape) piece summary
+  pub no_summary : (length summary ≡ 770 → ⊥) → FeedsSummary state piece chunk summary (Err R.Shape) piece summary
   no_summary n =
       refuses (ap (λ (t : Bool). (eqb (length piece) 34 && t) && ltb state.held 34) (ne_eqb (length summary) 770 n)
       ∙ ap (λ (t : Bool). t && ltb state.held 34) (and-false (eqb (length piece) 34)))
 
-  pub holds_all : 34 ≤ state.held → FeedsSummary state piece chunk summary (G.Refused R.Shape) piece summary
+  pub holds_all : 34 ≤ state.held → FeedsSummary state piece chunk summary (Err R.Shape) piece summary
   holds_all n =
       refuses (ap (λ (t : Bool). (eqb (length piece) 34 && eqb (length summary) 770) && t) (le-ltb state.held 34 n)
       ∙ and-false (eqb (length piece) 34 && eqb (length summary) 770))
 
   pub fed : length piece ≡ 34 → length summary ≡ 770 → state.held < 34 → (next : GatheredSoFar) (piece' summary' : List ℕ)
       → TakesPieces state piece chunk summary next piece' summary'
-      → FeedsSummary state piece chunk summary (G.More next) piece' summary'
+      → FeedsSummary state piece chunk summary (Ok next) piece' summary'
   fed p s h next piece' summary' t =
       let held : (eqb (length piece) 34 && eqb (length summary) 770) && ltb state.held 34 ≡ true =
       ap₂ ◌&&◌ (ap₂ ◌&&◌ (eq-eqb (length piece) 34 p) (eq-eqb (length summary) 770 s)) (lt-ltb state.held 34 h) in

@@ -6,14 +6,13 @@ use Prim.Native.Nat.{ℕ, ◌+◌, ◌≤◌, ◌<◌}
 use lib.Dec.{eqb, ltb}
 use lib.ListN.{length}
 use borrow.Author.Tests.{eq-eqb, ne_eqb, lt-ltb, le-ltb}
-use Rattle.refusal.specs.Answer.{Answer, given, refused, refusal_of}
+use Rattle.refusal.specs.Answer.{Answer, given, refused, refusal_of, answered}
 use Rattle.refusal.specs.Refusals.{number_of}
 use Rattle.refusal.specs.declared.Refusal.{Refusal}
 use Rattle.refusal.proofs.Answers.{given_not}
 use Rattle.position.specs.declared.State.{State}
 use Rattle.line_parse.specs.Line.{Line}
-use Rattle.line_parse.specs.Promises.{paper, by_value}
-use Rattle.line_parse.specs.declared.Read.TheVariants as D
+use Rattle.line_parse.specs.Promises.{by_value}
 use Rattle.line.specs.declared.inner.Loaded.{Loaded}
 use Rattle.store_record.specs.Record.{half_in, piece_says}
 use Rattle.store_record.specs.Promises.{SaysPiece}
@@ -29,6 +28,7 @@ use Rattle.store_gather.specs.Gather.{Gathered, gathered, or_first, count_piece}
 use Rattle.store_gather.specs.Promises.{CountsPiece, run_gather, so_far, TakesPieces, ReadyToGather}
 use Rattle.store_gather.specs.declared.First.{First}
 use Rattle.store_gather.specs.declared.GatheredSoFar.{GatheredSoFar}
+use Rattle.std.specs.Prelude.{Ok, Err}
 
 -- ---- a piece
 abbrev first_of : Gathered → First
@@ -66,10 +66,10 @@ module _ (number refusal : ℕ) (piece summary : List ℕ) where
       by_piece = sym (ap (λ (t : Bool). cond t (or_first summary piece (piece_says piece)) (gathered summary 10000001 22))
           (lt-ltb (records_in summary) 10000000 h)) ∙ none_yet
 
-      pub turned_away : (q : Refusal) → read.answer ≡ D.Refused q → (n : ℕ) → n ≡ number_of q → (r : First)
+      pub turned_away : (q : Refusal) → read.answer ≡ Err q → (n : ℕ) → n ≡ number_of q → (r : First)
           → r ≡ record { number = records_in summary + 1; refusal = n }
           → CountsPiece number refusal piece summary r summary
-      turned_away q t n m r e = go (piece_says piece) refl (sym (ap paper t) ∙ says.answer)
+      turned_away q t n m r e = go (piece_says piece) refl (sym (ap answered t) ∙ says.answer)
         where
           go : (a : Answer Line) → piece_says piece ≡ a → refusal_of q ≡ by_value a → CountsPiece number refusal piece summary r summary
           go (given l) x p = given_not (sym p)
@@ -78,10 +78,10 @@ module _ (number refusal : ℕ) (piece summary : List ℕ) where
               counts_by number refusal piece summary (gathered summary (records_in summary + 1) k) (sym (ap (or_first summary piece) x) ∙ by_piece) r summary
               (e ∙ ap (λ (j : ℕ). first_of (gathered summary (records_in summary + 1) j)) (m ∙ same)) refl
 
-      pub read_too : (s : State) (half : ℕ) → read.answer ≡ D.Position s half → (summary' : List ℕ) → CountsRecord summary piece summary'
+      pub read_too : (s : State) (half : ℕ) → read.answer ≡ Ok (s, half) → (summary' : List ℕ) → CountsRecord summary piece summary'
           → (r : First) → r ≡ record { number = 0; refusal = 0 }
           → CountsPiece number refusal piece summary r summary'
-      read_too s half t summary' c r e = go (piece_says piece) refl (sym (ap paper t) ∙ says.answer)
+      read_too s half t summary' c r e = go (piece_says piece) refl (sym (ap answered t) ∙ says.answer)
         where
           go : (a : Answer Line) → piece_says piece ≡ a → given (s, half) ≡ by_value a → CountsPiece number refusal piece summary r summary'
           go (given l) x p = counts_by number refusal piece summary (gathered (if_sized summary piece (summary_more summary piece)) 0 0)

@@ -1,14 +1,13 @@
 -- What each function promises, for all inputs. Definitions only.
-use Rattle.std.specs.Prelude.{◌≡◌, cond, ◌&&◌, List, ℕ, ◌+◌, ◌<◌, eqb, ltb, length}
-use Rattle.refusal.specs.Answer.{Answer, given, refused, refusal_of, or_refuse}
+use Rattle.std.specs.Prelude.{◌≡◌, cond, ◌&&◌, List, ℕ, ◌+◌, ◌<◌, eqb, ltb, length, Result}
+use Rattle.refusal.specs.Answer.{Answer, given, refused, or_refuse, answered}
 use Rattle.refusal.specs.declared.Refusal.TheVariants as R
 use Rattle.store_cut.specs.Cut.{PiecesSoFar, run_pieces}
 use Rattle.store_cut.specs.Promises.{holding_piece}
 use Rattle.store_gather.specs.Gather.{Gathered, gathered, count_piece}
 use Rattle.store_gather.specs.declared.First.{First}
 use Rattle.store_gather.specs.declared.GatheredSoFar.{GatheredSoFar}
-use Rattle.store_gather.specs.declared.Gathering.{Gathering}
-use Rattle.store_gather.specs.declared.Gathering.TheVariants as G
+use Rattle.refusal.specs.declared.Refusal.{Refusal}
 
 -- before anything was read
 abbrev pub BeginsSummary : GatheredSoFar → Type 0
@@ -45,10 +44,6 @@ abbrev pub pieces_gathered : GatheredSoFar → List ℕ → List ℕ → List �
 pieces_gathered state piece chunk summary =
     or_refuse (eqb (length piece) 34 && eqb (length summary) 770 && ltb state.held 34) R.Shape (given (run_gather state piece chunk summary))
 
-abbrev pub gathering_paper : Gathering → Answer GatheredSoFar
-gathering_paper (G.More state) = given state
-gathering_paper (G.Refused r) = refusal_of r
-
 abbrev pub state_in : Answer (PiecesSoFar Gathered) → Answer GatheredSoFar
 state_in (given r) = given (so_far r)
 state_in (refused n v) = refused n v
@@ -61,8 +56,8 @@ abbrev pub summary_after : Answer (PiecesSoFar Gathered) → List ℕ → List �
 summary_after (given r) old = r.kept.summary
 summary_after (refused n v) old = old
 
-pub record FeedsSummary (state : GatheredSoFar) (piece chunk summary : List ℕ) (r : Gathering) (piece' summary' : List ℕ) : Type 0 where
-  pub answer : gathering_paper r ≡ state_in (pieces_gathered state piece chunk summary)
+pub record FeedsSummary (state : GatheredSoFar) (piece chunk summary : List ℕ) (r : Result GatheredSoFar Refusal) (piece' summary' : List ℕ) : Type 0 where
+  pub answer : answered r ≡ state_in (pieces_gathered state piece chunk summary)
   pub kept : piece' ≡ gathered_piece (pieces_gathered state piece chunk summary) piece
   pub counts : summary' ≡ summary_after (pieces_gathered state piece chunk summary) summary
 

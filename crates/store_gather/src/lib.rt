@@ -4,7 +4,6 @@
 ghost use Rattle.std.specs.Prelude.{◌≡◌, length};
 ghost use Rattle.store_gather.specs.Promises.{BeginsSummary, FeedsSummary, EndsSummary, CountsPiece, TakesPieces, ReadyToGather};
 
-use line_parse::Read;
 use refusal::Refusal;
 use store_counts::{RECORDS, SUMMARY};
 use store_record::inner::RECORD;
@@ -25,14 +24,6 @@ pub struct GatheredSoFar {
     pub held: usize,
     pub number: u64,
     pub refusal: u8,
-}
-
-// The state after a chunk, or why nothing has changed: a piece buffer that has not 34 bytes or would hold a whole piece, a summary that has not
-// 770 numbers.
-#[derive(Clone, Copy)]
-pub enum Gathering {
-    More(GatheredSoFar),
-    Refused(Refusal),
 }
 
 // Before anything was read; the summary is lent as zeros.
@@ -65,7 +56,7 @@ fn count_piece(number: u64, refusal: u8, piece: &[u8], summary: &mut [u64]) -> F
         return uncounted(MOST + 1, Refusal::Many.number());
     }
     let answer = store_record::inner::read(piece).answer;
-    if let Read::Refused(refusal) = answer {
+    if let Err(refusal) = answer {
         return uncounted(records + 1, refusal.number());
     }
     store_counts::count(summary, piece);
@@ -99,20 +90,26 @@ fn take(state: GatheredSoFar, piece: &mut [u8], chunk: &[u8], summary: &mut [u64
     }
 }
 
-// Takes a chunk of any size: each piece that ends in it is counted. SHAPE.
-pub fn feed(state: GatheredSoFar, piece: &mut [u8], chunk: &[u8], summary: &mut [u64]) -> Gathering
+// Takes a chunk of any size: each piece that ends in it is counted. SHAPE, and nothing has changed: a piece buffer that has not 34 bytes or would hold a
+// whole piece, a summary that has not 770 numbers.
+pub fn feed(
+    state: GatheredSoFar,
+    piece: &mut [u8],
+    chunk: &[u8],
+    summary: &mut [u64],
+) -> Result<GatheredSoFar, Refusal>
     ensures { FeedsSummary state piece.old chunk.now summary.old result piece.new summary.new }
 {
     if piece.len() != RECORD {
-        return Gathering::Refused(Refusal::Shape);
+        return Err(Refusal::Shape);
     }
     if summary.len() != SUMMARY {
-        return Gathering::Refused(Refusal::Shape);
+        return Err(Refusal::Shape);
     }
     if state.held >= RECORD {
-        return Gathering::Refused(Refusal::Shape);
+        return Err(Refusal::Shape);
     }
-    Gathering::More(take(state, piece, chunk, summary))
+    Ok(take(state, piece, chunk, summary))
 }
 
 // The end of the input, of which so many records are counted: a short last piece is refused too.

@@ -8,7 +8,7 @@ use lib.Dec.{eqb, ltb}
 use lib.ListN.{length, take}
 use native.Mathlib.Nat.{zero-add}
 use borrow.Author.Tests.{lt-ltb, le-ltb, eq-eqb, ne_eqb, eqb-true, eqb-false}
-use Rattle.refusal.specs.Answer.{Answer, given, refused, refusal_of, or_refuse}
+use Rattle.refusal.specs.Answer.{Answer, given, refused, refusal_of, or_refuse, answered}
 use Rattle.refusal.specs.declared.Refusal.TheVariants as R
 use Rattle.refusal.proofs.Answers.{given_not}
 use Rattle.line_parse.specs.Line.{Line}
@@ -24,15 +24,15 @@ use Rattle.store_totals.specs.Totals.{empty_summary}
 use Rattle.store_totals.proofs.Kept.{records_are, kept_none}
 use Rattle.store_whole.proofs.Cut.{short_piece}
 use Rattle.store_gather.specs.Gather.{Gathered, gathered, or_first, count_piece}
-use Rattle.store_gather.specs.Promises.{run_gather, so_far, pieces_gathered, gathering_paper, state_in, gathered_piece, summary_after, FeedsSummary, end_first}
+use Rattle.store_gather.specs.Promises.{run_gather, so_far, pieces_gathered, state_in, gathered_piece, summary_after, FeedsSummary, end_first}
 use Rattle.store_gather.specs.declared.First.{First}
 use Rattle.store_gather.specs.declared.GatheredSoFar.{GatheredSoFar}
-use Rattle.store_gather.specs.declared.Gathering.{Gathering}
-use Rattle.store_gather.specs.declared.Gathering.TheVariants as G
 use Rattle.store_gather.proofs.Pieces.{still_770}
 use Rattle.store_gathered.specs.Calls.{GatherCall, gather_next, GatherCallsMade, gather_input, fresh_gather}
 use Rattle.store_gathered.specs.Gathered.{says_at, or_later, first_refused, read_before, GatheredWhole}
 use Rattle.store_gathered.proofs.Read.{up_to, from}
+use Rattle.std.specs.Prelude.{Result, Ok, Err}
+use Rattle.refusal.specs.declared.Refusal.{Refusal}
 
 -- ---- a summary stays one
 run_770 : (o : OpenPiece) (s : Gathered) (t : List ℕ) → length s.summary ≡ 770 → length (run_pieces count_piece o s t).kept.summary ≡ 770
@@ -114,16 +114,16 @@ module _ (state : GatheredSoFar) (piece summary : List ℕ) (short : state.held 
       (sym says) (closed (eqb state.number 0) (ltb (records_in summary) 10000000) refl))
 
 -- ---- a call of `feed`
-more_of : (r : Gathering) (state : GatheredSoFar) → gathering_paper r ≡ given state → r ≡ G.More state
-more_of (G.More t) state e = ap G.More (let z : t ≡ state = cc in z)
-more_of (G.Refused q) state e = given_not (sym e)
+more_of : (r : Result GatheredSoFar Refusal) (state : GatheredSoFar) → answered r ≡ given state → r ≡ Ok state
+more_of (Ok t) state e = ap Ok (let z : t ≡ state = cc in z)
+more_of (Err q) state e = given_not (sym e)
 
-record Fed (m : PiecesSoFar Gathered) (r : Gathering) (piece' summary' : List ℕ) : Type 0 where
-  answer : r ≡ G.More (so_far m)
+record Fed (m : PiecesSoFar Gathered) (r : Result GatheredSoFar Refusal) (piece' summary' : List ℕ) : Type 0 where
+  answer : r ≡ Ok (so_far m)
   kept : piece' ≡ m.left.piece
   counts : summary' ≡ m.kept.summary
 
-fed : (state : GatheredSoFar) (piece chunk summary : List ℕ) (r : Gathering) (piece' summary' : List ℕ)
+fed : (state : GatheredSoFar) (piece chunk summary : List ℕ) (r : Result GatheredSoFar Refusal) (piece' summary' : List ℕ)
     → FeedsSummary state piece chunk summary r piece' summary'
     → length piece ≡ 34 → state.held < 34 → length summary ≡ 770 → Fed (run_gather state piece chunk summary) r piece' summary'
 fed state piece chunk summary r piece' summary' f size short numbers =
@@ -157,7 +157,7 @@ all state piece summary (c ∷ cs) first last size short numbers made =
     let l = left_piece count_piece o s c.chunk short in
     let rest : GatherCallsMade (so_far m) m.left.piece m.kept.summary cs first last =
     subst₂ (λ (p q : List ℕ). GatherCallsMade (so_far m) p q cs first last) f.kept f.counts
-    (subst (λ (r : Gathering). GatherCallsMade (gather_next r state) c.piece' c.summary' cs first last) f.answer made.1) in
+    (subst (λ (r : Result GatheredSoFar Refusal). GatherCallsMade (gather_next r state) c.piece' c.summary' cs first last) f.answer made.1) in
     subst (λ (r : PiecesSoFar Gathered). Ended (end_pieces count_piece r) first last) (sym (pieces_append count_piece o s c.chunk (gather_input cs)))
     (all (so_far m) m.left.piece m.kept.summary cs first last (l.size ∙ size) l.short (run_770 o s c.chunk numbers) rest)
 

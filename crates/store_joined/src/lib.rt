@@ -7,7 +7,6 @@ ghost use Rattle.store_joined.specs.Promises.{JoinsSummaries};
 
 use refusal::Refusal;
 use store_counts::{RECORDS, SUMMARY};
-use store_record::Stored;
 
 // As many records as a summary counts.
 const MOST: u64 = 10_000_000;
@@ -23,23 +22,23 @@ fn add(summary: &mut [u64], more: &[u64])
 }
 
 // The summary of another store added: SHAPE, MANY.
-pub fn join(summary: &mut [u64], more: &[u64]) -> Stored
+pub fn join(summary: &mut [u64], more: &[u64]) -> Result<(), Refusal>
     ensures { JoinsSummaries summary.old more.now result summary.new }
 {
     if summary.len() != SUMMARY {
-        return Stored::Refused(Refusal::Shape);
+        return Err(Refusal::Shape);
     }
     if more.len() != SUMMARY {
-        return Stored::Refused(Refusal::Shape);
+        return Err(Refusal::Shape);
     }
     let records = summary[RECORDS];
     let added = more[RECORDS];
     if MOST < records {
-        return Stored::Refused(Refusal::Many);
+        return Err(Refusal::Many);
     }
     if MOST - records < added {
-        return Stored::Refused(Refusal::Many);
+        return Err(Refusal::Many);
     }
     add(summary, more);
-    Stored::Done
+    Ok(())
 }

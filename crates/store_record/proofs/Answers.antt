@@ -15,10 +15,10 @@ use Rattle.position_odds.specs.Named.{lowest_wrong}
 use Rattle.position.specs.Checked.{of_side}
 use Rattle.position.specs.declared.State.{State}
 use Rattle.line_parse.specs.Line.{Line}
-use Rattle.line_parse.specs.declared.Read.TheVariants.{Position}
 use Rattle.line.specs.declared.inner.Loaded.{Loaded}
 use Rattle.store_record.specs.Record.{board_in, side_in, half_in, is_code, position_in, record_says, piece_says, record_at, stored_says}
 use Rattle.store_record.specs.Promises.{ReadsOver, SaysPiece, SaysStored}
+use Rattle.std.specs.Prelude.{Ok}
 
 -- a reader's answer, by an equal one
 by_same : (a b : Answer Line) (r : Loaded) → a ≡ b → ReadsOver a r → ReadsOver b r
@@ -66,10 +66,10 @@ module _ (piece : List ℕ) where
             (all_tests true true true false (eq-eqb (length piece) 34 size) (code_is ∙ fine) (lt-ltb (side_in piece) 2 k) (le-ltb (half_in piece) 3 j)) h
 
         pub good : half_in piece < 3 → (state : State) → state ≡ of_side (side_in piece)
-            → SaysPiece piece (record { answer = Position state (half_in piece); bitboards = made.bitboards; board = board })
+            → SaysPiece piece (record { answer = Ok (state, (half_in piece)); bitboards = made.bitboards; board = board })
         unfolding tests
         good j state s =
-            by_same (given (position_in piece)) (piece_says piece) (record { answer = Position state (half_in piece); bitboards = made.bitboards; board = board })
+            by_same (given (position_in piece)) (piece_says piece) (record { answer = Ok (state, (half_in piece)); bitboards = made.bitboards; board = board })
             (all_tests true true true true (eq-eqb (length piece) 34 size) (code_is ∙ fine) (lt-ltb (side_in piece) 2 k) (lt-ltb (half_in piece) 3 j))
             (record { answer = ap (λ (x : State). given (x, half_in piece)) s; boards = m.0 ∙ ap bitboards_of b; bytes = b })
 

@@ -1,6 +1,6 @@
 -- What each function promises, for all inputs (document 02, W-205). Definitions only.
-use Rattle.std.specs.Prelude.{◌≡◌, List, ℕ, eqb, ltb, length}
-use Rattle.refusal.specs.Answer.{Answer, given, refused, refusal_of, or_refuse}
+use Rattle.std.specs.Prelude.{◌≡◌, List, ℕ, eqb, ltb, length, Result}
+use Rattle.refusal.specs.Answer.{Answer, given, refused, refusal_of, or_refuse, answered}
 use Rattle.refusal.specs.declared.Refusal.{Refusal}
 use Rattle.refusal.specs.declared.Refusal.TheVariants as R
 use Rattle.position_boards.specs.Boards.{bitboards_of}
@@ -8,15 +8,12 @@ use Rattle.position.specs.Checked.{of_side, checked}
 use Rattle.position.specs.declared.State.{State}
 use Rattle.line_ranks.specs.Promises.{empty_board}
 use Rattle.line_parse.specs.Line.{Line}
-use Rattle.line_parse.specs.declared.Read.{Read}
 use Rattle.line.specs.Promises.{Reads, or_shape}
 use Rattle.line.specs.declared.inner.Loaded.{Loaded}
 use Rattle.store_record.specs.Record.{record_of, piece_says, stored_says}
-use Rattle.store_record.specs.declared.Stored.{Stored}
-use Rattle.store_record.specs.declared.Stored.TheVariants as K
 
 -- ---- reading: "SHAPE, 18 LENGTH .., 32 ABSENT .., then 19 CODE, 12, 13"
-abbrev pub ReadsRecord : List ℕ → ℕ → List ℕ → List ℕ → Read → List ℕ → List ℕ → Type 0
+abbrev pub ReadsRecord : List ℕ → ℕ → List ℕ → List ℕ → Result (State × ℕ) Refusal → List ℕ → List ℕ → Type 0
 ReadsRecord run number bitboards board r bitboards' board' = Reads (or_shape bitboards board (stored_says run number)) bitboards board r bitboards' board'
 
 -- by value: over a bare board, which a refusal leaves bare
@@ -37,11 +34,6 @@ store_of bitboards board state half place =
     (or_refuse (eqb (length place) 34) R.Length
     (given (record_of (record { state = state; half = half; board = board })))))
 
--- the code's answer on the paper, and the definition's without the bytes
-abbrev pub stored_paper : Stored → Answer Unit
-stored_paper K.Done = given tt
-stored_paper (K.Refused r) = refusal_of r
-
 abbrev pub is_stored : Answer (List ℕ) → Answer Unit
 is_stored (given bytes) = given tt
 is_stored (refused n v) = refused n v
@@ -51,8 +43,8 @@ abbrev pub place_after : Answer (List ℕ) → List ℕ → List ℕ
 place_after (given bytes) old = bytes
 place_after (refused n v) old = old
 
-pub record WritesRecord (bitboards board : List ℕ) (state : State) (half : ℕ) (place : List ℕ) (r : Stored) (place' : List ℕ) : Type 0 where
-  pub answer : stored_paper r ≡ is_stored (store_of bitboards board state half place)
+pub record WritesRecord (bitboards board : List ℕ) (state : State) (half : ℕ) (place : List ℕ) (r : Result Unit Refusal) (place' : List ℕ) : Type 0 where
+  pub answer : answered r ≡ is_stored (store_of bitboards board state half place)
   pub bytes : place' ≡ place_after (store_of bitboards board state half place) place
 
 -- the record of a board, a side and half points

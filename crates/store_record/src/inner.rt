@@ -8,7 +8,6 @@ ghost use Rattle.store_record.specs.Promises.{SaysPiece, SaysStored, Packs, Turn
 use chess::piece::{FIRST, LAST, Piece};
 use chess::square::Square;
 use line::inner::Loaded;
-use line_parse::Read;
 use position::of_side;
 use refusal::Refusal;
 
@@ -32,7 +31,7 @@ fn refused(refusal: Refusal) -> Loaded
     let made = position_boards::bitboards_of(&board);
     let bitboards = made.bitboards;
     Loaded {
-        answer: Read::Refused(refusal),
+        answer: Err(refusal),
         bitboards,
         board,
     }
@@ -99,7 +98,7 @@ pub fn read(piece: &[u8]) -> Loaded
     }
     let bitboards = made.bitboards;
     Loaded {
-        answer: Read::Position(of_side(side), half),
+        answer: Ok((of_side(side), half)),
         bitboards,
         board,
     }

@@ -3,21 +3,18 @@
 
 ghost use Rattle.store_record.specs.Promises.{ReadsRecord, WritesRecord};
 
-use line_parse::Read;
-use position::{Checked, State};
+use position::State;
 use refusal::Refusal;
 
 pub mod inner;
 
-// The record stands in its place, or why it doesn't.
-#[derive(Clone, Copy)]
-pub enum Stored {
-    Done,
-    Refused(Refusal),
-}
-
 // SHAPE, LENGTH, ABSENT, and then what the record calls for. All of it is read before anything is written.
-pub fn read_record(run: &[u8], number: u64, bitboards: &mut [u64], board: &mut [u8]) -> Read
+pub fn read_record(
+    run: &[u8],
+    number: u64,
+    bitboards: &mut [u64],
+    board: &mut [u8],
+) -> Result<(State, u8), Refusal>
     ensures { ReadsRecord run.now number bitboards.old board.old result bitboards.new board.new }
 {
     line::inner::deliver(inner::read_at(run, number), bitboards, board)
@@ -30,20 +27,17 @@ pub fn write_record(
     state: State,
     half: u8,
     place: &mut [u8],
-) -> Stored
+) -> Result<(), Refusal>
     ensures { WritesRecord bitboards.now board.now state half place.old result place.new }
 {
-    let checked = position::check(bitboards, board, state);
-    if let Checked::Refused(refusal) = checked {
-        return Stored::Refused(refusal);
-    }
+    position::check(bitboards, board, state)?;
     if half >= inner::NO_RESULT {
-        return Stored::Refused(Refusal::Result);
+        return Err(Refusal::Result);
     }
     if place.len() != inner::RECORD {
-        return Stored::Refused(Refusal::Length);
+        return Err(Refusal::Length);
     }
     let record = inner::pack(board, state.side, half);
     text_out::put(place, 0, &record);
-    Stored::Done
+    Ok(())
 }

@@ -10,14 +10,15 @@ use borrow.Author.Tests.{eq-eqb, ne_eqb, le-leb, lt-leb, lt-ltb, le-ltb, ltb-tru
 use Rattle.refusal.specs.declared.Refusal.TheVariants as R
 use Rattle.text_out.specs.Text.{written_of}
 use Rattle.ledger_feed.specs.Machine.{Kept}
-use Rattle.ledger_feed.specs.Promises.{Came, turned_by, many, full, came}
+use Rattle.ledger_feed.specs.Promises.{Came, turned_by, many, full, came, came_as}
 use Rattle.ledger_feed.proofs.Doors.{written_nothing}
 use Rattle.store_cut.specs.Cut.{PiecesSoFar}
-use Rattle.store_rows.specs.Promises.{run_store, fit_store, ends_store, store_feed_of, store_fed_paper, store_by_value, piece_after, store_text}
+use Rattle.store_rows.specs.Promises.{run_store, fit_store, ends_store, store_feed_of, store_by_value, piece_after, store_text}
 use Rattle.store_rows.specs.Promises.{store_wrote, FeedsStore, ReadyStore, TakesStore}
 use Rattle.store_rows.specs.declared.StoreSoFar.{StoreSoFar}
-use Rattle.store_rows.specs.declared.StoreFed.{StoreFed}
-use Rattle.store_rows.specs.declared.StoreFed.TheVariants as F
+use Rattle.std.specs.Prelude.{Result, Err}
+use Rattle.ledger_feed.specs.declared.Unwritten.TheVariants as U
+use Rattle.ledger_feed.specs.declared.Unwritten.{Unwritten}
 
 -- ---- the tests, in order
 module _ {A : Type 0} (piece : List ℕ) (held pieces : ℕ) (room : Bool) (a : A) where
@@ -58,9 +59,9 @@ module _ (state : StoreSoFar) (piece chunk out : List ℕ) where
   ran = run_store state piece chunk
 
   -- an answer of its own, with nothing changed
-  unchanged : (r : StoreFed) (a : Came (PiecesSoFar Kept)) → store_feed_of state piece chunk out ≡ a → store_fed_paper r ≡ store_by_value a
+  unchanged : (r : Result (StoreSoFar × ℕ) Unwritten) (a : Came (PiecesSoFar Kept)) → store_feed_of state piece chunk out ≡ a → came_as r ≡ store_by_value a
       → piece_after a piece ≡ piece → store_text a ≡ []
-      → store_wrote (store_fed_paper r) ≡ 0 → FeedsStore state piece chunk out r piece out
+      → store_wrote (came_as r) ≡ 0 → FeedsStore state piece chunk out r piece out
   unchanged r a e f k t z = record {
     answer = f ∙ sym (ap store_by_value e);
     kept = sym (ap (λ (b : Came (PiecesSoFar Kept)). piece_after b piece) e ∙ k);
@@ -68,24 +69,24 @@ module _ (state : StoreSoFar) (piece chunk out : List ℕ) where
     within = omega arith;
   }
 
-  pub feed_shape : (length piece ≡ 34 → ⊥) → FeedsStore state piece chunk out (F.Refused R.Shape) piece out
+  pub feed_shape : (length piece ≡ 34 → ⊥) → FeedsStore state piece chunk out (Err (U.Refused R.Shape)) piece out
   unfolding room ran
-  feed_shape n = unchanged (F.Refused R.Shape) (turned_by R.Shape) (fit_shape piece state.held counted room ran n) refl refl refl refl
+  feed_shape n = unchanged (Err (U.Refused R.Shape)) (turned_by R.Shape) (fit_shape piece state.held counted room ran n) refl refl refl refl
 
-  pub feed_held : 34 ≤ state.held → FeedsStore state piece chunk out (F.Refused R.Shape) piece out
+  pub feed_held : 34 ≤ state.held → FeedsStore state piece chunk out (Err (U.Refused R.Shape)) piece out
   unfolding room ran
-  feed_held n = unchanged (F.Refused R.Shape) (turned_by R.Shape) (fit_held piece state.held counted room ran n) refl refl refl refl
+  feed_held n = unchanged (Err (U.Refused R.Shape)) (turned_by R.Shape) (fit_held piece state.held counted room ran n) refl refl refl refl
 
   module _ (size : length piece ≡ 34) (short : state.held < 34) where
-    pub feed_many : ltb (state.loaded + state.refused + ends_store state chunk) (2 ^ 64) ≡ false → FeedsStore state piece chunk out F.Many piece out
+    pub feed_many : ltb (state.loaded + state.refused + ends_store state chunk) (2 ^ 64) ≡ false → FeedsStore state piece chunk out (Err U.Many) piece out
     unfolding room ran
-    feed_many n = unchanged F.Many many (fit_many piece state.held counted room ran size short n) refl refl refl refl
+    feed_many n = unchanged (Err U.Many) many (fit_many piece state.held counted room ran size short n) refl refl refl refl
 
     module _ (counts : ltb (state.loaded + state.refused + ends_store state chunk) (2 ^ 64) ≡ true) where
-      pub feed_full : length out / 32 < ends_store state chunk → FeedsStore state piece chunk out F.Full piece out
+      pub feed_full : length out / 32 < ends_store state chunk → FeedsStore state piece chunk out (Err U.Full) piece out
       unfolding room ran
       feed_full n =
-          unchanged F.Full full (fit_full piece state.held counted room ran size short counts
+          unchanged (Err U.Full) full (fit_full piece state.held counted room ran size short counts
           (lt-leb (32 * ends_store state chunk) (length out) (fits (ends_store state chunk) n))) refl refl refl refl
         where
           fits : (e : ℕ) → length out / 32 < e → length out < 32 * e
@@ -104,15 +105,15 @@ module _ (state : StoreSoFar) (piece chunk out : List ℕ) where
           fits : (e : ℕ) → e ≤ length out / 32 → 32 * e ≤ length out
           fits e h = omega arith
 
-      pub feed_rows : ends_store state chunk ≤ length out / 32 → (r : StoreFed) (piece' out' : List ℕ) → TakesStore state piece chunk out r piece' out'
+      pub feed_rows : ends_store state chunk ≤ length out / 32 → (r : Result (StoreSoFar × ℕ) Unwritten) (piece' out' : List ℕ) → TakesStore state piece chunk out r piece' out'
           → FeedsStore state piece chunk out r piece' out'
       unfolding room ran
       feed_rows h r piece' out' t =
           let e : store_feed_of state piece chunk out ≡ came ran =
           fit_came piece state.held counted room ran size short counts (le-leb (32 * ends_store state chunk) (length out) (feed_ready h).room) in
           record {
-            answer = ap store_fed_paper t.answer ∙ sym (ap store_by_value e);
+            answer = ap came_as t.answer ∙ sym (ap store_by_value e);
             kept = t.kept ∙ sym (ap (λ (a : Came (PiecesSoFar Kept)). piece_after a piece) e);
             rows = t.rows ∙ sym (ap (λ (a : Came (PiecesSoFar Kept)). written_of out 0 (store_text a)) e);
-            within = subst (λ (q : StoreFed). store_wrote (store_fed_paper q) ≤ length out) (sym t.answer) t.within;
+            within = subst (λ (q : Result (StoreSoFar × ℕ) Unwritten). store_wrote (came_as q) ≤ length out) (sym t.answer) t.within;
           }

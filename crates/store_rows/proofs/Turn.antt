@@ -20,8 +20,8 @@ use Rattle.store_cut.specs.declared.CutPiece.{CutPiece}
 use Rattle.store_cut.proofs.Loop as Pieces
 use Rattle.store_rows.specs.Promises.{row_piece, run_store, so_far_of, store_counts, MakesStore, ReadyStore, TakesStore}
 use Rattle.store_rows.specs.declared.StoreSoFar.{StoreSoFar}
-use Rattle.store_rows.specs.declared.StoreFed.TheVariants as F
 use Rattle.store_rows.proofs.Lengths.{piece_32}
+use Rattle.std.specs.Prelude.{Ok}
 
 abbrev pub store_in : ℕ → ℕ → ℕ → StoreSoFar
 store_in held loaded refused = record { held = held; loaded = loaded; refused = refused }
@@ -97,7 +97,7 @@ turn_none state piece chunk out r = record {
 -- after the last
 pub turn_end : (state : StoreSoFar) (piece₀ chunk out₀ piece out : List ℕ) (held loaded refused w i : ℕ) → length chunk ≤ i
     → Turn (run_store state piece₀ chunk) chunk out₀ piece out held loaded refused w i
-    → (next : StoreSoFar) → MakesStore held loaded refused next → TakesStore state piece₀ chunk out₀ (F.Rows next w) piece out
+    → (next : StoreSoFar) → MakesStore held loaded refused next → TakesStore state piece₀ chunk out₀ (Ok (next, w)) piece out
 turn_end state piece₀ chunk out₀ piece out held loaded refused w i h t next made =
     let m : run_store state piece₀ chunk ≡ record { left = holding_piece piece held; kept = rows loaded refused (take w out) } =
     Pieces.turn_end row_piece (run_store state piece₀ chunk) 34 chunk piece held (rows loaded refused (take w out)) i t.pieces h in
@@ -105,7 +105,7 @@ turn_end state piece₀ chunk out₀ piece out held loaded refused w i h t next 
     let size : length (take w out) ≡ w = length-take-le w out (omega (arith, t.kept)) in
     let fits : 0 + length (take w out) ≤ length out₀ = omega arith in
     record {
-      answer = ap₂ F.Rows (made ∙ sym (ap so_far_of m)) (sym (ap (λ (x : PiecesSoFar Kept). length x.kept.text) m ∙ size));
+      answer = ap₂ (λ x n. Ok (x, n)) (made ∙ sym (ap so_far_of m)) (sym (ap (λ (x : PiecesSoFar Kept). length x.kept.text) m ∙ size));
       kept = sym (ap (λ (x : PiecesSoFar Kept). x.left.piece) m);
       rows =
           sym (take-append-drop w out) ∙ ap (λ (l : List ℕ). take w out ++ l)

@@ -1,18 +1,17 @@
 -- What each function promises, for all inputs. Definitions only.
-use Rattle.std.specs.Prelude.{◌≡◌, Bool, cond, ◌&&◌, List, [], ℕ, ◌+◌, ◌*◌, ◌/◌, ◌^◌, ◌≤◌, ◌<◌, eqb, leb, ltb, length}
+use Rattle.std.specs.Prelude.{◌≡◌, Bool, cond, ◌&&◌, List, [], ℕ, ◌+◌, ◌*◌, ◌/◌, ◌^◌, ◌≤◌, ◌<◌, eqb, leb, ltb, length, Result, Ok}
 use Rattle.refusal.specs.declared.Refusal.TheVariants as R
 use Rattle.text_out.specs.Text.{written_of}
 use Rattle.ledger_row.specs.Row.{row_of}
 use Rattle.ledger_row.specs.Promises.{PutsRow}
 use Rattle.ledger_row.specs.declared.Row.{Row}
 use Rattle.ledger_feed.specs.Machine.{Kept, row_more}
-use Rattle.ledger_feed.specs.Promises.{Came, turned, turned_by, many, full, came}
+use Rattle.ledger_feed.specs.Promises.{Came, turned, turned_by, many, full, came, came_as}
 use Rattle.store_record.specs.Record.{piece_says}
 use Rattle.store_cut.specs.Cut.{PiecesSoFar, run_pieces}
 use Rattle.store_cut.specs.Promises.{holding_piece}
 use Rattle.store_rows.specs.declared.StoreSoFar.{StoreSoFar}
-use Rattle.store_rows.specs.declared.StoreFed.{StoreFed}
-use Rattle.store_rows.specs.declared.StoreFed.TheVariants as F
+use Rattle.ledger_feed.specs.declared.Unwritten.{Unwritten}
 
 -- before anything was read
 abbrev pub BeginsStore : StoreSoFar → Type 0
@@ -44,13 +43,6 @@ store_feed_of state piece chunk out =
     fit_store piece state.held (state.loaded + state.refused + ends_store state chunk) (leb (32 * ends_store state chunk) (length out))
     (run_store state piece chunk)
 
--- the code's answer on the paper: the state, and how many bytes were written
-abbrev pub store_fed_paper : StoreFed → Came (StoreSoFar × ℕ)
-store_fed_paper (F.Rows state written) = came (state, written)
-store_fed_paper F.Full = full
-store_fed_paper F.Many = many
-store_fed_paper (F.Refused r) = turned_by r
-
 abbrev pub so_far_of : PiecesSoFar Kept → StoreSoFar
 so_far_of r = record { held = r.left.held; loaded = r.kept.loaded; refused = r.kept.refused }
 
@@ -80,12 +72,12 @@ store_wrote (turned n l) = 0
 store_wrote many = 0
 store_wrote full = 0
 
-pub record FeedsStore (state : StoreSoFar) (piece chunk out : List ℕ) (r : StoreFed) (piece' out' : List ℕ) : Type 0 where
-  pub answer : store_fed_paper r ≡ store_by_value (store_feed_of state piece chunk out)
+pub record FeedsStore (state : StoreSoFar) (piece chunk out : List ℕ) (r : Result (StoreSoFar × ℕ) Unwritten) (piece' out' : List ℕ) : Type 0 where
+  pub answer : came_as r ≡ store_by_value (store_feed_of state piece chunk out)
   pub kept : piece' ≡ piece_after (store_feed_of state piece chunk out) piece
   pub rows : out' ≡ written_of out 0 (store_text (store_feed_of state piece chunk out))
   -- follows from the others, for who takes the rows out
-  pub within : store_wrote (store_fed_paper r) ≤ length out
+  pub within : store_wrote (came_as r) ≤ length out
 
 -- ---- private functions: the row of a piece; a chunk whose rows have room, and what was taken
 abbrev pub RowsPiece : List ℕ → List ℕ → ℕ → ℕ → List ℕ → Row → Type 0
@@ -97,8 +89,8 @@ pub record ReadyStore (state : StoreSoFar) (piece chunk out : List ℕ) : Type 0
   pub counts : state.loaded + state.refused + ends_store state chunk < 2 ^ 64
   pub room : 32 * ends_store state chunk ≤ length out
 
-pub record TakesStore (state : StoreSoFar) (piece chunk out : List ℕ) (r : StoreFed) (piece' out' : List ℕ) : Type 0 where
-  pub answer : r ≡ F.Rows (so_far_of (run_store state piece chunk)) (length (run_store state piece chunk).kept.text)
+pub record TakesStore (state : StoreSoFar) (piece chunk out : List ℕ) (r : Result (StoreSoFar × ℕ) Unwritten) (piece' out' : List ℕ) : Type 0 where
+  pub answer : r ≡ Ok (so_far_of (run_store state piece chunk), length (run_store state piece chunk).kept.text)
   pub kept : piece' ≡ (run_store state piece chunk).left.piece
   pub rows : out' ≡ written_of out 0 (run_store state piece chunk).kept.text
   pub within : length (run_store state piece chunk).kept.text ≤ length out

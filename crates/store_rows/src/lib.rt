@@ -3,6 +3,7 @@
 
 ghost use Rattle.store_rows.specs.Promises.{BeginsStore, FeedsStore, MakesStore, ReadyStore, TakesStore, RowsPiece};
 
+use ledger_feed::Unwritten;
 use ledger_row::Row;
 use refusal::Refusal;
 use store_record::inner::RECORD;
@@ -16,16 +17,6 @@ pub struct StoreSoFar {
     pub held: usize,
     pub loaded: u64,
     pub refused: u64,
-}
-
-// The state after a chunk, and how many bytes of rows were written; or why nothing has changed: too little room, counts that
-// would pass 64 bits, or a piece buffer that has not 34 bytes or would hold a whole piece.
-#[derive(Clone, Copy)]
-pub enum StoreFed {
-    Rows(StoreSoFar, usize),
-    Full,
-    Many,
-    Refused(Refusal),
 }
 
 // Before anything was read.
@@ -60,7 +51,12 @@ fn row(piece: &[u8], number: u64, out: &mut [u8], at: usize) -> Row
 }
 
 // The bytes of a chunk, where there is room for their rows: from piece's end to piece's end.
-fn take(state: StoreSoFar, piece: &mut [u8], chunk: &[u8], out: &mut [u8]) -> StoreFed
+fn take(
+    state: StoreSoFar,
+    piece: &mut [u8],
+    chunk: &[u8],
+    out: &mut [u8],
+) -> Result<(StoreSoFar, usize), Unwritten>
     requires { ReadyStore state piece.old chunk.now out.old }
     ensures { TakesStore state piece.old chunk.now out.old result piece.new out.new }
 {
@@ -78,30 +74,36 @@ fn take(state: StoreSoFar, piece: &mut [u8], chunk: &[u8], out: &mut [u8]) -> St
             let row = row(piece, loaded + refused + 1, out, wrote);
             let placed = row.placed;
             let is_loaded = row.loaded;
-            wrote = placed.or(wrote);
+            wrote = placed.unwrap_or(wrote);
             loaded += is_loaded as u64;
             refused += !is_loaded as u64;
         }
     }
-    StoreFed::Rows(made(held, loaded, refused), wrote)
+    Ok((made(held, loaded, refused), wrote))
 }
 
-// Takes a chunk of any size: a row for each piece that ends in it. It needs 32 bytes of room for each of them.
-pub fn feed(state: StoreSoFar, piece: &mut [u8], chunk: &[u8], out: &mut [u8]) -> StoreFed
+// Takes a chunk of any size: a row for each piece that ends in it. The state after it, and how many bytes of rows were written; or why nothing has changed:
+// a piece buffer that has not 34 bytes or would hold a whole piece, counts that would pass 64 bits, less than 32 bytes of room for each row.
+pub fn feed(
+    state: StoreSoFar,
+    piece: &mut [u8],
+    chunk: &[u8],
+    out: &mut [u8],
+) -> Result<(StoreSoFar, usize), Unwritten>
     ensures { FeedsStore state piece.old chunk.now out.old result piece.new out.new }
 {
     if piece.len() != RECORD {
-        return StoreFed::Refused(Refusal::Shape);
+        return Err(Unwritten::Refused(Refusal::Shape));
     }
     if state.held >= RECORD {
-        return StoreFed::Refused(Refusal::Shape);
+        return Err(Unwritten::Refused(Refusal::Shape));
     }
     let ends = store_cut::ends(state.held, chunk.len());
     if !ledger_feed::countable(state.loaded, state.refused, ends) {
-        return StoreFed::Many;
+        return Err(Unwritten::Many);
     }
     if out.len() / ROW < ends {
-        return StoreFed::Full;
+        return Err(Unwritten::Full);
     }
     take(state, piece, chunk, out)
 }

@@ -10,6 +10,7 @@ use lib.ListN.{length, get_or}
 use lib.Seq.{take_all}
 use borrow.Author.Tests.{eq-eqb, lt-ltb, ltb-true}
 use Rattle.refusal.specs.Answer.{Answer, given, or_refuse}
+use Rattle.refusal.proofs.Paper.{answered_same}
 use Rattle.refusal.specs.declared.Refusal.TheVariants as R
 use Rattle.refusal.proofs.Answers.{given_not}
 use Rattle.position_boards.specs.Boards.{bitboards_of}
@@ -20,14 +21,13 @@ use Rattle.position.specs.Checked.{of_side, shaped}
 use Rattle.position.proofs.Doors.{through, boards_14, bytes_64, side_below_2}
 use Rattle.line_parse.specs.Line.{Line}
 use Rattle.line_parse.specs.Promises.{by_value, board_after}
-use Rattle.line_parse.specs.declared.Read.TheVariants.{Position}
-use Rattle.line_parse.proofs.Determined.{read_one}
 use Rattle.line.specs.Promises.{bitboards_after, or_shape}
 use Rattle.store_record.specs.Record.{record_of, in_record, piece_says, stored_says}
 use Rattle.store_record.specs.Promises.{store_of, is_stored, place_after}
 use Rattle.store_record.proofs.Records.{record_34}
 use Rattle.store_same.specs.Same.{WroteRecord, ReadBack, Again, Back, TwoHaveTwo}
 use Rattle.store_same.proofs.Trips.{says_it, halves_back, read_64, record_back}
+use Rattle.std.specs.Prelude.{Ok}
 
 -- a record alone is record 0 of its run
 alone : (bytes : List ℕ) → length bytes ≡ 34 → stored_says bytes 0 ≡ piece_says bytes
@@ -93,7 +93,7 @@ module _ (w : WroteRecord) where
       (eq-eqb (length r.board) 64 r.bytes_64)
       ∙ alone w.place' (ap length held.bytes ∙ record_34 line) ∙ says in
       record {
-        said = read_one r.answer (Position (of_side w.state.side) w.half) (r.reads.answer ∙ ap by_value e);
+        said = answered_same r.answer (Ok (of_side w.state.side, w.half)) (r.reads.answer ∙ ap by_value e);
         boards = r.reads.boards ∙ ap (λ (a : Answer Line). bitboards_after a r.bitboards) e ∙ sym boards_are;
         bytes = r.reads.bytes ∙ ap (λ (a : Answer Line). board_after a r.board) e;
       }

@@ -9,7 +9,7 @@ use lib.ListN.{length}
 use borrow.Author.Tests.{le-leb, lt-leb, ltb-true}
 use Rattle.refusal.specs.declared.Refusal.TheVariants as R
 use Rattle.text_out.specs.Text.{written_of}
-use Rattle.ledger_feed.specs.Promises.{Came, turned_by, many, full, came}
+use Rattle.ledger_feed.specs.Promises.{Came, turned_by, many, full, came, came_as}
 use Rattle.ledger_feed.proofs.Doors.{written_nothing}
 use Rattle.store_cut.specs.Cut.{PiecesSoFar}
 use Rattle.store_rows.specs.Promises.{ends_store}
@@ -20,10 +20,11 @@ use Rattle.sift_form.specs.declared.Form.{Form}
 use Rattle.sift_form.proofs.Rooms.{room_some}
 use Rattle.sift_feed.specs.Sifting.{Sifting}
 use Rattle.sift_feed.proofs.Doors.{room_lacks, room_holds, and_false}
-use Rattle.store_sift.specs.Promises.{sift_store, store_sift_room, store_sift_of, store_sifted, store_sifted_by_value, piece_sifted, sifting_out}
+use Rattle.store_sift.specs.Promises.{sift_store, store_sift_room, store_sift_of, store_sifted_by_value, piece_sifted, sifting_out}
 use Rattle.store_sift.specs.Promises.{store_sifted_bytes, SiftsStore, ReadyToSiftStore, TakesSiftedStore}
-use Rattle.store_sift.specs.declared.StoreSifted.{StoreSifted}
-use Rattle.store_sift.specs.declared.StoreSifted.TheVariants as S
+use Rattle.std.specs.Prelude.{Result, Err}
+use Rattle.ledger_feed.specs.declared.Unwritten.TheVariants as U
+use Rattle.ledger_feed.specs.declared.Unwritten.{Unwritten}
 
 row_lacks : (n k : ℕ) → n / 32 < k → n < 32 * k
 row_lacks n k h = omega arith
@@ -45,9 +46,9 @@ module _ (state : StoreSoFar) (form : Form) (piece chunk made rows : List ℕ) w
   nothing = record { loaded = 0; refused = 0; made = []; rows = [] }
 
   -- an answer of its own, with nothing changed
-  unchanged : (r : StoreSifted) (a : Came (PiecesSoFar Sifting)) → store_sift_of state form piece chunk made rows ≡ a
-      → store_sifted r ≡ store_sifted_by_value a → piece_sifted a piece ≡ piece
-      → sifting_out a ≡ nothing → store_sifted_bytes (store_sifted r) ≡ (0, 0) → SiftsStore state form piece chunk made rows r piece made rows
+  unchanged : (r : Result (StoreSoFar × ℕ × ℕ) Unwritten) (a : Came (PiecesSoFar Sifting)) → store_sift_of state form piece chunk made rows ≡ a
+      → came_as r ≡ store_sifted_by_value a → piece_sifted a piece ≡ piece
+      → sifting_out a ≡ nothing → store_sifted_bytes (came_as r) ≡ (0, 0) → SiftsStore state form piece chunk made rows r piece made rows
   unchanged r a e f k t z = record {
     answer = f ∙ sym (ap store_sifted_by_value e);
     kept = sym (ap (λ (b : Came (PiecesSoFar Sifting)). piece_sifted b piece) e ∙ k);
@@ -59,28 +60,28 @@ module _ (state : StoreSoFar) (form : Form) (piece chunk made rows : List ℕ) w
     rows_within = subst (λ (x : ℕ × ℕ). x.1 ≤ length rows) (sym z) (omega arith);
   }
 
-  pub feed_shape : (length piece ≡ 34 → ⊥) → SiftsStore state form piece chunk made rows (S.Refused R.Shape) piece made rows
-  feed_shape n = unchanged (S.Refused R.Shape) (turned_by R.Shape) (fit_shape piece state.held counted room run n) refl refl refl refl
+  pub feed_shape : (length piece ≡ 34 → ⊥) → SiftsStore state form piece chunk made rows (Err (U.Refused R.Shape)) piece made rows
+  feed_shape n = unchanged (Err (U.Refused R.Shape)) (turned_by R.Shape) (fit_shape piece state.held counted room run n) refl refl refl refl
 
-  pub feed_held : 34 ≤ state.held → SiftsStore state form piece chunk made rows (S.Refused R.Shape) piece made rows
-  feed_held n = unchanged (S.Refused R.Shape) (turned_by R.Shape) (fit_held piece state.held counted room run n) refl refl refl refl
+  pub feed_held : 34 ≤ state.held → SiftsStore state form piece chunk made rows (Err (U.Refused R.Shape)) piece made rows
+  feed_held n = unchanged (Err (U.Refused R.Shape)) (turned_by R.Shape) (fit_held piece state.held counted room run n) refl refl refl refl
 
   module _ (size : length piece ≡ 34) (short : state.held < 34) where
     pub feed_many : ltb (state.loaded + state.refused + ends_store state chunk) (2 ^ 64) ≡ false
-        → SiftsStore state form piece chunk made rows S.Many piece made rows
-    feed_many n = unchanged S.Many many (fit_many piece state.held counted room run size short n) refl refl refl refl
+        → SiftsStore state form piece chunk made rows (Err U.Many) piece made rows
+    feed_many n = unchanged (Err U.Many) many (fit_many piece state.held counted room run size short n) refl refl refl refl
 
     module _ (counts : ltb (state.loaded + state.refused + ends_store state chunk) (2 ^ 64) ≡ true) where
-      too_full : room ≡ false → SiftsStore state form piece chunk made rows S.Full piece made rows
-      too_full e = unchanged S.Full full (fit_full piece state.held counted room run size short counts e) refl refl refl refl
+      too_full : room ≡ false → SiftsStore state form piece chunk made rows (Err U.Full) piece made rows
+      too_full e = unchanged (Err U.Full) full (fit_full piece state.held counted room run size short counts e) refl refl refl refl
 
-      pub feed_full : length made / room_of form < ends_store state chunk → SiftsStore state form piece chunk made rows S.Full piece made rows
+      pub feed_full : length made / room_of form < ends_store state chunk → SiftsStore state form piece chunk made rows (Err U.Full) piece made rows
       feed_full h =
           too_full
           (ap (λ (t : Bool). t && leb (32 * ends_store state chunk) (length rows))
           (lt-leb (room_of form * ends_store state chunk) (length made) (room_lacks (room_of form) (length made) (ends_store state chunk) (room_some form) h)))
 
-      pub feed_rows_full : length rows / 32 < ends_store state chunk → SiftsStore state form piece chunk made rows S.Full piece made rows
+      pub feed_rows_full : length rows / 32 < ends_store state chunk → SiftsStore state form piece chunk made rows (Err U.Full) piece made rows
       feed_rows_full h =
           too_full
           (and_false (leb (room_of form * ends_store state chunk) (length made)) (leb (32 * ends_store state chunk) (length rows))
@@ -104,17 +105,17 @@ module _ (state : StoreSoFar) (form : Form) (piece chunk made rows : List ℕ) w
               rowing = lines;
             }
 
-        pub feed_records : (r : StoreSifted) (piece' made' rows' : List ℕ) → TakesSiftedStore state form piece chunk made rows r piece' made' rows'
+        pub feed_records : (r : Result (StoreSoFar × ℕ × ℕ) Unwritten) (piece' made' rows' : List ℕ) → TakesSiftedStore state form piece chunk made rows r piece' made' rows'
             → SiftsStore state form piece chunk made rows r piece' made' rows'
         feed_records r piece' made' rows' t =
             let e : store_sift_of state form piece chunk made rows ≡ came run =
             fit_came piece state.held counted room run size short counts
             (ap₂ ◌&&◌ (le-leb (room_of form * ends_store state chunk) (length made) enough) (le-leb (32 * ends_store state chunk) (length rows) lines)) in
             record {
-              answer = ap store_sifted t.answer ∙ sym (ap store_sifted_by_value e);
+              answer = ap came_as t.answer ∙ sym (ap store_sifted_by_value e);
               kept = t.kept ∙ sym (ap (λ (a : Came (PiecesSoFar Sifting)). piece_sifted a piece) e);
               making = t.making ∙ sym (ap (λ (a : Came (PiecesSoFar Sifting)). written_of made 0 (sifting_out a).made) e);
               rowing = t.rowing ∙ sym (ap (λ (a : Came (PiecesSoFar Sifting)). written_of rows 0 (sifting_out a).rows) e);
-              made_within = subst (λ (q : StoreSifted). (store_sifted_bytes (store_sifted q)).0 ≤ length made) (sym t.answer) t.made_within;
-              rows_within = subst (λ (q : StoreSifted). (store_sifted_bytes (store_sifted q)).1 ≤ length rows) (sym t.answer) t.rows_within;
+              made_within = subst (λ (q : Result (StoreSoFar × ℕ × ℕ) Unwritten). (store_sifted_bytes (came_as q)).0 ≤ length made) (sym t.answer) t.made_within;
+              rows_within = subst (λ (q : Result (StoreSoFar × ℕ × ℕ) Unwritten). (store_sifted_bytes (came_as q)).1 ≤ length rows) (sym t.answer) t.rows_within;
             }

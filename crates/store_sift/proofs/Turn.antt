@@ -26,7 +26,7 @@ use Rattle.sift_feed.specs.Sifting.{Sifting}
 use Rattle.sift_feed.proofs.Turn.{Filling, fill_none, fill_same, fill_front, fill_more, fill_within, fill_size, fill_written, tally_loaded}
 use Rattle.sift_feed.proofs.Turn.{tally_refused, tally_either, sifting, sifting_same}
 use Rattle.store_sift.specs.Promises.{sift_piece, sifting_of, sift_store, store_so_far_in, ReadyToSiftStore, TakesSiftedStore}
-use Rattle.store_sift.specs.declared.StoreSifted.TheVariants as S
+use Rattle.std.specs.Prelude.{Ok}
 
 -- how many pieces end from here on
 abbrev pub more : List ℕ → ℕ → ℕ → ℕ
@@ -125,7 +125,7 @@ turn_none state form piece chunk made rows r =
 -- after the last
 pub turn_end : (state : StoreSoFar) (form : Form) (piece₀ chunk made₀ rows₀ piece made rows : List ℕ) (held loaded refused w v i : ℕ) → length chunk ≤ i
     → Turn form (sift_store (made_of form) state piece₀ chunk) chunk made₀ rows₀ piece made rows held loaded refused w v i
-    → TakesSiftedStore state form piece₀ chunk made₀ rows₀ (S.Records (record { held = held; loaded = loaded; refused = refused }) w v) piece made rows
+    → TakesSiftedStore state form piece₀ chunk made₀ rows₀ (Ok (record { held = held; loaded = loaded; refused = refused }, w, v)) piece made rows
 turn_end state form piece₀ chunk made₀ rows₀ piece made rows held loaded refused w v i h t =
     let run : PiecesSoFar Sifting = sift_store (made_of form) state piece₀ chunk in
     let m : run ≡ record { left = holding_piece piece held; kept = sifting loaded refused (take w made) (take v rows) } =
@@ -136,7 +136,7 @@ turn_end state form piece₀ chunk made₀ rows₀ piece made rows held loaded r
     let am : length run.kept.made ≡ w = ap (λ (x : PiecesSoFar Sifting). length x.kept.made) m ∙ a in
     let bm : length run.kept.rows ≡ v = ap (λ (x : PiecesSoFar Sifting). length x.kept.rows) m ∙ b in
     record {
-      answer = ap (λ (x : StoreSoFar). S.Records x w v) (sym (ap store_so_far_in m)) ∙ sym (ap₂ (S.Records (store_so_far_in run)) am bm);
+      answer = ap (λ (x : StoreSoFar). Ok (x, w, v)) (sym (ap store_so_far_in m)) ∙ sym (ap₂ (λ x y. Ok (store_so_far_in run, x, y)) am bm);
       kept = sym (ap (λ (x : PiecesSoFar Sifting). x.left.piece) m);
       making = fill_written (room_of form) many made₀ made w t.making ∙ sym (ap (λ (x : PiecesSoFar Sifting). written_of made₀ 0 x.kept.made) m);
       rowing = fill_written 32 many rows₀ rows v t.rowing ∙ sym (ap (λ (x : PiecesSoFar Sifting). written_of rows₀ 0 x.kept.rows) m);

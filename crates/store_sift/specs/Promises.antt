@@ -1,8 +1,8 @@
 -- A store sifted, as a consumer of the machine of pieces (store_cut/specs/Cut), and what `feed` promises, for all inputs. Definitions only.
-use Rattle.std.specs.Prelude.{◌≡◌, Bool, ◌&&◌, List, [], ℕ, ◌+◌, ◌*◌, ◌^◌, ◌≤◌, ◌<◌, leb, length}
+use Rattle.std.specs.Prelude.{◌≡◌, Bool, ◌&&◌, List, [], ℕ, ◌+◌, ◌*◌, ◌^◌, ◌≤◌, ◌<◌, leb, length, Result, Ok}
 use Rattle.text_out.specs.Text.{written_of}
 use Rattle.line_parse.specs.Line.{Line}
-use Rattle.ledger_feed.specs.Promises.{Came, turned, turned_by, many, full, came}
+use Rattle.ledger_feed.specs.Promises.{Came, turned, many, full, came, came_as}
 use Rattle.store_record.specs.Record.{piece_says}
 use Rattle.store_cut.specs.Cut.{PiecesSoFar, run_pieces}
 use Rattle.store_cut.specs.Promises.{holding_piece}
@@ -11,8 +11,7 @@ use Rattle.store_rows.specs.declared.StoreSoFar.{StoreSoFar}
 use Rattle.sift_form.specs.Forms.{room_of, made_of}
 use Rattle.sift_form.specs.declared.Form.{Form}
 use Rattle.sift_feed.specs.Sifting.{Sifting, sift_more}
-use Rattle.store_sift.specs.declared.StoreSifted.{StoreSifted}
-use Rattle.store_sift.specs.declared.StoreSifted.TheVariants as S
+use Rattle.ledger_feed.specs.declared.Unwritten.{Unwritten}
 
 -- ---- the machine: what a piece does to what is kept, by whatever is made of a loaded record
 abbrev pub sift_piece : (Line → List ℕ) → Sifting → List ℕ → Sifting
@@ -37,13 +36,6 @@ abbrev pub store_sift_of : StoreSoFar → Form → List ℕ → List ℕ → Lis
 store_sift_of state form piece chunk made rows =
     fit_store piece state.held (state.loaded + state.refused + ends_store state chunk) (store_sift_room form state chunk made rows)
     (sift_store (made_of form) state piece chunk)
-
--- the code's answer on the paper: the state, and how many bytes were written into each buffer
-abbrev pub store_sifted : StoreSifted → Came (StoreSoFar × ℕ × ℕ)
-store_sifted (S.Records state made rows) = came (state, made, rows)
-store_sifted S.Full = full
-store_sifted S.Many = many
-store_sifted (S.Refused r) = turned_by r
 
 abbrev pub store_sifted_by_value : Came (PiecesSoFar Sifting) → Came (StoreSoFar × ℕ × ℕ)
 store_sifted_by_value (came r) = came (store_so_far_in r, length r.kept.made, length r.kept.rows)
@@ -71,14 +63,14 @@ store_sifted_bytes (turned n l) = (0, 0)
 store_sifted_bytes many = (0, 0)
 store_sifted_bytes full = (0, 0)
 
-pub record SiftsStore (state : StoreSoFar) (form : Form) (piece chunk made rows : List ℕ) (r : StoreSifted) (piece' made' rows' : List ℕ) : Type 0 where
-  pub answer : store_sifted r ≡ store_sifted_by_value (store_sift_of state form piece chunk made rows)
+pub record SiftsStore (state : StoreSoFar) (form : Form) (piece chunk made rows : List ℕ) (r : Result (StoreSoFar × ℕ × ℕ) Unwritten) (piece' made' rows' : List ℕ) : Type 0 where
+  pub answer : came_as r ≡ store_sifted_by_value (store_sift_of state form piece chunk made rows)
   pub kept : piece' ≡ piece_sifted (store_sift_of state form piece chunk made rows) piece
   pub making : made' ≡ written_of made 0 (sifting_out (store_sift_of state form piece chunk made rows)).made
   pub rowing : rows' ≡ written_of rows 0 (sifting_out (store_sift_of state form piece chunk made rows)).rows
   -- follow from the others, for who takes the bytes out
-  pub made_within : (store_sifted_bytes (store_sifted r)).0 ≤ length made
-  pub rows_within : (store_sifted_bytes (store_sifted r)).1 ≤ length rows
+  pub made_within : (store_sifted_bytes (came_as r)).0 ≤ length made
+  pub rows_within : (store_sifted_bytes (came_as r)).1 ≤ length rows
 
 -- ---- a private function: a chunk whose pieces have room, and what was taken
 pub record ReadyToSiftStore (state : StoreSoFar) (form : Form) (piece chunk made rows : List ℕ) : Type 0 where
@@ -88,10 +80,13 @@ pub record ReadyToSiftStore (state : StoreSoFar) (form : Form) (piece chunk made
   pub making : room_of form * ends_store state chunk ≤ length made
   pub rowing : 32 * ends_store state chunk ≤ length rows
 
-pub record TakesSiftedStore (state : StoreSoFar) (form : Form) (piece chunk made rows : List ℕ) (r : StoreSifted) (piece' made' rows' : List ℕ) : Type 0 where
+pub record TakesSiftedStore (state : StoreSoFar) (form : Form) (piece chunk made rows : List ℕ) (r : Result (StoreSoFar × ℕ × ℕ) Unwritten) (piece' made' rows' : List ℕ) : Type 0 where
   pub answer : r
-      ≡ S.Records (store_so_far_in (sift_store (made_of form) state piece chunk)) (length (sift_store (made_of form) state piece chunk).kept.made)
-      (length (sift_store (made_of form) state piece chunk).kept.rows)
+      ≡ Ok (
+        store_so_far_in (sift_store (made_of form) state piece chunk),
+        length (sift_store (made_of form) state piece chunk).kept.made,
+        length (sift_store (made_of form) state piece chunk).kept.rows,
+      )
   pub kept : piece' ≡ (sift_store (made_of form) state piece chunk).left.piece
   pub making : made' ≡ written_of made 0 (sift_store (made_of form) state piece chunk).kept.made
   pub rowing : rows' ≡ written_of rows 0 (sift_store (made_of form) state piece chunk).kept.rows

@@ -6,6 +6,7 @@ ghost use Rattle.sift_close.specs.Ended.{ClosesSaid};
 ghost use Rattle.store_record.specs.Record.{piece_says};
 ghost use Rattle.store_sift.specs.Promises.{SiftsStore, ReadyToSiftStore, TakesSiftedStore};
 
+use ledger_feed::Unwritten;
 use refusal::Refusal;
 use sift_close::Closed;
 use sift_form::Form;
@@ -14,16 +15,6 @@ use store_rows::StoreSoFar;
 
 // The room that a row takes at most.
 const ROW: usize = 32;
-
-// The state after a chunk, and how many bytes were made and how many bytes of rows written; or why nothing has changed: too little room, counts
-// that would pass 64 bits, or a piece buffer that has not 34 bytes or would hold a whole piece.
-#[derive(Clone, Copy)]
-pub enum StoreSifted {
-    Records(StoreSoFar, usize, usize),
-    Full,
-    Many,
-    Refused(Refusal),
-}
 
 // A piece that ended: what its record says decides.
 fn close(
@@ -56,7 +47,7 @@ fn take(
     chunk: &[u8],
     made: &mut [u8],
     rows: &mut [u8],
-) -> StoreSifted
+) -> Result<(StoreSoFar, usize, usize), Unwritten>
     requires { ReadyToSiftStore state form piece.old chunk.now made.old rows.old }
     ensures { TakesSiftedStore state form piece.old chunk.now made.old rows.old result piece.new made.new rows.new }
 {
@@ -92,10 +83,12 @@ fn take(
         loaded,
         refused,
     };
-    StoreSifted::Records(after, made_end, rows_end)
+    Ok((after, made_end, rows_end))
 }
 
-// Takes a chunk of any size. Each piece that ends in it needs the room of its form, and 32 bytes for a row.
+// Takes a chunk of any size. The state after it, how many bytes were made and how many bytes of rows written; or why nothing has changed: a piece buffer
+// that has not 34 bytes or would hold a whole piece, counts that would pass 64 bits, less room than each piece that ends in it needs for its form, and
+// 32 bytes for its row.
 pub fn feed(
     state: StoreSoFar,
     form: Form,
@@ -103,24 +96,24 @@ pub fn feed(
     chunk: &[u8],
     made: &mut [u8],
     rows: &mut [u8],
-) -> StoreSifted
+) -> Result<(StoreSoFar, usize, usize), Unwritten>
     ensures { SiftsStore state form piece.old chunk.now made.old rows.old result piece.new made.new rows.new }
 {
     if piece.len() != RECORD {
-        return StoreSifted::Refused(Refusal::Shape);
+        return Err(Unwritten::Refused(Refusal::Shape));
     }
     if state.held >= RECORD {
-        return StoreSifted::Refused(Refusal::Shape);
+        return Err(Unwritten::Refused(Refusal::Shape));
     }
     let ends = store_cut::ends(state.held, chunk.len());
     if !ledger_feed::countable(state.loaded, state.refused, ends) {
-        return StoreSifted::Many;
+        return Err(Unwritten::Many);
     }
     if made.len() / sift_form::room(form) < ends {
-        return StoreSifted::Full;
+        return Err(Unwritten::Full);
     }
     if rows.len() / ROW < ends {
-        return StoreSifted::Full;
+        return Err(Unwritten::Full);
     }
     take(state, form, piece, chunk, made, rows)
 }

@@ -1,13 +1,13 @@
 -- What each function promises, for all inputs (document 02, W-214). Definitions only.
-use Rattle.std.specs.Prelude.{◌≡◌, List, ◌++◌, ℕ, ◌+◌, ◌*◌, ◌/◌, ◌%◌, ◌<◌, eqb, ltb, length, get_or, take, drop, replicate}
-use Rattle.refusal.specs.Answer.{Answer, given, refused, or_refuse}
+use Rattle.std.specs.Prelude.{◌≡◌, List, ◌++◌, ℕ, ◌+◌, ◌*◌, ◌/◌, ◌%◌, ◌<◌, eqb, ltb, length, get_or, take, drop, replicate, Result}
+use Rattle.refusal.specs.Answer.{Answer, given, refused, or_refuse, answered}
 use Rattle.refusal.specs.declared.Refusal.TheVariants as R
 use Rattle.position.specs.declared.State.{State}
 use Rattle.store_record.specs.Record.{record_at, stored_says}
-use Rattle.store_record.specs.Promises.{WritesRecord, store_of, stored_paper}
-use Rattle.store_record.specs.declared.Stored.{Stored}
+use Rattle.store_record.specs.Promises.{WritesRecord, store_of}
 use Rattle.store_counts.specs.Summary.{summary_more, summary_less}
 use Rattle.store_summary.specs.declared.Prepared.{Prepared}
+use Rattle.refusal.specs.declared.Refusal.{Refusal}
 
 -- a store's run and "a summary beside it"
 pub record Store : Type 0 where
@@ -68,16 +68,16 @@ abbrev pub store_after : Answer Store → Store → Store
 store_after (given s) old = s
 store_after (refused n v) old = old
 
-pub record KeepsStore (a : Answer Store) (s : Store) (r : Stored) (run' summary' : List ℕ) : Type 0 where
-  pub answer : stored_paper r ≡ is_kept a
+pub record KeepsStore (a : Answer Store) (s : Store) (r : Result Unit Refusal) (run' summary' : List ℕ) : Type 0 where
+  pub answer : answered r ≡ is_kept a
   pub run : run' ≡ (store_after a s).run
   pub summary : summary' ≡ (store_after a s).summary
 
-abbrev pub AddsRecord : List ℕ → List ℕ → State → ℕ → List ℕ → List ℕ → Stored → List ℕ → List ℕ → Type 0
+abbrev pub AddsRecord : List ℕ → List ℕ → State → ℕ → List ℕ → List ℕ → Result Unit Refusal → List ℕ → List ℕ → Type 0
 AddsRecord bitboards board state half run summary r run' summary' =
     KeepsStore (add_of bitboards board state half (beside run summary)) (beside run summary) r run' summary'
 
-abbrev pub ReplacesRecord : List ℕ → List ℕ → State → ℕ → ℕ → List ℕ → List ℕ → Stored → List ℕ → List ℕ → Type 0
+abbrev pub ReplacesRecord : List ℕ → List ℕ → State → ℕ → ℕ → List ℕ → List ℕ → Result Unit Refusal → List ℕ → List ℕ → Type 0
 ReplacesRecord bitboards board state half number run summary r run' summary' =
     KeepsStore (replace_of bitboards board state half number (beside run summary)) (beside run summary) r run' summary'
 

@@ -3,11 +3,9 @@
 
 ghost use Rattle.store_summary.specs.Promises.{AddsRecord, ReplacesRecord, Prepares, HasPlace, Keeps, TakesOff};
 
-use line_parse::Read;
 use position::State;
 use refusal::Refusal;
 use store_counts::{RECORDS, SUMMARY};
-use store_record::Stored;
 use store_record::inner::RECORD;
 
 // As many records as a store may have.
@@ -35,7 +33,7 @@ fn take_off(run: &[u8], summary: &mut [u64], number: u64)
 // A record in a place of its own, or why there is none.
 #[derive(Clone, Copy)]
 struct Prepared {
-    answer: Stored,
+    answer: Result<(), Refusal>,
     bytes: [u8; RECORD],
 }
 
@@ -56,30 +54,27 @@ pub fn add_record(
     half: u8,
     run: &mut [u8],
     summary: &mut [u64],
-) -> Stored
+) -> Result<(), Refusal>
     ensures { AddsRecord bitboards.now board.now state half run.old summary.old result run.new summary.new }
 {
     if summary.len() != SUMMARY {
-        return Stored::Refused(Refusal::Shape);
+        return Err(Refusal::Shape);
     }
     let prepared = prepare(bitboards, board, state, half);
-    let answer = prepared.answer;
-    if let Stored::Refused(refusal) = answer {
-        return Stored::Refused(refusal);
-    }
+    prepared.answer?;
     if run.len() % RECORD != 0 {
-        return Stored::Refused(Refusal::Length);
+        return Err(Refusal::Length);
     }
     let records = summary[RECORDS];
     if records >= MOST {
-        return Stored::Refused(Refusal::Many);
+        return Err(Refusal::Many);
     }
     if records >= (run.len() / RECORD) as u64 {
-        return Stored::Refused(Refusal::Room);
+        return Err(Refusal::Room);
     }
     let bytes = prepared.bytes;
     keep(run, summary, records, &bytes);
-    Stored::Done
+    Ok(())
 }
 
 // SHAPE of the summary, the position's tests, RESULT, what reading the old record calls for, ABSENT of the summary; then the old record is
@@ -92,26 +87,20 @@ pub fn replace_record(
     number: u64,
     run: &mut [u8],
     summary: &mut [u64],
-) -> Stored
+) -> Result<(), Refusal>
     ensures { ReplacesRecord bitboards.now board.now state half number run.old summary.old result run.new summary.new }
 {
     if summary.len() != SUMMARY {
-        return Stored::Refused(Refusal::Shape);
+        return Err(Refusal::Shape);
     }
     let prepared = prepare(bitboards, board, state, half);
-    let answer = prepared.answer;
-    if let Stored::Refused(refusal) = answer {
-        return Stored::Refused(refusal);
-    }
-    let old = store_record::inner::read_at(run, number).answer;
-    if let Read::Refused(refusal) = old {
-        return Stored::Refused(refusal);
-    }
+    prepared.answer?;
+    store_record::inner::read_at(run, number).answer?;
     if number >= summary[RECORDS] {
-        return Stored::Refused(Refusal::Absent);
+        return Err(Refusal::Absent);
     }
     take_off(run, summary, number);
     let bytes = prepared.bytes;
     keep(run, summary, number, &bytes);
-    Stored::Done
+    Ok(())
 }

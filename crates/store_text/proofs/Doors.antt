@@ -8,6 +8,7 @@ use Rattle.text_out.proofs.Added.{adds_to}
 use Rattle.ledger_row.specs.Row.{refused_row}
 use Rattle.ledger_row.proofs.Fits.{fits_refused}
 use Rattle.store_gather.specs.declared.First.{First}
+use Rattle.std.specs.Prelude.{Ok, Err}
 use Rattle.store_text.specs.Page.{page_of}
 use Rattle.store_text.specs.Promises.{is_whole, shown_text, show_of, shown_length, shown_buffer, ShowsSummary}
 use Rattle.store_text.specs.declared.Form.{Form}
@@ -22,14 +23,14 @@ module _ (form : Form) (first : First) (summary out : List ℕ) where
   unfolding by
   tests x y p q = sym (ap₂ by p q)
 
-  pub no_summary : (length summary ≡ 770 → ⊥) → ShowsSummary form first summary out (S.Refused R.Shape) out
+  pub no_summary : (length summary ≡ 770 → ⊥) → ShowsSummary form first summary out (Err R.Shape) out
   unfolding by
   no_summary n =
       let e : refusal_of R.Shape ≡ show_of form first summary out = tests false (leb 262144 (length out)) (ne_eqb (length summary) 770 n) refl in
       record { answer = ap (shown_length (is_whole first)) e; text = ap (λ (a : Answer (List ℕ)). shown_buffer a out) e; within = omega arith }
 
   module _ (numbers : length summary ≡ 770) where
-    pub no_room : length out < 262144 → ShowsSummary form first summary out (S.Refused R.Room) out
+    pub no_room : length out < 262144 → ShowsSummary form first summary out (Err R.Room) out
     unfolding by
     no_room h =
         let e : refusal_of R.Room ≡ show_of form first summary out = tests true false (eq-eqb (length summary) 770 numbers) (lt-leb 262144 (length out) h) in
@@ -41,7 +42,7 @@ module _ (form : Form) (first : First) (summary out : List ℕ) where
       given_text = tests true true (eq-eqb (length summary) 770 numbers) (le-leb 262144 (length out) room)
 
       pub row_shown : (first.number ≡ 0 → ⊥) → (n : ℕ) (out' : List ℕ) → Adds out 0 (refused_row first.number first.refusal) out' n
-          → ShowsSummary form first summary out (S.Row n) out'
+          → ShowsSummary form first summary out (Ok (S.Row n)) out'
       row_shown some n out' a =
           let t : List ℕ = refused_row first.number first.refusal in
           let w : is_whole first ≡ false = ne_eqb first.number 0 some in
@@ -56,7 +57,7 @@ module _ (form : Form) (first : First) (summary out : List ℕ) where
           }
 
       pub page_shown : first.number ≡ 0 → (n : ℕ) (out' : List ℕ) → Adds out 0 (page_of form summary) out' n
-          → ShowsSummary form first summary out (S.Page n) out'
+          → ShowsSummary form first summary out (Ok (S.Page n)) out'
       page_shown none n out' a =
           let t : List ℕ = page_of form summary in
           let w : is_whole first ≡ true = eq-eqb first.number 0 none in

@@ -1,7 +1,8 @@
 -- What the function promises, for all inputs, and what its private ones ask for. Definitions only.
-use Rattle.std.specs.Prelude.{◌≡◌, ℕ, ◌+◌, ◌<◌, ◌≤◌, Bool, true, false, cond, List, length, ◌==◌, nat_le, nat_lt}
+use Rattle.std.specs.Prelude.{◌≡◌, ℕ, ◌+◌, ◌<◌, ◌≤◌, Bool, true, false, cond, List, length, ◌==◌, nat_le, nat_lt, Result}
 use Rattle.laws.specs.Tests.{same}
-use Rattle.refusal.specs.Answer.{Answer, given, refused, refusal_of, or_refuse}
+use Rattle.refusal.specs.Answer.{Answer, given, refused, or_refuse, answered_by}
+use Rattle.refusal.specs.declared.Refusal.{Refusal}
 use Rattle.refusal.specs.declared.Refusal.TheVariants as R
 use Rattle.text_in.specs.Text.{text}
 use Rattle.text_out.specs.Text.{written_of}
@@ -31,10 +32,12 @@ show_of form first summary out =
     or_refuse (length summary == 770) R.Shape (or_refuse (nat_le 262144 (length out)) R.Room (given (shown_text form first summary)))
 
 -- the answer: whether it is the summary's text, and how many bytes were written
-abbrev pub shown_paper : Shown → Answer (Bool × ℕ)
-shown_paper (S.Page n) = given (true, n)
-shown_paper (S.Row n) = given (false, n)
-shown_paper (S.Refused r) = refusal_of r
+abbrev pub shown_as : Shown → Bool × ℕ
+shown_as (S.Page n) = (true, n)
+shown_as (S.Row n) = (false, n)
+
+abbrev pub shown_paper : Result Shown Refusal → Answer (Bool × ℕ)
+shown_paper = answered_by shown_as
 
 abbrev pub shown_length : Bool → Answer (List ℕ) → Answer (Bool × ℕ)
 shown_length page (given t) = given (page, length t)
@@ -50,7 +53,7 @@ abbrev pub shown_count : Answer (Bool × ℕ) → ℕ
 shown_count (given p) = p.1
 shown_count (refused n beside) = 0
 
-pub record ShowsSummary (form : Form) (first : First) (summary out : List ℕ) (r : Shown) (out' : List ℕ) : Type 0 where
+pub record ShowsSummary (form : Form) (first : First) (summary out : List ℕ) (r : Result Shown Refusal) (out' : List ℕ) : Type 0 where
   pub answer : shown_paper r ≡ shown_length (is_whole first) (show_of form first summary out)
   pub text : out' ≡ shown_buffer (show_of form first summary out) out
   -- follows from the others, for who takes the text out

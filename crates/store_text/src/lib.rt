@@ -24,12 +24,11 @@ pub enum Form {
     Picture,
 }
 
-// So many bytes of the summary's text, or of the row of a record that is refused; or why nothing is written.
+// So many bytes of the summary's text, or of the row of a record that is refused.
 #[derive(Clone, Copy)]
 pub enum Shown {
     Page(usize),
     Row(usize),
-    Refused(Refusal),
 }
 
 // The store on standard input, or in the file that an argument names; or more arguments than one store has.
@@ -84,17 +83,17 @@ fn write_row(first: First, out: &mut [u8]) -> usize
 }
 
 // SHAPE, ROOM. What is shown is written at the front of a lent buffer.
-pub fn show(form: Form, first: First, summary: &[u64], out: &mut [u8]) -> Shown
+pub fn show(form: Form, first: First, summary: &[u64], out: &mut [u8]) -> Result<Shown, Refusal>
     ensures { ShowsSummary form first summary.now out.old result out.new }
 {
     if summary.len() != SUMMARY {
-        return Shown::Refused(Refusal::Shape);
+        return Err(Refusal::Shape);
     }
     if out.len() < ROOM {
-        return Shown::Refused(Refusal::Room);
+        return Err(Refusal::Room);
     }
     if first.number != 0 {
-        return Shown::Row(write_row(first, out));
+        return Ok(Shown::Row(write_row(first, out)));
     }
-    Shown::Page(page::page(form, summary, out))
+    Ok(Shown::Page(page::page(form, summary, out)))
 }

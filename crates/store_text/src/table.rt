@@ -18,7 +18,7 @@ pub(crate) fn width(most: u64) -> usize
     ensures { result ≡ width_of most }
 {
     let mut digits = [0u8; DIGITS];
-    text_out::decimal(&mut digits, 0, most).or(0)
+    text_out::decimal(&mut digits, 0, most).unwrap_or(0)
 }
 
 // The spaces before a word of so many bytes, one at least.
@@ -52,7 +52,7 @@ pub(crate) fn count(out: &mut [u8], at: usize, n: u64, width: usize) -> usize
         return column(out, at, b".", width);
     }
     let mut digits = [0u8; DIGITS];
-    let k = text_out::decimal(&mut digits, 0, n).or(0);
+    let k = text_out::decimal(&mut digits, 0, n).unwrap_or(0);
     column(out, at, &digits[..k], width)
 }
 

@@ -8,13 +8,13 @@ ghost use Rattle.store_text.specs.Picture.{numbered};
 pub(crate) fn put(out: &mut [u8], at: usize, s: &[u8]) -> usize
     ensures { Adds out.old at s.now out.new result }
 {
-    text_out::put(out, at, s).or(at)
+    text_out::put(out, at, s).unwrap_or(at)
 }
 
 pub(crate) fn number(out: &mut [u8], at: usize, n: u64) -> usize
     ensures { Adds out.old at (decimal_of n) out.new result }
 {
-    text_out::decimal(out, at, n).or(at)
+    text_out::decimal(out, at, n).unwrap_or(at)
 }
 
 // A number and the space after it.

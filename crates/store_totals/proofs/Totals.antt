@@ -18,16 +18,17 @@ use Rattle.position.proofs.Doors.{through}
 use Rattle.line_parse.specs.Line.{Line}
 use Rattle.store_record.specs.Record.{record_of, code_in, half_in, record_at, stored_says}
 use Rattle.store_record.specs.Promises.{store_of}
-use Rattle.store_record.specs.declared.Stored.{Stored}
 use Rattle.store_record.proofs.Records.{record_34, record_half}
 use Rattle.store_counts.specs.Summary.{count_place, counted_code, counted_square, record_brings, summary_afresh, summary_more, summary_less}
 use Rattle.store_summary.specs.Promises.{Store, records_in, with_record, if_given, blank, with_new, add_new, add_of, replace_old, replace_of, KeepsStore}
 use Rattle.store_totals.specs.Totals.{SummaryCall, adding, replacing, Calls, empty_summary, pieces_in, FromEmpty}
 use Rattle.store_totals.proofs.Kept.{KeptAfresh, brought, summary_at, records_are, kept_none, kept_added, kept_replaced}
+use Rattle.std.specs.Prelude.{Result}
+use Rattle.refusal.specs.declared.Refusal.{Refusal}
 
 -- ---- a call
 -- what a call leaves, where what it gives keeps what it was given
-keep_call : (a : Answer Store) (b : Store) (r : Stored) (run' summary' : List ℕ) → KeepsStore a b r run' summary'
+keep_call : (a : Answer Store) (b : Store) (r : Result Unit Refusal) (run' summary' : List ℕ) → KeepsStore a b r run' summary'
     → KeptAfresh b.run b.summary → ((c : Store) → a ≡ given c → KeptAfresh c.run c.summary) → KeptAfresh run' summary'
 keep_call (given c) b r run' summary' q k f = subst₂ KeptAfresh (sym q.run) (sym q.summary) (f c refl)
 keep_call (refused n v) b r run' summary' q k f = subst₂ KeptAfresh (sym q.run) (sym q.summary) k

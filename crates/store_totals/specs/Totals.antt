@@ -1,17 +1,17 @@
 -- What is claimed of a summary (document 02, W-214), about what `add_record` and `replace_record` promise. Definitions only.
-use Rattle.std.specs.Prelude.{◌≡◌, List, [], ◌∷◌, ℕ, ◌≤◌, eqb, get_or, replicate}
+use Rattle.std.specs.Prelude.{◌≡◌, List, [], ◌∷◌, ℕ, ◌≤◌, eqb, get_or, replicate, Result}
 use Rattle.laws.specs.Sums.{sum_n}
 use Rattle.bits.specs.Bitboard.{how_many}
 use Rattle.position.specs.declared.State.{State}
 use Rattle.store_record.specs.Record.{code_in, record_at}
-use Rattle.store_record.specs.declared.Stored.{Stored}
 use Rattle.store_counts.specs.Summary.{count_place, summary_afresh}
 use Rattle.store_summary.specs.Promises.{AddsRecord, ReplacesRecord, records_in}
+use Rattle.refusal.specs.declared.Refusal.{Refusal}
 
 -- a call: what it was lent beside the store and the summary, what it answered, and what it left
 pub data SummaryCall : Type 0 where
-  adding : List ℕ → List ℕ → State → ℕ → Stored → List ℕ → List ℕ → SummaryCall
-  replacing : List ℕ → List ℕ → State → ℕ → ℕ → Stored → List ℕ → List ℕ → SummaryCall
+  adding : List ℕ → List ℕ → State → ℕ → Result Unit Refusal → List ℕ → List ℕ → SummaryCall
+  replacing : List ℕ → List ℕ → State → ℕ → ℕ → Result Unit Refusal → List ℕ → List ℕ → SummaryCall
 
 -- "over any calls": each does what it promises, from what the call before it left; refused ones too
 unfoldable pub Calls : List ℕ → List ℕ → List SummaryCall → List ℕ → List ℕ → Type 0

@@ -16,10 +16,9 @@ use Rattle.line_cut.specs.Lines.{fold_lines}
 use Rattle.ledger_row.specs.Row.{row_of, is_loaded}
 use Rattle.ledger_totals.specs.Totals.{last_row}
 use Rattle.ledger_feed.specs.Machine.{Kept, no_rows, with_totals, row_more, tally}
-use Rattle.ledger_feed.specs.Promises.{Came, came}
+use Rattle.ledger_feed.specs.Promises.{Came, came, came_as}
 use Rattle.ledger_feed.proofs.Counted.{tally_both}
 use Rattle.ledger_finish.specs.Promises.{unfinished, length_of, last_text}
-use Rattle.ledger_finish.specs.declared.Finished.{Finished}
 use Rattle.ledger_whole.specs.Calls.{Last, last_rows_of}
 use Rattle.ledger_whole.proofs.Cut.{shift, taken, last_of_holds}
 use Rattle.store_record.specs.Record.{record_says, piece_says}
@@ -29,16 +28,17 @@ use Rattle.store_cut.specs.Promises.{holding_piece}
 use Rattle.store_cut.proofs.Machine.{pieces_append, left_piece, told_beside, pieces_told}
 use Rattle.store_cut.proofs.Folded.{folded_pieces}
 use Rattle.store_rows.specs.Rows.{ledger_by}
-use Rattle.store_rows.specs.Promises.{row_piece, store_counts, run_store, ends_store, store_feed_of, store_fed_paper, so_far_of, store_by_value, piece_after}
+use Rattle.store_rows.specs.Promises.{row_piece, store_counts, run_store, ends_store, store_feed_of, so_far_of, store_by_value, piece_after}
 use Rattle.store_rows.specs.Promises.{store_text, store_wrote, FeedsStore}
 use Rattle.store_rows.specs.declared.StoreSoFar.{StoreSoFar}
-use Rattle.store_rows.specs.declared.StoreFed.{StoreFed}
-use Rattle.store_rows.specs.declared.StoreFed.TheVariants as F
 use Rattle.store_rows.proofs.Doors.{fit_came}
 use Rattle.store_finish.specs.Promises.{store_finished, last_pieces, store_finish_of, FinishesStore}
 use Rattle.store_finish.proofs.Doors.{finished_116, by_tests}
 use Rattle.store_whole.specs.Calls.{StoreCall, store_next, store_rows_of, StoreCallsMade, all_stored, store_input, RoomyStore, fresh_store}
 use Rattle.store_whole.specs.Whole.{WholeStore}
+use Rattle.std.specs.Prelude.{Result, Ok, Err}
+use Rattle.ledger_feed.specs.declared.Unwritten.TheVariants as U
+use Rattle.ledger_feed.specs.declared.Unwritten.{Unwritten}
 
 -- what the machine writes at the end of the input
 abbrev finished_of : PiecesSoFar Kept → List ℕ
@@ -147,21 +147,21 @@ at_end_holds state piece h =
     (short_piece piece state.held h))
 
 -- ---- a call with room
-rows_of_holds : (r : StoreFed) (state : StoreSoFar) (n : ℕ) → store_fed_paper r ≡ came (state, n) → r ≡ F.Rows state n
-rows_of_holds (F.Rows s k) state n e =
+rows_of_holds : (r : Result (StoreSoFar × ℕ) Unwritten) (state : StoreSoFar) (n : ℕ) → came_as r ≡ came (state, n) → r ≡ Ok (state, n)
+rows_of_holds (Ok (s, k)) state n e =
     let both : ◌≡◌ {A = StoreSoFar × ℕ} (s, k) (state, n) = cc in
-    ap₂ F.Rows (ap (λ (p : StoreSoFar × ℕ). p.0) both) (ap (λ (p : StoreSoFar × ℕ). p.1) both)
-rows_of_holds F.Full state n e = absurd (let z : ◌≡◌ {A = ℕ} 0 1 = cc in omega arith)
-rows_of_holds F.Many state n e = absurd (let z : ◌≡◌ {A = ℕ} 0 1 = cc in omega arith)
-rows_of_holds (F.Refused q) state n e = absurd (let z : ◌≡◌ {A = ℕ} 0 1 = cc in omega arith)
+    ap₂ (λ x n. Ok (x, n)) (ap (λ (p : StoreSoFar × ℕ). p.0) both) (ap (λ (p : StoreSoFar × ℕ). p.1) both)
+rows_of_holds (Err U.Full) state n e = absurd (let z : ◌≡◌ {A = ℕ} 0 1 = cc in omega arith)
+rows_of_holds (Err U.Many) state n e = absurd (let z : ◌≡◌ {A = ℕ} 0 1 = cc in omega arith)
+rows_of_holds (Err (U.Refused q)) state n e = absurd (let z : ◌≡◌ {A = ℕ} 0 1 = cc in omega arith)
 
 -- what a call hands on
-record Given (m : PiecesSoFar Kept) (r : StoreFed) (piece' out' : List ℕ) : Type 0 where
-  answer : r ≡ F.Rows (so_far_of m) (length m.kept.text)
+record Given (m : PiecesSoFar Kept) (r : Result (StoreSoFar × ℕ) Unwritten) (piece' out' : List ℕ) : Type 0 where
+  answer : r ≡ Ok (so_far_of m, (length m.kept.text))
   kept : piece' ≡ m.left.piece
   rows : store_rows_of r out' ≡ m.kept.text
 
-feed_given : (state : StoreSoFar) (piece chunk out : List ℕ) (r : StoreFed) (piece' out' : List ℕ) → FeedsStore state piece chunk out r piece' out'
+feed_given : (state : StoreSoFar) (piece chunk out : List ℕ) (r : Result (StoreSoFar × ℕ) Unwritten) (piece' out' : List ℕ) → FeedsStore state piece chunk out r piece' out'
     → length piece ≡ 34 → state.held < 34 → state.loaded + state.refused + ends_store state chunk < 2 ^ 64 → 32 * ends_store state chunk ≤ length out
     → Given (run_store state piece chunk) r piece' out'
 feed_given state piece chunk out r piece' out' f size short counts room =
@@ -169,17 +169,17 @@ feed_given state piece chunk out r piece' out' f size short counts room =
     let e : store_feed_of state piece chunk out ≡ came m =
     fit_came piece state.held (state.loaded + state.refused + ends_store state chunk) (leb (32 * ends_store state chunk) (length out)) m size short
     (lt-ltb (state.loaded + state.refused + ends_store state chunk) (2 ^ 64) counts) (le-leb (32 * ends_store state chunk) (length out) room) in
-    let a : r ≡ F.Rows (so_far_of m) (length m.kept.text) = rows_of_holds r (so_far_of m) (length m.kept.text) (f.answer ∙ ap store_by_value e) in
-    let h : length m.kept.text ≤ length out = subst (λ (q : StoreFed). store_wrote (store_fed_paper q) ≤ length out) a f.within in
+    let a : r ≡ Ok (so_far_of m, (length m.kept.text)) = rows_of_holds r (so_far_of m) (length m.kept.text) (f.answer ∙ ap store_by_value e) in
+    let h : length m.kept.text ≤ length out = subst (λ (q : Result (StoreSoFar × ℕ) Unwritten). store_wrote (came_as q) ≤ length out) a f.within in
     record {
       answer = a;
       kept = f.kept ∙ ap (λ (x : Came (PiecesSoFar Kept)). piece_after x piece) e;
       rows =
-          ap (λ (q : StoreFed). store_rows_of q out') a
+          ap (λ (q : Result (StoreSoFar × ℕ) Unwritten). store_rows_of q out') a
           ∙ taken out out' m.kept.text (f.rows ∙ ap (λ (x : Came (PiecesSoFar Kept)). written_of out 0 (store_text x)) e) h;
     }
 
-finish_given : (state : StoreSoFar) (out : List ℕ) (r : Finished) (out' : List ℕ) → FinishesStore state out r out' → state.held < 34
+finish_given : (state : StoreSoFar) (out : List ℕ) (r : Result ℕ Unwritten) (out' : List ℕ) → FinishesStore state out r out' → state.held < 34
     → last_pieces state < 2 ^ 64 → 116 ≤ length out
     → last_rows_of r out' ≡ store_finished state
 finish_given state out r out' f short counts room =
@@ -188,7 +188,7 @@ finish_given state out r out' f short counts room =
     let e : store_finish_of state out ≡ came t =
     by_tests state out true true true (lt-ltb state.held 34 short) (lt-ltb (last_pieces state) (2 ^ 64) counts)
     (le-leb (0 + length t) (length out) (omega arith)) in
-    ap (λ (q : Finished). last_rows_of q out') (last_of_holds r (length t) (f.answer ∙ ap length_of e))
+    ap (λ (q : Result ℕ Unwritten). last_rows_of q out') (last_of_holds r (length t) (f.answer ∙ ap length_of e))
     ∙ taken out out' t (f.rows ∙ ap (λ (x : Came (List ℕ)). written_of out 0 (last_text x)) e) (omega arith)
 
 -- ---- all calls
@@ -222,7 +222,7 @@ all state piece (c ∷ cs) last size short room counts made =
     (enough state.held (length c.chunk) (length c.out) short room.0) in
     let rest : StoreCallsMade (so_far_of m) m.left.piece cs last =
     subst (λ (p : List ℕ). StoreCallsMade (so_far_of m) p cs last) g.kept
-    (subst (λ (r : StoreFed). StoreCallsMade (store_next r state) c.piece' cs last) g.answer made.1) in
+    (subst (λ (r : Result (StoreSoFar × ℕ) Unwritten). StoreCallsMade (store_next r state) c.piece' cs last) g.answer made.1) in
     ap₂ ◌++◌ g.rows
     (all (so_far_of m) m.left.piece cs last (l.size ∙ size) l.short room.1 (subst (λ (n : ℕ). n < 2 ^ 64) (ap pieces_in cut) counts) rest)
     ∙ sym (finished_shifted m.kept.text (run_store (so_far_of m) m.left.piece s)) ∙ sym (ap finished_of cut)

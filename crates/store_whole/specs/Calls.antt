@@ -1,32 +1,32 @@
 -- The rows of a store made by calls: a chunk and a buffer for each call of `feed`, and a buffer for the call of `finish`. Definitions only.
-use Rattle.std.specs.Prelude.{List, [], ◌∷◌, ◌++◌, ℕ, ◌+◌, ◌*◌, ◌/◌, ◌≤◌, length, take}
+use Rattle.std.specs.Prelude.{List, [], ◌∷◌, ◌++◌, ℕ, ◌+◌, ◌*◌, ◌/◌, ◌≤◌, length, take, Result, Ok, Err}
 use Rattle.ledger_whole.specs.Calls.{Last, last_rows_of}
 use Rattle.store_rows.specs.Promises.{FeedsStore}
 use Rattle.store_rows.specs.declared.StoreSoFar.{StoreSoFar}
-use Rattle.store_rows.specs.declared.StoreFed.{StoreFed}
-use Rattle.store_rows.specs.declared.StoreFed.TheVariants as F
 use Rattle.store_finish.specs.Promises.{FinishesStore}
+use Rattle.ledger_feed.specs.declared.Unwritten.TheVariants as U
+use Rattle.ledger_feed.specs.declared.Unwritten.{Unwritten}
 
 -- a call of `feed`: what it was lent, what it answered, and the memory afterwards
 pub record StoreCall : Type 0 where
   pub chunk : List ℕ
   pub out : List ℕ
-  pub fed : StoreFed
+  pub fed : Result (StoreSoFar × ℕ) Unwritten
   pub piece' : List ℕ
   pub out' : List ℕ
 
 -- the state that a call hands on, and the rows that it wrote
-abbrev pub store_next : StoreFed → StoreSoFar → StoreSoFar
-store_next (F.Rows state written) before = state
-store_next F.Full before = before
-store_next F.Many before = before
-store_next (F.Refused r) before = before
+abbrev pub store_next : Result (StoreSoFar × ℕ) Unwritten → StoreSoFar → StoreSoFar
+store_next (Ok (state, written)) before = state
+store_next (Err U.Full) before = before
+store_next (Err U.Many) before = before
+store_next (Err (U.Refused r)) before = before
 
-abbrev pub store_rows_of : StoreFed → List ℕ → List ℕ
-store_rows_of (F.Rows state written) out' = take written out'
-store_rows_of F.Full out' = []
-store_rows_of F.Many out' = []
-store_rows_of (F.Refused r) out' = []
+abbrev pub store_rows_of : Result (StoreSoFar × ℕ) Unwritten → List ℕ → List ℕ
+store_rows_of (Ok (state, written)) out' = take written out'
+store_rows_of (Err U.Full) out' = []
+store_rows_of (Err U.Many) out' = []
+store_rows_of (Err (U.Refused r)) out' = []
 
 -- each call does what `feed` promises, from the state and the piece buffer that the call before it left; then `finish`
 unfoldable pub StoreCallsMade : StoreSoFar → List ℕ → List StoreCall → Last → Type 0

@@ -4,11 +4,10 @@ use mathlib.Core.Bool.{Bool, true, false}
 use mathlib.Core.List.{List}
 use Prim.Native.Nat.{ℕ, ◌≤◌}
 use lib.ListN.{length}
+use Rattle.std.specs.Prelude.{Option, Some}
 use Rattle.stream_io.specs.Bounds.{count_of, name_of, OpensWithin, PutsNothing, ReadsWithin, WritesNothing}
 use Rattle.stream_io.specs.declared.Taken.{Taken}
 use Rattle.stream_io.specs.declared.Taken.TheVariants as T
-use Rattle.stream_io.specs.declared.Opened.{Opened}
-use Rattle.stream_io.specs.declared.Opened.TheVariants as O
 use Rattle.stream_io.specs.declared.Put.{Put}
 use Rattle.stream_io.specs.declared.Put.TheVariants as P
 
@@ -26,5 +25,5 @@ pub answered : {bytes what : List ℕ} {r : Put} → PutsNothing bytes r → (q 
 answered p q told = record { empty = λ e. subst (λ (x : Put). is_whole x ≡ true) (sym (p.empty e) ∙ told) refl }
 
 -- ---- and so does a name
-pub name_within : {F : Type 0} {i : ℕ} {old new : List ℕ} {r : Opened F} → OpensWithin i old new r → (f : F) (n : ℕ) → r ≡ O.File f n → n ≤ length new
-name_within {F} {new = new} t f n told = subst (λ (q : Opened F). name_of q ≤ length new) told t.within
+pub name_within : {F : Type 0} {i : ℕ} {old new : List ℕ} {r : Option (F × ℕ)} → OpensWithin i old new r → (f : F) (n : ℕ) → r ≡ Some (f, n) → n ≤ length new
+name_within {F} {new = new} t f n told = subst (λ (q : Option (F × ℕ)). name_of q ≤ length new) told t.within

@@ -1,9 +1,7 @@
 -- What can be said of a call that reads or writes: counts within the buffer, and nothing to write is written. Definitions only.
-use Rattle.std.specs.Prelude.{◌≡◌, Bool, true, List, ℕ, ◌≤◌, length}
+use Rattle.std.specs.Prelude.{◌≡◌, Bool, true, List, ℕ, ◌≤◌, length, Option, None, Some}
 use Rattle.stream_io.specs.declared.Taken.{Taken}
 use Rattle.stream_io.specs.declared.Taken.TheVariants as T
-use Rattle.stream_io.specs.declared.Opened.{Opened}
-use Rattle.stream_io.specs.declared.Opened.TheVariants as O
 use Rattle.stream_io.specs.declared.Put.{Put}
 use Rattle.stream_io.specs.declared.Put.TheVariants as P
 
@@ -22,11 +20,11 @@ pub record CopiesWithin (new : List ℕ) (r : ℕ) : Type 0 where
   pub within : r ≤ length new
 
 -- how many bytes of the buffer are a name
-abbrev pub name_of : {F : Type 0} → Opened F → ℕ
-name_of (O.File f n) = n
-name_of O.Failed = 0
+abbrev pub name_of : {F : Type 0} → Option (F × ℕ) → ℕ
+name_of (Some (f, n)) = n
+name_of None = 0
 
-pub record OpensWithin {F : Type 0} (i : ℕ) (old new : List ℕ) (r : Opened F) : Type 0 where
+pub record OpensWithin {F : Type 0} (i : ℕ) (old new : List ℕ) (r : Option (F × ℕ)) : Type 0 where
   pub within : name_of r ≤ length new
 
 -- whether a write fails the output alone knows: where there is nothing to write, nothing fails

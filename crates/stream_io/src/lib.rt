@@ -38,6 +38,7 @@ const EILSEQ: i32 = 84;
 const REASON: usize = 128;
 
 // What there is to work on: so many bytes at the start of the buffer, the end of the input, or nothing more, and the reason was said.
+// No `Result`: a failure leaves no error to hand on.
 #[derive(Clone, Copy)]
 pub enum Taken {
     Bytes(usize),
@@ -45,11 +46,12 @@ pub enum Taken {
     Failed,
 }
 
-// A file that an argument names, and how many bytes of the buffer are its name; or nothing, and the reason was said.
-#[derive(Drop)]
-pub enum Opened<F> {
-    File(F, usize),
-    Failed,
+// What follows a read of a program, which keeps so much: another one, the end of the input, or nothing more, and the reason was said.
+#[derive(Clone, Copy)]
+pub enum Turn<S> {
+    More(S),
+    End,
+    Stopped,
 }
 
 // What came of writing all.
@@ -138,21 +140,21 @@ pub fn argument_count<R: Env>(rt: &R) -> usize {
     usize::MAX
 }
 
-// Opens the file that an argument names, to read it.
+// Opens the file that an argument names, to read it: the file, and how many bytes of the buffer are its name; or nothing, and the reason was said.
 pub fn open_argument<R: Files + Env>(
     rt: &R,
     errors: Stderr,
     i: usize,
     name: &mut [u8],
-) -> Opened<R::File>
+) -> Option<(R::File, usize)>
     ensures { OpensWithin i name.old name.new result }
 {
     match rt.arg(i, name) {
         Ok(n) => match open(rt, &name[..n]) {
-            Ok(file) => Opened::File(file, n),
+            Ok(file) => Some((file, n)),
             Err(error) => {
                 fail(errors, &name[..n], &error);
-                Opened::Failed
+                None
             }
         },
         Err(FillError::NotPresent) => {
@@ -161,7 +163,7 @@ pub fn open_argument<R: Files + Env>(
                 b"the name of a file",
                 &Error::from_raw_os_error(EINVAL),
             );
-            Opened::Failed
+            None
         }
         Err(FillError::TooLong) => {
             fail(
@@ -169,7 +171,7 @@ pub fn open_argument<R: Files + Env>(
                 b"the name of a file",
                 &Error::from_raw_os_error(ENAMETOOLONG),
             );
-            Opened::Failed
+            None
         }
     }
 }

@@ -8,21 +8,13 @@
 
 use std::io::Read;
 use store_counts::{RECORDS, SUMMARY};
-use store_gather::{First, GatheredSoFar, Gathering};
+use store_gather::{First, GatheredSoFar};
 use store_record::inner::RECORD;
 use store_text::{Call, Form, ROOM, Shown};
-use stream_io::{Opened, Taken};
+use stream_io::{Taken, Turn};
 
 // The room for an option. What does not fit is none that the program knows.
 const WORD: usize = 16;
-
-// What follows a read: another one, the end of the input, or nothing more.
-#[derive(Clone, Copy)]
-enum Turn {
-    More(GatheredSoFar),
-    End,
-    Stopped,
-}
 
 fn main(rt: HostRuntime) {
     let mut chunk = io::buffer();
@@ -53,12 +45,12 @@ fn write_summary(rt: &HostRuntime, chunk: &mut [u8], out: &mut [u8]) -> bool {
 fn show_file(rt: &HostRuntime, form: Form, i: usize, chunk: &mut [u8], out: &mut [u8]) -> bool {
     let mut name = io::buffer();
     match stream_io::open_argument(rt, rt.stderr(), i, &mut name) {
-        Opened::File(mut file, n) => {
+        Some((mut file, n)) => {
             let shown = show_store(rt, form, &mut file, &name[..n], chunk, out);
             stream_io::close(file);
             shown
         }
-        Opened::Failed => false,
+        None => false,
     }
 }
 
@@ -89,7 +81,7 @@ fn read_to_end<R: Read>(
     piece: &mut [u8],
     chunk: &mut [u8],
     summary: &mut [u64],
-) -> Turn {
+) -> Turn<GatheredSoFar> {
     let mut state = store_gather::start();
     let mut turns: u64 = 0;
     while stream::may_go_on(turns) {
@@ -119,7 +111,7 @@ fn read_some<R: Read>(
     piece: &mut [u8],
     chunk: &mut [u8],
     summary: &mut [u64],
-) -> Turn {
+) -> Turn<GatheredSoFar> {
     match stream_io::read(rt.stderr(), from, chunk, what) {
         Taken::Bytes(n) => feed(rt, state, piece, &chunk[..n], summary),
         Taken::End => Turn::End,
@@ -133,10 +125,10 @@ fn feed(
     piece: &mut [u8],
     chunk: &[u8],
     summary: &mut [u64],
-) -> Turn {
+) -> Turn<GatheredSoFar> {
     match store_gather::feed(state, piece, chunk, summary) {
-        Gathering::More(next) => Turn::More(next),
-        Gathering::Refused(_) => {
+        Ok(next) => Turn::More(next),
+        Err(_) => {
             stop(rt, b": no piece buffer\n");
             Turn::Stopped
         }
@@ -146,7 +138,7 @@ fn feed(
 // The text on standard output, or the row of a record that is refused on standard error.
 fn show(rt: &HostRuntime, form: Form, first: First, summary: &[u64], out: &mut [u8]) -> bool {
     match store_text::show(form, first, summary, out) {
-        Shown::Page(n) => {
+        Ok(Shown::Page(n)) => {
             stream_io::write_all(
                 rt.stderr(),
                 &mut rt.stdout(),
@@ -154,7 +146,7 @@ fn show(rt: &HostRuntime, form: Form, first: First, summary: &[u64], out: &mut [
                 b"summary: standard output",
             )
         }
-        Shown::Row(n) => {
+        Ok(Shown::Row(n)) => {
             stream_io::write_all(
                 rt.stderr(),
                 &mut rt.stderr(),
@@ -163,7 +155,7 @@ fn show(rt: &HostRuntime, form: Form, first: First, summary: &[u64], out: &mut [
             );
             false
         }
-        Shown::Refused(_) => stop(rt, b": too little room for the text\n"),
+        Err(_) => stop(rt, b": too little room for the text\n"),
     }
 }
 

@@ -6,14 +6,19 @@ use Prim.Native.Nat.{ℕ, ◌+◌, ◌≤◌}
 use native.Mathlib.Nat.{add-zero}
 use native.Mathlib.Omega.{arith}
 use lib.ListN.{length, take, drop, length-append, take-append-drop}
-use Rattle.text_out.specs.Text.{Puts, place, written_of, after_of, room_for, decimal_of, Adds}
-use Rattle.text_out.specs.declared.Placed.{Placed}
+use Rattle.text_out.specs.Text.{PlaceAfter, Puts, place, written_of, after_of, room_for, decimal_of, Adds}
 use Rattle.text_out.proofs.Wrote.{place_is, written_front, written_back, written_length, written_then}
 use Rattle.text_out.proofs.Spelled.{length_decimal}
+use Rattle.std.specs.Prelude.{Option, None, Some}
+use Rattle.std.specs.Option.{unwrap_or}
 
 -- the place of a text that was put, or the place given
-pub adds_or : (old : List ℕ) (at : ℕ) (text new : List ℕ) (p : Placed) (r : ℕ) → Puts old new at text p → r ≡ after_of (place p) at → Adds old at text new r
-adds_or old at text new p r h e = record { place = e ∙ ap (λ (l : List ℕ). after_of l at) h.0; buffer = h.1 }
+pub or_after : (p : Option ℕ) (at : ℕ) → PlaceAfter p at (unwrap_or p at)
+or_after None at = refl
+or_after (Some r) at = refl
+
+pub adds_or : (old : List ℕ) (at : ℕ) (text new : List ℕ) (p : Option ℕ) (r : ℕ) → Puts old new at text p → r ≡ unwrap_or p at → Adds old at text new r
+adds_or old at text new p r h e = record { place = e ∙ or_after p at ∙ ap (λ (l : List ℕ). after_of l at) h.0; buffer = h.1 }
 
 module _ {old : List ℕ} {at : ℕ} {text new : List ℕ} {r : ℕ} (a : Adds old at text new r) (room : at + length text ≤ length old) where
   pub adds_to : r ≡ at + length text

@@ -1,7 +1,5 @@
 -- Text in a lent buffer, and decimal numbers. Definitions only.
-use Rattle.std.specs.Prelude.{◌≡◌, Bool, cond, List, [], ◌∷◌, ◌++◌, ℕ, zero, suc, ◌+◌, ◌/◌, ◌%◌, ◌≤◌, leb, ltb, ℤ, pos, negsuc, length, take, drop}
-use Rattle.text_out.specs.declared.Placed.{Placed}
-use Rattle.text_out.specs.declared.Placed.TheVariants.{At, Full}
+use Rattle.std.specs.Prelude.{◌≡◌, Bool, cond, List, [], ◌∷◌, ◌++◌, ℕ, zero, suc, ◌+◌, ◌/◌, ◌%◌, ◌≤◌, leb, ltb, ℤ, pos, negsuc, length, take, drop, Option, None, Some}
 
 -- the text has room in the buffer from a place on
 abbrev pub room_for : List ℕ → ℕ → List ℕ → Bool
@@ -15,9 +13,9 @@ written_of old at text = cond (room_for old at text) (take at old ++ (text ++ dr
 abbrev pub place_of : List ℕ → ℕ → List ℕ → List ℕ
 place_of old at text = cond (room_for old at text) ((at + length text) ∷ []) []
 
-abbrev pub place : Placed → List ℕ
-place (At r) = r ∷ []
-place Full = []
+abbrev pub place : Option ℕ → List ℕ
+place (Some r) = r ∷ []
+place None = []
 
 -- the decimal digits of a number below 10 to the power of the first argument, which is at least 1
 unfoldable pub digits_up_to : ℕ → ℕ → List ℕ
@@ -44,20 +42,21 @@ pub record Wrote (old new : List ℕ) (at r : ℕ) (text : List ℕ) : Type 0 wh
   pub back : drop r new ≡ drop r old
 
 -- what the functions promise: the place, and the whole buffer
-abbrev pub Puts : List ℕ → List ℕ → ℕ → List ℕ → Placed → Type 0
+abbrev pub Puts : List ℕ → List ℕ → ℕ → List ℕ → Option ℕ → Type 0
 Puts old new at text r = (place r ≡ place_of old at text) × (new ≡ written_of old at text)
 
-abbrev pub PutsDecimal : List ℕ → List ℕ → ℕ → ℕ → Placed → Type 0
+abbrev pub PutsDecimal : List ℕ → List ℕ → ℕ → ℕ → Option ℕ → Type 0
 PutsDecimal old new at n r = Puts old new at (decimal_of n) r
 
-abbrev pub PutsSigned : List ℕ → List ℕ → ℕ → ℤ → Placed → Type 0
+abbrev pub PutsSigned : List ℕ → List ℕ → ℕ → ℤ → Option ℕ → Type 0
 PutsSigned old new at n r = Puts old new at (signed_of n) r
 
 abbrev pub after_of : List ℕ → ℕ → ℕ
 after_of [] at = at
 after_of (r ∷ l) at = r
 
-abbrev pub PlaceAfter : Placed → ℕ → ℕ → Type 0
+-- what `unwrap_or` of a place gives: the place after the text, or the one given where there was no room
+abbrev pub PlaceAfter : Option ℕ → ℕ → ℕ → Type 0
 PlaceAfter p at r = r ≡ after_of (place p) at
 
 -- for who puts one text after another: the text is put where it has room, and the place after it is given, or the one that was asked for

@@ -2,26 +2,7 @@
 #![tactic(auto)]
 
 ghost use Rattle.std.specs.Prelude.{◌+◌, ◌≤◌, length};
-ghost use Rattle.text_out.specs.Text.{Wrote, Puts, PutsDecimal, PutsSigned, PlaceAfter, minus};
-
-// The place after the text; or that there is too little room, and then nothing has changed.
-#[derive(Clone, Copy)]
-pub enum Placed {
-    At(usize),
-    Full,
-}
-
-impl Placed {
-    // The place after the text, or the one given where there was no room.
-    pub fn or(self, at: usize) -> usize
-        ensures { PlaceAfter self at result }
-    {
-        match self {
-            Placed::At(next) => next,
-            Placed::Full => at,
-        }
-    }
-}
+ghost use Rattle.text_out.specs.Text.{Wrote, Puts, PutsDecimal, PutsSigned, minus};
 
 // A text put where there is room.
 fn copy(out: &mut [u8], at: usize, s: &[u8]) -> usize
@@ -33,19 +14,19 @@ fn copy(out: &mut [u8], at: usize, s: &[u8]) -> usize
     end
 }
 
-pub fn put(out: &mut [u8], at: usize, s: &[u8]) -> Placed
+pub fn put(out: &mut [u8], at: usize, s: &[u8]) -> Option<usize>
     ensures { Puts out.old out.new at s.now result }
 {
     if at > out.len() {
-        return Placed::Full;
+        return None;
     }
     if s.len() > out.len() - at {
-        return Placed::Full;
+        return None;
     }
-    Placed::At(copy(out, at, s))
+    Some(copy(out, at, s))
 }
 
-pub fn decimal(out: &mut [u8], at: usize, n: u64) -> Placed
+pub fn decimal(out: &mut [u8], at: usize, n: u64) -> Option<usize>
     ensures { PutsDecimal out.old out.new at n result }
 {
     let mut digits = [0u8; 20];
@@ -53,7 +34,7 @@ pub fn decimal(out: &mut [u8], at: usize, n: u64) -> Placed
     put(out, at, &digits[..k])
 }
 
-pub fn signed(out: &mut [u8], at: usize, n: i64) -> Placed
+pub fn signed(out: &mut [u8], at: usize, n: i64) -> Option<usize>
     ensures { PutsSigned out.old out.new at n result }
 {
     if n >= 0 {
@@ -64,7 +45,7 @@ pub fn signed(out: &mut [u8], at: usize, n: i64) -> Placed
 }
 
 // A minus sign and one more than n.
-fn below_zero(out: &mut [u8], at: usize, n: u64) -> Placed
+fn below_zero(out: &mut [u8], at: usize, n: u64) -> Option<usize>
     requires { n + 1 ≤ 9223372036854775808 }
     ensures { Puts out.old out.new at (minus (n + 1)) result }
 {

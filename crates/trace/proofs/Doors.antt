@@ -14,13 +14,13 @@ use Rattle.attack.specs.Attacks.{occupied}
 use Rattle.position_consistent.specs.Consistent.{consistent}
 use Rattle.position.specs.Checked.{checked}
 use Rattle.position.specs.declared.State.{State}
-use Rattle.position.specs.declared.Checked.TheVariants.{Fit}
 use Rattle.trace_counts.specs.declared.Trace.{Trace}
 use Rattle.trace.specs.Trace.{mobility_of, trace_of}
 use Rattle.trace.specs.PrivateMarked.{marked, trace_with, refused_with}
 use Rattle.trace.specs.Promises.{traced_of, paper, trace_from, entries_after, Traces}
 use Rattle.trace.proofs.Planes.{marked_is}
 use Rattle.trace.specs.declared.Traced.{Traced}
+use Rattle.std.specs.Prelude.{Ok}
 
 -- a refusal, with no trace and the entries as they were
 module _ (bbs bytes : List ℕ) (state : State) (entries : List ℤ) where
@@ -46,7 +46,7 @@ module _ (bbs bytes : List ℕ) (state : State) (entries : List ℤ) where
       → given (trace_of bbs state.side) ≡ rest
       → mobility ≡ mobility_of bbs → t ≡ trace_with bbs state.side mobility → length blank ≡ 768 → ((i : ℕ) → i < 768 → get_or blank i (pos 0) ≡ pos 0)
       → occ ≡ occupied bbs
-      → last ≡ marked bytes blank (squares occ) → Traces bbs bytes state entries (record { checked = Fit; trace = t }) last
+      → last ≡ marked bytes blank (squares occ) → Traces bbs bytes state entries (record { checked = Ok tt; trace = t }) last
   unfolding trace_of
   traced t occ mobility blank last e f p em t-is l z eo m =
       let a : given (trace_of bbs state.side) ≡ traced_of bbs bytes state entries = p ∙ right e in

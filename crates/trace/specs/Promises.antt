@@ -1,15 +1,14 @@
 -- What `compute_trace` answers and promises, for all inputs. Definitions only.
-use Rattle.std.specs.Prelude.{◌≡◌, List, ℕ, eqb, ℤ, length}
+use Rattle.std.specs.Prelude.{◌≡◌, List, ℕ, eqb, ℤ, length, Result, Ok, Err}
 use Rattle.refusal.specs.Answer.{Answer, given, refused, or_refuse, refusal_of}
 use Rattle.refusal.specs.declared.Refusal.TheVariants as R
 use Rattle.position.specs.Checked.{checked}
 use Rattle.position.specs.declared.State.{State}
-use Rattle.position.specs.declared.Checked.{Checked}
-use Rattle.position.specs.declared.Checked.TheVariants.{Fit, Refused}
 use Rattle.trace_counts.specs.declared.Trace.{Trace}
 use Rattle.trace.specs.Trace.{mobility_of, trace_of, entries_of, no_trace}
 use Rattle.trace.specs.PrivateMarked.{trace_with}
 use Rattle.trace.specs.declared.Traced.{Traced}
+use Rattle.refusal.specs.declared.Refusal.{Refusal}
 
 -- "trace ..: 1, 2": SHAPE, also if "not .. 768 trace entries", then OVERLAP, UNION, BYTEBOARD
 abbrev pub traced_of : List ℕ → List ℕ → State → List ℤ → Answer Trace
@@ -17,9 +16,9 @@ traced_of bbs bytes state entries =
     or_refuse (eqb (length entries) 768) R.Shape (checked bbs bytes state (given (trace_of bbs state.side)))
 
 -- the answer on the paper: an array can't stand in an enum, so the trace stands beside the test's outcome
-abbrev pub paper_of : Checked → Trace → Answer Trace
-paper_of Fit t = given t
-paper_of (Refused r) t = refusal_of r
+abbrev pub paper_of : Result Unit Refusal → Trace → Answer Trace
+paper_of (Ok tt) t = given t
+paper_of (Err r) t = refusal_of r
 
 abbrev pub paper : Traced → Answer Trace
 paper r = paper_of r.checked r.trace

@@ -8,19 +8,12 @@ ghost use Rattle.trace_double.specs.PrivateFrom.{entries_from};
 ghost use Rattle.trace_marks.specs.Marks.{groups_of};
 ghost use Rattle.trace_double.specs.Promises.{Doubles};
 
-use bits::Lowest;
 use chess::color::Color;
 use places::entry::Entry;
 use places::weight::SquareWeight;
 use refusal::Refusal;
 use trace_counts::{Trace, Weights};
 use trace_marks::GROUP;
-
-#[derive(Clone, Copy)]
-pub enum Doubled {
-    Is(f64),
-    Refused(Refusal),
-}
 
 // A square weight at x pieces, between the opening's and the ending's.
 fn interpolated(opening: f64, ending: f64, x: f64) -> f64
@@ -62,7 +55,7 @@ fn group_added(squares: &[f64], x: f64, entries: &[i32], start: f64, group: usiz
     let mut rest = trace_marks::ones(entries, group);
     loop {
         let n = bits::next(rest);
-        let Lowest::At(j, r) = n else {
+        let Some((j, r)) = n else {
             return score;
         };
         let k = GROUP * group + (j as usize);
@@ -80,7 +73,7 @@ fn entries_added(squares: &[f64], x: f64, entries: &[i32], start: f64, groups: u
     let mut rest = groups;
     loop {
         let n = bits::next(rest);
-        let Lowest::At(group, r) = n else {
+        let Some((group, r)) = n else {
             return score;
         };
         score = group_added(squares, x, entries, score, group as usize);
@@ -89,19 +82,24 @@ fn entries_added(squares: &[f64], x: f64, entries: &[i32], start: f64, groups: u
 }
 
 // The 768 entries and the 768 square weights are lent. SHAPE, then TRACE.
-pub fn eval(trace: Trace, entries: &[i32], weights: Weights, squares: &[f64]) -> Doubled
+pub fn eval(
+    trace: Trace,
+    entries: &[i32],
+    weights: Weights,
+    squares: &[f64],
+) -> Result<f64, Refusal>
     ensures { Doubles trace entries.now weights squares.now result }
 {
     if entries.len() != Entry::COUNT {
-        return Doubled::Refused(Refusal::Shape);
+        return Err(Refusal::Shape);
     }
     if squares.len() != SquareWeight::COUNT {
-        return Doubled::Refused(Refusal::Shape);
+        return Err(Refusal::Shape);
     }
     let seen = trace_marks::seen(entries);
     if trace.in_ranges() & seen.entries {
         let x = trace.piece_count as f64;
-        Doubled::Is(entries_added(
+        Ok(entries_added(
             squares,
             x,
             entries,
@@ -109,6 +107,6 @@ pub fn eval(trace: Trace, entries: &[i32], weights: Weights, squares: &[f64]) ->
             seen.groups,
         ))
     } else {
-        Doubled::Refused(Refusal::Trace)
+        Err(Refusal::Trace)
     }
 }

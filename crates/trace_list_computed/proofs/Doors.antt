@@ -9,7 +9,6 @@ use Rattle.refusal.specs.Answer.{Answer, given, refusal_of}
 use Rattle.refusal.specs.declared.Refusal.{Refusal}
 use Rattle.position_consistent.specs.Consistent.{consistent}
 use Rattle.position.specs.declared.State.{State}
-use Rattle.position.specs.declared.Checked.TheVariants.{Fit}
 use Rattle.trace_counts.specs.declared.Trace.{Trace}
 use Rattle.trace.specs.Trace.{trace_of, entries_of, mobility_of}
 use Rattle.trace.specs.PrivateMarked.{trace_with}
@@ -19,6 +18,7 @@ use Rattle.trace_list_computed.specs.PrivateWalk.{refused_list}
 use Rattle.trace_list_computed.specs.Promises.{list_traced_of, used_after, list_after, ComputesList}
 use Rattle.trace_list_computed.specs.declared.ListTraced.{ListTraced}
 use Rattle.trace_list_computed.proofs.Sums.{ones_are_pieces}
+use Rattle.std.specs.Prelude.{Ok}
 
 module _ (bbs board : List ℕ) (state : State) (before : List ℕ) where
   abbrev answer : Answer Trace
@@ -36,7 +36,7 @@ module _ (bbs board : List ℕ) (state : State) (before : List ℕ) where
   pub computed : (t : Trace) (mobility : List ℤ) (n : ℕ) (after : List ℕ) → consistent bbs board ≡ true
       → given (trace_of bbs state.side) ≡ list_traced_of bbs board state
       → mobility ≡ mobility_of bbs → t ≡ trace_with bbs state.side mobility → n ≡ length (ones_in (entries_of bbs)) → after ≡ list_bytes (ones_in (entries_of bbs))
-      → ComputesList bbs board state before (record { checked = Fit; trace = t; used = n }) after
+      → ComputesList bbs board state before (record { checked = Ok tt; trace = t; used = n }) after
   unfolding trace_of
   computed t mobility n after c a em et en ea =
       let d : t ≡ trace_of bbs state.side = et ∙ ap (trace_with bbs state.side) em in

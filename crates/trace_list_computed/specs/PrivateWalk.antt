@@ -1,9 +1,8 @@
 -- The list of a position as it is put together, kind by kind and square by square. Only `compute_list`'s body knows of this. Definitions only.
-use Rattle.std.specs.Prelude.{◌≡◌, Bool, cond, List, ℕ, ◌+◌, ◌*◌, ◌≤◌, get_or, set}
+use Rattle.std.specs.Prelude.{◌≡◌, Bool, cond, List, ℕ, ◌+◌, ◌*◌, ◌≤◌, get_or, set, Err}
 use Rattle.std.specs.Int.Bits.{bit_xor}
 use Rattle.refusal.specs.declared.Refusal.{Refusal}
 use Rattle.bits.specs.Bitboard.{has, digit, those, how_many}
-use Rattle.position.specs.declared.Checked.TheVariants.{Refused}
 use Rattle.trace.specs.Trace.{entries_of, no_trace}
 use Rattle.trace_list.specs.Ones.{ones}
 use Rattle.trace_list.specs.Form.{is_one_rule}
@@ -40,4 +39,4 @@ unfolding has those
 turned_over x = those 64 (λ k. has x (bit_xor k 56))
 
 abbrev pub refused_list : Refusal → ListTraced
-refused_list r = record { checked = Refused r; trace = no_trace; used = 0 }
+refused_list r = record { checked = Err r; trace = no_trace; used = 0 }

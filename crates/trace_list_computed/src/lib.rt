@@ -10,11 +10,10 @@ ghost use Rattle.trace_list_computed.specs.PrivateWalk.{Few, Padded, ones_before
 ghost use Rattle.trace_list_computed.specs.Promises.{ComputesList};
 
 use attack::inner::standing;
-use bits::Lowest;
 use chess::color::{BLACK, WHITE};
 use chess::kind::{BISHOP, KING, KNIGHT, PAWN, QUEEN, ROOK};
 use chess::piece::Piece;
-use position::{Checked, State};
+use position::State;
 use refusal::Refusal;
 use trace_counts::Trace;
 use trace_list::{BYTES, ENTRIES, PER_ENTRY};
@@ -22,7 +21,7 @@ use trace_list::{BYTES, ENTRIES, PER_ENTRY};
 // A trace, how many entries its list has, and whether the position passed its test: beside a refusal stand a trace of zeros and none.
 #[derive(Clone, Copy)]
 pub struct ListTraced {
-    pub checked: Checked,
+    pub checked: Result<(), Refusal>,
     pub trace: Trace,
     pub used: u8,
 }
@@ -133,7 +132,7 @@ fn kind_listed(bitboards: &[u64], kind: u8, used: usize, bytes: &mut [u8; BYTES]
     let mut rest = white | black;
     loop {
         let next = bits::next(rest);
-        let Lowest::At(s, r) = next else {
+        let Some((s, r)) = next else {
             return n;
         };
         n = put_both(stands(white, s), stands(black, s), bytes, n, kind, s);
@@ -165,7 +164,7 @@ fn refused(refusal: Refusal) -> ListTraced
     ensures { result ≡ refused_list refusal }
 {
     ListTraced {
-        checked: Checked::Refused(refusal),
+        checked: Err(refusal),
         trace: Trace {
             pawns: [0, 0],
             knights: [0, 0],
@@ -190,7 +189,7 @@ pub fn compute_list(
 ) -> ListTraced
     ensures { ComputesList bitboards.now board.now state bytes.old result bytes.new }
 {
-    if let Checked::Refused(refusal) = position::check(bitboards, board, state) {
+    if let Err(refusal) = position::check(bitboards, board, state) {
         return refused(refusal);
     }
     let mobility = trace::inner::mobility(bitboards);
@@ -199,7 +198,7 @@ pub fn compute_list(
     let entries = listed(bitboards, bytes);
     let used = entries as u8;
     ListTraced {
-        checked: Checked::Fit,
+        checked: Ok(()),
         trace,
         used,
     }

@@ -13,7 +13,6 @@ use chess::inner::index;
 use places::weight::SquareWeight;
 use refusal::Refusal;
 use trace_counts::{Trace, Weights};
-use trace_double::Doubled;
 use trace_list::{BYTES, PER_ENTRY};
 
 // 1 for White, −1 for Black, worked out: a jump on the colour can't be guessed.
@@ -55,19 +54,19 @@ pub fn eval_list(
     bytes: &[u8; BYTES],
     weights: Weights,
     squares: &[f64],
-) -> Doubled
+) -> Result<f64, Refusal>
     ensures { DoublesList trace used bytes.now weights squares.now result }
 {
     if squares.len() != SquareWeight::COUNT {
-        return Doubled::Refused(Refusal::Shape);
+        return Err(Refusal::Shape);
     }
     if trace.in_ranges() {
         if trace_list::is_list(used, bytes) {
             let x = trace.piece_count as f64;
             let start = trace_named::sum(trace, weights);
-            return Doubled::Is(all_weighed(squares, x, index(used), bytes, start));
+            return Ok(all_weighed(squares, x, index(used), bytes, start));
         }
-        return Doubled::Refused(Refusal::Entry);
+        return Err(Refusal::Entry);
     }
-    Doubled::Refused(Refusal::Trace)
+    Err(Refusal::Trace)
 }

@@ -14,18 +14,6 @@ use refusal::Refusal;
 use trace_counts::Trace;
 use trace_list::{BYTES, ENTRIES, PER_ENTRY};
 
-#[derive(Clone, Copy)]
-pub enum Listed {
-    Used(u8),
-    Refused(Refusal),
-}
-
-#[derive(Clone, Copy)]
-pub enum Flattened {
-    Done,
-    Refused(Refusal),
-}
-
 fn is_one(entry: i32) -> bool
     ensures { result ≡ lt_z (pos 0) entry }
 {
@@ -84,23 +72,23 @@ fn fill(entries: &[i32], bytes: &mut [u8; BYTES])
 }
 
 // The 768 entries and the list's bytes are lent. SHAPE, TRACE, then ENTRY.
-pub fn list_of(trace: Trace, entries: &[i32], bytes: &mut [u8; BYTES]) -> Listed
+pub fn list_of(trace: Trace, entries: &[i32], bytes: &mut [u8; BYTES]) -> Result<u8, Refusal>
     ensures { ListsTrace trace entries.now bytes.old result bytes.new }
 {
     if entries.len() != Entry::COUNT {
-        return Listed::Refused(Refusal::Shape);
+        return Err(Refusal::Shape);
     }
     if trace.in_ranges() & trace_counts::are_entries(entries) {
         let ones = number(entries);
         if ENTRIES < ones {
-            return Listed::Refused(Refusal::Entry);
+            return Err(Refusal::Entry);
         }
         clear(bytes);
         fill(entries, bytes);
         let used = ones as u8;
-        return Listed::Used(used);
+        return Ok(used);
     }
-    Listed::Refused(Refusal::Trace)
+    Err(Refusal::Trace)
 }
 
 fn clear_entries(entries: &mut [i32])
@@ -123,19 +111,24 @@ fn mark(used: usize, bytes: &[u8; BYTES], entries: &mut [i32])
 }
 
 // The list and the 768 entries are lent. SHAPE, TRACE, then ENTRY.
-pub fn flat_of(trace: Trace, used: u8, bytes: &[u8; BYTES], entries: &mut [i32]) -> Flattened
+pub fn flat_of(
+    trace: Trace,
+    used: u8,
+    bytes: &[u8; BYTES],
+    entries: &mut [i32],
+) -> Result<(), Refusal>
     ensures { Flattens trace used bytes.now entries.old result entries.new }
 {
     if entries.len() != Entry::COUNT {
-        return Flattened::Refused(Refusal::Shape);
+        return Err(Refusal::Shape);
     }
     if trace.in_ranges() {
         if trace_list::is_list(used, bytes) {
             clear_entries(entries);
             mark(index(used), bytes, entries);
-            return Flattened::Done;
+            return Ok(());
         }
-        return Flattened::Refused(Refusal::Entry);
+        return Err(Refusal::Entry);
     }
-    Flattened::Refused(Refusal::Trace)
+    Err(Refusal::Trace)
 }

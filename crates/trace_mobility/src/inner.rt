@@ -6,7 +6,7 @@ ghost use Rattle.trace_mobility.specs.PrivateMasks.{masked, pawn_masks, knight_m
 ghost use Rattle.trace_mobility.specs.Promises.{CountsAttacked};
 
 use attack::inner::attacks_from;
-use bits::{Lowest, count};
+use bits::count;
 use chess::color::WHITE;
 use chess::kind::{KING, KNIGHT, PAWN};
 
@@ -56,7 +56,7 @@ fn one_by_one(pieces: u64, kind: u8, color: u8, occupied: u64) -> u32
     let mut sum: u32 = 0;
     loop {
         let n = bits::next(rest);
-        let Lowest::At(s, r) = n else {
+        let Some((s, r)) = n else {
             return sum;
         };
         sum += count(attacks_from(kind, color, s, occupied));

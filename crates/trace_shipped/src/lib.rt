@@ -15,12 +15,6 @@ use score_tally::{BISHOP_MOBILITY, KNIGHT_MOBILITY, QUEEN_MOBILITY, ROOK_MOBILIT
 use score_taper::TEMPO;
 use trace_counts::Weights;
 
-#[derive(Clone, Copy)]
-pub enum Written {
-    Done,
-    Refused(Refusal),
-}
-
 // The eleven that have a name.
 pub fn weights() -> Weights
     ensures { Ships result }
@@ -61,13 +55,13 @@ fn fill(pst: &[i8], squares: &mut [f64])
 }
 
 // The 768 square weights: SHAPE where there is not room for just as many.
-pub fn square_weights(squares: &mut [f64]) -> Written
+pub fn square_weights(squares: &mut [f64]) -> Result<(), Refusal>
     ensures { ShipsSquares squares.old result squares.new }
 {
     if squares.len() != SquareWeight::COUNT {
-        return Written::Refused(Refusal::Shape);
+        return Err(Refusal::Shape);
     }
     let pst = score_pst::inner::table();
     fill(&pst, squares);
-    Written::Done
+    Ok(())
 }

@@ -9,25 +9,16 @@ ghost use Rattle.std.specs.Prelude.{◌≡◌, ◌+◌};
 ghost use Rattle.ledger_finish.specs.Promises.{unfinished};
 ghost use Rattle.sift_allowed.specs.Settled.{output_stands};
 
-use ledger_finish::Finished;
+use ledger_feed::Unwritten;
 use sift_form::Form;
 use store_record::inner::RECORD;
 use store_rows::StoreSoFar;
-use store_sift::StoreSifted;
-use stream_io::Taken;
+use stream_io::{Taken, Turn};
 
 // Room for the lines of as many records as a read may end, and for as many rows.
 const LINES: usize = 16384;
 
 const ROWS: usize = 8192;
-
-// What follows a read: another one, the end of the input, or nothing more.
-#[derive(Clone, Copy)]
-enum Turn {
-    More(StoreSoFar),
-    End,
-    Stopped,
-}
 
 fn main(rt: HostRuntime) {
     let mut chunk = io::buffer();
@@ -68,7 +59,7 @@ fn read_to_end(
     chunk: &mut [u8],
     lines: &mut [u8],
     rows: &mut [u8],
-) -> Turn {
+) -> Turn<StoreSoFar> {
     let mut state = store_rows::start();
     let mut turns: u64 = 0;
     while stream::may_go_on(turns) {
@@ -97,7 +88,7 @@ fn read_some(
     chunk: &mut [u8],
     lines: &mut [u8],
     rows: &mut [u8],
-) -> Turn {
+) -> Turn<StoreSoFar> {
     match stream_io::read(
         rt.stderr(),
         &mut rt.stdin(),
@@ -117,20 +108,20 @@ fn feed(
     chunk: &[u8],
     lines: &mut [u8],
     rows: &mut [u8],
-) -> Turn {
+) -> Turn<StoreSoFar> {
     match store_sift::feed(state, Form::Text, piece, chunk, lines, rows) {
-        StoreSifted::Records(next, written, told) => {
+        Ok((next, written, told)) => {
             if write(rt, &lines[..written], &rows[..told]) {
                 return Turn::More(next);
             }
         }
-        StoreSifted::Full => {
+        Err(Unwritten::Full) => {
             stop(rt, b": too little room for lines\n");
         }
-        StoreSifted::Many => {
+        Err(Unwritten::Many) => {
             stop(rt, b": more records than 64 bits count\n");
         }
-        StoreSifted::Refused(_) => {
+        Err(Unwritten::Refused(_)) => {
             stop(rt, b": no piece buffer\n");
         }
     }
@@ -140,10 +131,10 @@ fn feed(
 // The row of bytes that are left over, and the ledger's last row.
 fn finish(rt: &HostRuntime, state: StoreSoFar, rows: &mut [u8]) -> bool {
     match store_finish::finish(state, rows) {
-        Finished::Rows(told) => tell(rt, &rows[..told]),
-        Finished::Full => stop(rt, b": too little room for the last rows\n"),
-        Finished::Many => stop(rt, b": more records than 64 bits count\n"),
-        Finished::Refused(_) => stop(rt, b": no piece buffer\n"),
+        Ok(told) => tell(rt, &rows[..told]),
+        Err(Unwritten::Full) => stop(rt, b": too little room for the last rows\n"),
+        Err(Unwritten::Many) => stop(rt, b": more records than 64 bits count\n"),
+        Err(Unwritten::Refused(_)) => stop(rt, b": no piece buffer\n"),
     }
 }
 

@@ -17,6 +17,6 @@ loop-i-preserved c = let pre = c.requires in
     let l = c.loop-i in
     let p = c.capture in
     one_row a.line a.from.now a.kind.now a.taken.now a.out.now l.out a.n l.i l.at pre.most pre.room l.invariant
-    (omega arith) p.new.out c.or-at.result (adds_or l.out l.at
+    (omega arith) p.new.out c.unwrap_or-at.result (adds_or l.out l.at
     (capture_row a.line (get_or a.from.now l.i 0) (get_or a.kind.now l.i 0) (get_or a.taken.now l.i 0)) p.new.out
-    p.result c.or-at.result p.ensures c.or-at.ensures)
+    p.result c.unwrap_or-at.result p.ensures c.unwrap_or-at.ensures)

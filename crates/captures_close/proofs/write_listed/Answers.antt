@@ -23,6 +23,6 @@ returns c =
     let worth = to_z-of_z {w = w32} {z = z.result} (sfits_of z.type_inv) ∙ z.ensures in
     let put = subst (λ (v : ℤ). Puts w.new.out s.new.out w.result (stop_row a.line (stopped a.stop) v) s.result) worth
     s.ensures in
-    then_stop a.line a.listed a.stop a.out.now w.new.out s.new.out w.result c.or.result pre.0 pre.1.most
+    then_stop a.line a.listed a.stop a.out.now w.new.out s.new.out w.result c.unwrap_or.result pre.0 pre.1.most
     w.ensures (adds_or w.new.out w.result (stop_row a.line (stopped a.stop) (settled (take a.listed.count a.listed.taken)))
-    s.new.out s.result c.or.result put c.or.ensures)
+    s.new.out s.result c.unwrap_or.result put c.unwrap_or.ensures)

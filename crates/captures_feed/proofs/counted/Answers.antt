@@ -10,7 +10,7 @@ pub returns : goal.returns
 returns c =
     let a = c.args in
     let k = c.close-row in
-    let o = c.or-wrote in
+    let o = c.unwrap_or-wrote in
     let w = a.written in
     count_line a.mode w a.line.now a.ended a.size a.out.now
     c.requires

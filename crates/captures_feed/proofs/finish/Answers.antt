@@ -9,8 +9,8 @@ use Rattle.captures_feed.proofs.Doors.{finish_rows}
 use Rattle.captures_feed.proofs.Turn.{finished_2132}
 use Rattle.captures_feed.proofs.finish.Goals as goal
 
-pub returns-in-At : goal.returns-in-At
-returns-in-At c =
+pub returns-in-Some : goal.returns-in-Some
+returns-in-Some c =
     let a = c.args in
     let w = c.last_rows-end in
     let p = c.put-placed in
@@ -22,4 +22,4 @@ returns-in-At c =
     ∙ not-false _ c.if-not-countable.false-raw)
     (take w.result w.new.out) (adds_front w.ensures (finished_2132 a.mode a.state a.line.now)) p.new.out p.result
     p.ensures
-    c.in-At.wrote c.in-At.is
+    c.in-Some.wrote c.in-Some.is

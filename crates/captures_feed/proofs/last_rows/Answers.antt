@@ -11,7 +11,7 @@ returns c =
     let k = c.counted-all in
     let p = c.counts in
     let w = k.result in
-    last_adds a.mode a.state a.line.now a.out.now k.new.out p.new.out w c.or.result
+    last_adds a.mode a.state a.line.now a.out.now k.new.out p.new.out w c.unwrap_or.result
     c.requires.0 k.ensures
     (adds_or k.new.out w.wrote (counts_row (w.loaded + w.refused) w.loaded w.refused) p.new.out p.result
-    c.or.result p.ensures c.or.ensures)
+    c.unwrap_or.result p.ensures c.unwrap_or.ensures)

@@ -10,7 +10,7 @@ use mir.Syntax.{w32}
 use mir.Val.{SFits}
 use Rattle.bits.specs.Bitboard.{squares}
 use Rattle.bits.specs.Answers.{lowest}
-use Rattle.bits.proofs.Each.{next_at, next_done}
+use Rattle.bits.proofs.Each.{next_at, next_fits, next_done}
 use Rattle.trace_marks.specs.Marks.{odd_at, fold_from}
 use Rattle.trace_marks.proofs.Tested.{ones_of_holds, odd_small, odd_none}
 use Rattle.trace_marks.proofs.Walk as walk
@@ -45,42 +45,42 @@ returns-in_default c =
 
 pub bounds-entries-k : goal.bounds-entries-k
 bounds-entries-k c =
-    let came : (squares c.loop-j.rest ≡ c.in-At.j ∷ squares c.in-At.r) × (c.in-At.j < 64) = next_at c.loop-j.rest c.in-At.j c.in-At.r c.loop-j.invariant.1.fits
-    (sym (ap lowest c.in-At.is) ∙ c.next-n.ensures) in
-    let below : c.in-At.j < 16 = let l = c.loop-j in
+    let came : (squares c.loop-j.rest ≡ c.in-Some.j ∷ squares c.in-Some.r) × (c.in-Some.j < 64) = next_at c.loop-j.rest c.in-Some.j c.in-Some.r c.loop-j.invariant.1.fits
+    (sym (ap lowest c.in-Some.is) ∙ c.next-n.ensures) in
+    let below : c.in-Some.j < 16 = let l = c.loop-j in
     let a = c.args in
     walk.walk_below (fold_from (entry_by a.parts a.entries.now) a.gradient.now (16 * a.group)) 16 l.gradient l.rest
-    c.in-At.j c.in-At.r l.invariant.1 (came).0 in
+    c.in-Some.j c.in-Some.r l.invariant.1 (came).0 in
     let h = below in search rules
 
 pub mark-requires : goal.mark-requires
 mark-requires c =
-    let came : (squares c.loop-j.rest ≡ c.in-At.j ∷ squares c.in-At.r) × (c.in-At.j < 64) = next_at c.loop-j.rest c.in-At.j c.in-At.r c.loop-j.invariant.1.fits
-    (sym (ap lowest c.in-At.is) ∙ c.next-n.ensures) in
-    let below : c.in-At.j < 16 = let l = c.loop-j in
+    let came : (squares c.loop-j.rest ≡ c.in-Some.j ∷ squares c.in-Some.r) × (c.in-Some.j < 64) = next_at c.loop-j.rest c.in-Some.j c.in-Some.r c.loop-j.invariant.1.fits
+    (sym (ap lowest c.in-Some.is) ∙ c.next-n.ensures) in
+    let below : c.in-Some.j < 16 = let l = c.loop-j in
     let a = c.args in
     walk.walk_below (fold_from (entry_by a.parts a.entries.now) a.gradient.now (16 * a.group)) 16 l.gradient l.rest
-    c.in-At.j c.in-At.r l.invariant.1 (came).0 in
+    c.in-Some.j c.in-Some.r l.invariant.1 (came).0 in
     let h = below in (c.loop-j.invariant.0, omega arith)
 
 pub loop-j-smaller : goal.loop-j-smaller
 loop-j-smaller c =
-    let came : (squares c.loop-j.rest ≡ c.in-At.j ∷ squares c.in-At.r) × (c.in-At.j < 64) = next_at c.loop-j.rest c.in-At.j c.in-At.r c.loop-j.invariant.1.fits
-    (sym (ap lowest c.in-At.is) ∙ c.next-n.ensures) in
+    let came : (squares c.loop-j.rest ≡ c.in-Some.j ∷ squares c.in-Some.r) × (c.in-Some.j < 64) = next_at c.loop-j.rest c.in-Some.j c.in-Some.r c.loop-j.invariant.1.fits
+    (sym (ap lowest c.in-Some.is) ∙ c.next-n.ensures) in
     omega (arith, ap length (came).0)
 
 pub loop-j-preserved : goal.loop-j-preserved
 loop-j-preserved c =
-    let came : (squares c.loop-j.rest ≡ c.in-At.j ∷ squares c.in-At.r) × (c.in-At.j < 64) = next_at c.loop-j.rest c.in-At.j c.in-At.r c.loop-j.invariant.1.fits
-    (sym (ap lowest c.in-At.is) ∙ c.next-n.ensures) in
+    let came : (squares c.loop-j.rest ≡ c.in-Some.j ∷ squares c.in-Some.r) × (c.in-Some.j < 64) = next_at c.loop-j.rest c.in-Some.j c.in-Some.r c.loop-j.invariant.1.fits
+    (sym (ap lowest c.in-Some.is) ∙ c.next-n.ensures) in
     let l = c.loop-j in
     let a = c.args in
-    let j = c.in-At.j in
-    let r = c.in-At.r in
+    let j = c.in-Some.j in
+    let r = c.in-Some.r in
     let fits : SFits w32 (get_or a.entries.now (16 * a.group + j) (pos 0)) = search rules in
     let F = fold_from (entry_by a.parts a.entries.now) a.gradient.now (16 * a.group) in (
       c.mark.ensures.1,
-      walk.walk_on F 16 l.gradient l.rest j r l.invariant.1 (came).0 c.mark.new.gradient (omega arith)
+      walk.walk_on F 16 l.gradient l.rest j r l.invariant.1 (came).0 c.mark.new.gradient (next_fits c.loop-j.rest c.in-Some.j c.in-Some.r (sym (ap lowest c.in-Some.is) ∙ c.next-n.ensures))
           (one_read a.parts a.entries.now a.gradient.now (16 * a.group) j fits.sfits
           (walk.walk_at F 16 l.gradient l.rest j r l.invariant.1 (came).0) c.mark.ensures.0),
     )

@@ -8,7 +8,7 @@ use lib.Ieee.{Float}
 use lib.ListN.{length}
 use Rattle.bits.specs.Bitboard.{squares}
 use Rattle.bits.specs.Answers.{lowest}
-use Rattle.bits.proofs.Each.{next_at, next_done}
+use Rattle.bits.proofs.Each.{next_at, next_fits, next_done}
 use Rattle.trace_marks.specs.Marks.{group_of, mark_of, fold_from}
 use Rattle.trace_marks.proofs.Marks.{mark_small, mark_none}
 use Rattle.trace_marks.proofs.Tested.{group_none}
@@ -45,33 +45,33 @@ returns-in_default c =
 
 pub group_marked-requires : goal.group_marked-requires
 group_marked-requires c =
-    let came : (squares c.loop-group.rest ≡ c.in-At.group ∷ squares c.in-At.r) × (c.in-At.group < 64) = next_at c.loop-group.rest c.in-At.group c.in-At.r c.loop-group.invariant.1.fits
-    (sym (ap lowest c.in-At.is) ∙ c.next-n.ensures) in
-    let below : c.in-At.group < 48 = let l = c.loop-group in
+    let came : (squares c.loop-group.rest ≡ c.in-Some.group ∷ squares c.in-Some.r) × (c.in-Some.group < 64) = next_at c.loop-group.rest c.in-Some.group c.in-Some.r c.loop-group.invariant.1.fits
+    (sym (ap lowest c.in-Some.is) ∙ c.next-n.ensures) in
+    let below : c.in-Some.group < 48 = let l = c.loop-group in
     let a = c.args in
-    walk.walk_below (after a.parts a.entries.now a.gradient.now) 48 l.gradient l.rest c.in-At.group
-    c.in-At.r l.invariant.1 (came).0 in
+    walk.walk_below (after a.parts a.entries.now a.gradient.now) 48 l.gradient l.rest c.in-Some.group
+    c.in-Some.r l.invariant.1 (came).0 in
     let p = c.requires in
     (c.loop-group.invariant.0, p.1, below, p.2)
 
 pub loop-group-smaller : goal.loop-group-smaller
 loop-group-smaller c =
-    let came : (squares c.loop-group.rest ≡ c.in-At.group ∷ squares c.in-At.r) × (c.in-At.group < 64) = next_at c.loop-group.rest c.in-At.group c.in-At.r c.loop-group.invariant.1.fits
-    (sym (ap lowest c.in-At.is) ∙ c.next-n.ensures) in
+    let came : (squares c.loop-group.rest ≡ c.in-Some.group ∷ squares c.in-Some.r) × (c.in-Some.group < 64) = next_at c.loop-group.rest c.in-Some.group c.in-Some.r c.loop-group.invariant.1.fits
+    (sym (ap lowest c.in-Some.is) ∙ c.next-n.ensures) in
     omega (arith, ap length (came).0)
 
 pub loop-group-preserved : goal.loop-group-preserved
 loop-group-preserved c =
-    let came : (squares c.loop-group.rest ≡ c.in-At.group ∷ squares c.in-At.r) × (c.in-At.group < 64) = next_at c.loop-group.rest c.in-At.group c.in-At.r c.loop-group.invariant.1.fits
-    (sym (ap lowest c.in-At.is) ∙ c.next-n.ensures) in
+    let came : (squares c.loop-group.rest ≡ c.in-Some.group ∷ squares c.in-Some.r) × (c.in-Some.group < 64) = next_at c.loop-group.rest c.in-Some.group c.in-Some.r c.loop-group.invariant.1.fits
+    (sym (ap lowest c.in-Some.is) ∙ c.next-n.ensures) in
     let l = c.loop-group in
     let a = c.args in
     let e = a.entries.now in
     let F = after a.parts e a.gradient.now in
-    let i = c.in-At.group in
-    let r = c.in-At.r in (
+    let i = c.in-Some.group in
+    let r = c.in-Some.r in (
       c.group_marked.ensures.1,
-      walk.walk_on F 48 l.gradient l.rest i r l.invariant.1 (came).0 c.group_marked.new.gradient (omega arith)
+      walk.walk_on F 48 l.gradient l.rest i r l.invariant.1 (came).0 c.group_marked.new.gradient (next_fits c.loop-group.rest c.in-Some.group c.in-Some.r (sym (ap lowest c.in-Some.is) ∙ c.next-n.ensures))
           (c.group_marked.ensures.0
           ∙ ap (λ (g : List Float). fold_from (entry_by a.parts e) g (16 * i) 16) (walk.walk_at F 48 l.gradient l.rest i r l.invariant.1 (came).0)
           ∙ folds.group_more (entry_by a.parts e) a.gradient.now i),

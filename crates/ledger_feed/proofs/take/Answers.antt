@@ -63,8 +63,8 @@ loop-at-preserved-then-cut c =
     l.refused l.wrote l.at
     c.loop-at-test.true l.invariant n.result
     n.new.line n.ensures
-    c.if-cut.true k.new.out c.or-wrote.result
-    (closed_adds (l.loaded + l.refused + 1) l.out k.new.out l.wrote said k.result k.ensures c.or-wrote.result c.or-wrote.ensures)
+    c.if-cut.true k.new.out c.unwrap_or-wrote.result
+    (closed_adds (l.loaded + l.refused + 1) l.out k.new.out l.wrote said k.result k.ensures c.unwrap_or-wrote.result c.unwrap_or-wrote.ensures)
     k.result.loaded k.ensures.loaded (l.loaded + bool_byte k.result.loaded) (l.refused + bool_byte (not k.result.loaded))
     (tally_number k.result.loaded l.loaded) (tally_number (not k.result.loaded) l.refused)
 

@@ -8,8 +8,8 @@ use Rattle.text_out.proofs.Added.{adds_front}
 use Rattle.ledger_finish.proofs.Doors.{finish_rows, finished_116}
 use Rattle.ledger_finish.proofs.finish.Goals as goal
 
-pub returns-in-At : goal.returns-in-At
-returns-in-At c =
+pub returns-in-Some : goal.returns-in-Some
+returns-in-Some c =
     let a = c.args in
     let w = c.last_rows-end in
     let p = c.put-placed in
@@ -21,4 +21,4 @@ returns-in-At c =
     ∙ not-false _ c.if-not-countable.false-raw)
     (take w.result w.new.out) (adds_front w.ensures (finished_116 a.profile a.state a.line.now)) p.new.out p.result
     p.ensures
-    c.in-At.wrote c.in-At.is
+    c.in-Some.wrote c.in-Some.is

@@ -15,41 +15,41 @@ pub returns-then-state-eq0 : goal.returns-then-state-eq0
 returns-then-state-eq0 c =
     let a = c.args in
     let p = c.last in
-    subst (λ (t : List ℕ). Adds a.out.now 0 t p.new.out c.or.result)
+    subst (λ (t : List ℕ). Adds a.out.now 0 t p.new.out c.unwrap_or.result)
     (finished_none a.profile a.state a.line.now c.if-state-eq0.true)
     (adds_or a.out.now 0 (last_row (a.state.loaded + a.state.refused) a.state.loaded a.state.refused) p.new.out p.result
-    c.or.result p.ensures c.or.ensures)
+    c.unwrap_or.result p.ensures c.unwrap_or.ensures)
 
 pub returns-then-is_loaded : goal.returns-then-is_loaded
 returns-then-is_loaded c =
     let a = c.args in
     let lines = a.state.loaded + a.state.refused + 1 in
     let k = c.close-row in
-    let first = c.or-next in
+    let first = c.unwrap_or-next in
     let p = c.last-then-is_loaded in
     finished_adds a.profile a.state a.line.now
     c.if-state-eq0.false true
     (sym c.if-is_loaded.true ∙ k.ensures.loaded)
-    a.out.now k.new.out p.new.out first.result c.or-then-is_loaded.result
+    a.out.now k.new.out p.new.out first.result c.unwrap_or-then-is_loaded.result
     c.requires.0
     (closed_adds lines a.out.now k.new.out 0 (said_under a.profile a.line.now a.state.held) k.result k.ensures
     first.result first.ensures)
     (adds_or k.new.out first.result (last_row lines (a.state.loaded + 1) a.state.refused) p.new.out p.result
-    c.or-then-is_loaded.result p.ensures c.or-then-is_loaded.ensures)
+    c.unwrap_or-then-is_loaded.result p.ensures c.unwrap_or-then-is_loaded.ensures)
 
 pub returns : goal.returns
 returns c =
     let a = c.args in
     let lines = a.state.loaded + a.state.refused + 1 in
     let k = c.close-row in
-    let first = c.or-next in
+    let first = c.unwrap_or-next in
     let p = c.last-2 in
     finished_adds a.profile a.state a.line.now
     c.if-state-eq0.false false
     (sym c.if-is_loaded.false ∙ k.ensures.loaded)
-    a.out.now k.new.out p.new.out first.result c.or-2.result
+    a.out.now k.new.out p.new.out first.result c.unwrap_or-2.result
     c.requires.0
     (closed_adds lines a.out.now k.new.out 0 (said_under a.profile a.line.now a.state.held) k.result k.ensures
     first.result first.ensures)
     (adds_or k.new.out first.result (last_row lines a.state.loaded (a.state.refused + 1)) p.new.out p.result
-    c.or-2.result p.ensures c.or-2.ensures)
+    c.unwrap_or-2.result p.ensures c.unwrap_or-2.ensures)

@@ -14,5 +14,5 @@ returns c = let a = c.args in let k =
     ∙ not-false _ c.if-not-counts_fit.false-raw)
     (sym c.between.ensures
     ∙ not-false _ c.if-not-between.false-raw)
-    (omega (arith, c.if-out-lt-ROW.false)) c.or.result _
-    (adds_or a.out.now 0 (totals_of_all a.state) _ k.result c.or.result k.ensures c.or.ensures)
+    (omega (arith, c.if-out-lt-ROW.false)) c.unwrap_or.result _
+    (adds_or a.out.now 0 (totals_of_all a.state) _ k.result c.unwrap_or.result k.ensures c.unwrap_or.ensures)

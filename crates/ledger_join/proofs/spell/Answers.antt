@@ -7,5 +7,5 @@ pub returns : goal.returns
 returns c = let decimal = c.decimal in
     let args = c.args in
     let pre = c.requires in
-    spelled args.text.now _ args.n c.or.result pre (adds_or args.text.now 0 _ decimal.new.out decimal.result c.or.result
-    decimal.ensures c.or.ensures)
+    spelled args.text.now _ args.n c.unwrap_or.result pre (adds_or args.text.now 0 _ decimal.new.out decimal.result c.unwrap_or.result
+    decimal.ensures c.unwrap_or.ensures)

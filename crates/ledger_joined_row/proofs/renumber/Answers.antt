@@ -15,8 +15,8 @@ returns c = let spaced = c.spaced-end in
     let pre = c.requires in
     let a = c.args in
     renumber_adds a.whole a.number front.result a.row.now spaced.ensures
-    (adds_or _ spaced.result _ c.put.new.out c.put.result c.or.result
-    c.put.ensures c.or.ensures) front.ensures pre.1 pre.0
+    (adds_or _ spaced.result _ c.put.new.out c.put.result c.unwrap_or.result
+    c.put.ensures c.unwrap_or.ensures) front.ensures pre.1 pre.0
 
 pub slice_bounds-put-start : goal.slice_bounds-put-start
 slice_bounds-put-start c =

@@ -6,12 +6,12 @@ use Rattle.ledger_totals.proofs.Point.{places_adds}
 use Rattle.ledger_totals.proofs.places.Goals as goal
 
 pub returns : goal.returns
-returns c = let or2 = c.or-end in
-    let or = c.or-whole in
+returns c = let or2 = c.unwrap_or-end in
+    let unwrap_or = c.unwrap_or-whole in
     let a = c.args in
     let x = c.decimal in
     let y = c.decimal-2 in
     let p = c.put in
-    places_adds a.n c.requires (adds_or a.out.now a.at (decimal_of (a.n / 1000000000000)) x.new.out x.result or.result x.ensures or.ensures)
-    (adds_or x.new.out or.result (decimal_of (1000000000000 + a.n % 1000000000000)) y.new.out y.result or2.result y.ensures
+    places_adds a.n c.requires (adds_or a.out.now a.at (decimal_of (a.n / 1000000000000)) x.new.out x.result unwrap_or.result x.ensures unwrap_or.ensures)
+    (adds_or x.new.out unwrap_or.result (decimal_of (1000000000000 + a.n % 1000000000000)) y.new.out y.result or2.result y.ensures
     or2.ensures) p.result p.ensures

@@ -33,7 +33,7 @@ returns c =
     let i = length_named (text " loaded ") a.loaded in
     let j = length_named (text " refused ") a.refused in
     adds_4 c.named-a.ensures c.named-b.ensures n.ensures
-    (adds_or n.new.out n.result (text "\n") p.new.out p.result c.or.result p.ensures c.or.ensures)
+    (adds_or n.new.out n.result (text "\n") p.new.out p.result c.unwrap_or.result p.ensures c.unwrap_or.ensures)
     (omega (
       arith,
       c.requires,

@@ -58,4 +58,4 @@ returns c =
     c.named-a.ensures
     c.named-b.ensures
     c.named-c.ensures c.named-d.ensures m.ensures
-    (adds_or m.new.out m.result (text "\n") p.new.out p.result c.or.result p.ensures c.or.ensures)
+    (adds_or m.new.out m.result (text "\n") p.new.out p.result c.unwrap_or.result p.ensures c.unwrap_or.ensures)

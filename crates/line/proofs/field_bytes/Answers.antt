@@ -9,11 +9,11 @@ use Rattle.line_parse.proofs.Words.{field_is}
 use Rattle.line.proofs.Memory.{kept_field, over_field}
 use Rattle.line.proofs.field_bytes.Goals as goal
 
-pub returns-in-Refused : goal.returns-in-Refused
+pub returns-in-Err : goal.returns-in-Err
 unfolding field_of
-returns-in-Refused c =
+returns-in-Err c =
     let line = c.args.line.now in
-    kept_field (line_of line) c.parse-said.result.answer c.parse-said.ensures.answer _ c.in-Refused.is (position_field line)
+    kept_field (line_of line) c.parse-said.result.answer c.parse-said.ensures.answer _ c.in-Err.is (position_field line)
 
 pub slice_bounds-trim-end : goal.slice_bounds-trim-end
 slice_bounds-trim-end c =

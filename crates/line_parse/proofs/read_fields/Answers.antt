@@ -36,8 +36,8 @@ returns-then-side-ge-NO_SIDE c =
     c.side-side.result (c.side-side.ensures ∙ ap (place_in sides) (side_is a.field.now c.find-end.result c.find-end.ensures))
     c.refused-then-side-ge-NO_SIDE.result c.refused-then-side-ge-NO_SIDE.ensures c.if-side-ge-NO_SIDE.true
 
-pub returns-in-Refused : goal.returns-in-Refused
-returns-in-Refused c =
+pub returns-in-Err : goal.returns-in-Err
+returns-in-Err c =
     let p = c in
     let f = p in
     let a = f.args in
@@ -47,10 +47,10 @@ returns-in-Refused c =
     p.place-placed.result.board
     (placed_board a.field.now f.find-end.result f.find-end.ensures p.place-placed.result p.place-placed.ensures (not-false _ c.if-not-placed.false))
     _ (rest_is a.field.now f.find-end.result f.find-end.ensures) c.read-told.result c.read-told.ensures
-    c.in-Refused.refusal c.in-Refused.is c.refused-in-Refused.result c.refused-in-Refused.ensures
+    c.in-Err.refusal c.in-Err.is c.refused-in-Err.result c.refused-in-Err.ensures
 
-pub returns-in-Is : goal.returns-in-Is
-returns-in-Is c =
+pub returns-in-Ok : goal.returns-in-Ok
+returns-in-Ok c =
     let p = c in
     let f = p in
     let a = f.args in
@@ -60,4 +60,4 @@ returns-in-Is c =
     p.place-placed.result.board
     (placed_board a.field.now f.find-end.result f.find-end.ensures p.place-placed.result p.place-placed.ensures (not-false _ c.if-not-placed.false))
     _ (rest_is a.field.now f.find-end.result f.find-end.ensures) c.read-told.result c.read-told.ensures
-    c.in-Is.state c.in-Is.is c.with_result.result c.with_result.ensures
+    c.in-Ok.state c.in-Ok.is c.with_result.result c.with_result.ensures

@@ -1,4 +1,5 @@
 -- `score_material::eval_material` meets its contract. Assumes nothing.
+use Rattle.refusal.proofs.Paper.{error_answered}
 use mathlib.Core.Path.{◌≡◌, ap, sym, ◌∙◌}
 use mathlib.Core.Bool.{Bool}
 use mathlib.Core.List.{List}
@@ -39,12 +40,12 @@ returns-then-color-gt-BLACK c =
     let a = c.args in
     no_colour a.color (checked a.bitboards.now a.board.now a.state (total a.bitboards.now a.color)) (omega arith)
 
-pub returns-in-Refused : goal.returns-in-Refused
+pub returns-in_err-check : goal.returns-in_err-check
 unfolding material_of
-returns-in-Refused c =
+returns-in_err-check c =
     let a = c.args in
-    pass_on a.bitboards.now a.board.now a.state c.check.result c.check.ensures (total a.bitboards.now a.color)
-    c.in-Refused.refusal c.in-Refused.is
+    error_answered _ _ c.from_residual.ensures ∙ pass_on a.bitboards.now a.board.now a.state c.check.result c.check.ensures (total a.bitboards.now a.color)
+    _ c.in_err-check.was
     ∙ a_colour a.color (checked a.bitboards.now a.board.now a.state (total a.bitboards.now a.color)) (omega arith)
 
 pub returns-then-total-gt-LARGEST : goal.returns-then-total-gt-LARGEST
@@ -52,7 +53,7 @@ unfolding material_of
 returns-then-total-gt-LARGEST c =
     let passed : total c.args.bitboards.now c.args.color ≡ material_of c.args.bitboards.now c.args.board.now c.args.state c.args.color = let a = c.args in
     fit_rest a.bitboards.now a.board.now a.state c.check.result c.check.ensures (total a.bitboards.now a.color)
-    c.in_default.is
+    c.in_ok-check.was
     ∙ a_colour a.color (checked a.bitboards.now a.board.now a.state (total a.bitboards.now a.color)) (below_two a.color c.if-color-gt-BLACK.false) in
     over c.material-total.result _ c.material-total.ensures c.if-total-gt-LARGEST.true ∙ passed
 
@@ -61,6 +62,6 @@ unfolding material_of
 returns c =
     let passed : total c.args.bitboards.now c.args.color ≡ material_of c.args.bitboards.now c.args.board.now c.args.state c.args.color = let a = c.args in
     fit_rest a.bitboards.now a.board.now a.state c.check.result c.check.ensures (total a.bitboards.now a.color)
-    c.in_default.is
+    c.in_ok-check.was
     ∙ a_colour a.color (checked a.bitboards.now a.board.now a.state (total a.bitboards.now a.color)) (below_two a.color c.if-color-gt-BLACK.false) in
     within c.material-total.result _ c.material-total.ensures c.if-total-gt-LARGEST.false ∙ passed

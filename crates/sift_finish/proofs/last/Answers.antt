@@ -10,4 +10,4 @@ returns c =
     last_some a.form a.state a.line.now a.made.now a.rows.now
     c.requires
     c.if-state-eq0.false k.result k.new.made k.new.rows k.ensures
-    p.new.out p.result p.ensures c.or-end-2.result c.or-end-2.ensures
+    p.new.out p.result p.ensures c.unwrap_or-end-2.result c.unwrap_or-end-2.ensures

@@ -13,9 +13,9 @@ pub returns-then-state-eq0 : goal.returns-then-state-eq0
 returns-then-state-eq0 c =
     let a = c.args in
     let p = c.last in
-    subst (λ (x : List ℕ). Adds a.out.now 0 x p.new.out c.or.result) (finished_none a.state c.if-state-eq0.true)
+    subst (λ (x : List ℕ). Adds a.out.now 0 x p.new.out c.unwrap_or.result) (finished_none a.state c.if-state-eq0.true)
     (adds_or a.out.now 0 (last_row (a.state.loaded + a.state.refused) a.state.loaded a.state.refused) p.new.out p.result
-    c.or.result p.ensures c.or.ensures)
+    c.unwrap_or.result p.ensures c.unwrap_or.ensures)
 
 pub returns : goal.returns
 returns c =
@@ -23,7 +23,7 @@ returns c =
     let lines = a.state.loaded + a.state.refused + 1 in
     let k = c.refused in
     let p = c.last-2 in
-    finished_adds a.state c.if-state-eq0.false a.out.now k.new.out p.new.out c.or-next.result c.or-2.result c.requires.0
-    (adds_or a.out.now 0 (refused_row lines 18) k.new.out k.result c.or-next.result k.ensures c.or-next.ensures)
-    (adds_or k.new.out c.or-next.result (last_row lines a.state.loaded (a.state.refused + 1)) p.new.out p.result
-    c.or-2.result p.ensures c.or-2.ensures)
+    finished_adds a.state c.if-state-eq0.false a.out.now k.new.out p.new.out c.unwrap_or-next.result c.unwrap_or-2.result c.requires.0
+    (adds_or a.out.now 0 (refused_row lines 18) k.new.out k.result c.unwrap_or-next.result k.ensures c.unwrap_or-next.ensures)
+    (adds_or k.new.out c.unwrap_or-next.result (last_row lines a.state.loaded (a.state.refused + 1)) p.new.out p.result
+    c.unwrap_or-2.result p.ensures c.unwrap_or-2.ensures)

@@ -56,9 +56,9 @@ loop-at-preserved-then-cut c =
     let k = c.row-row in
     turn_close (run_store a.state a.piece.now a.chunk.now) a.chunk.now a.out.now l.piece l.out l.held l.loaded
     l.refused l.wrote l.at c.loop-at-test.true l.invariant n.result n.new.piece n.ensures
-    c.if-cut.true k.new.out c.or-wrote.result
+    c.if-cut.true k.new.out c.unwrap_or-wrote.result
     (closed_adds (l.loaded + l.refused + 1) l.out k.new.out l.wrote (piece_says n.new.piece) k.result k.ensures
-    c.or-wrote.result c.or-wrote.ensures)
+    c.unwrap_or-wrote.result c.unwrap_or-wrote.ensures)
     k.result.loaded k.ensures.loaded (l.loaded + bool_byte k.result.loaded) (l.refused + bool_byte (not k.result.loaded))
     (tally_number k.result.loaded l.loaded) (tally_number (not k.result.loaded) l.refused)
 

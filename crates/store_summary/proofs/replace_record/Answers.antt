@@ -1,5 +1,9 @@
 -- `store_summary::replace_record` meets its contract. Assumes nothing.
-use mathlib.Core.Path.{ap, ◌∙◌}
+use mathlib.Core.Path.{ap, sym, subst, ◌∙◌}
+use Rattle.std.specs.Prelude.{Result}
+use Rattle.refusal.specs.declared.Refusal.{Refusal}
+use Rattle.refusal.proofs.Paper.{error_is}
+use Rattle.store_summary.specs.Promises.{ReplacesRecord}
 use lib.ListN.{length}
 use Rattle.store_record.specs.Record.{half_in, record_at}
 use Rattle.store_counts.specs.Summary.{wraps_off}
@@ -12,24 +16,27 @@ returns-then-summary-ne-SUMMARY c =
     let a = c.args in
     replace_shape a.bitboards.now a.board.now a.state a.half a.number a.run.now a.summary.now c.if-summary-ne-SUMMARY.true
 
-pub returns-in-Refused : goal.returns-in-Refused
-returns-in-Refused c =
+pub returns-in_err-prepared : goal.returns-in_err-prepared
+returns-in_err-prepared c =
     let a = c.args in
-    replace_position a.bitboards.now a.board.now a.state a.half a.number a.run.now a.summary.now c.if-summary-ne-SUMMARY.false
-    c.prepare-prepared.result c.prepare-prepared.ensures c.in-Refused.refusal c.in-Refused.is
+    subst (λ (r : Result Unit Refusal). ReplacesRecord a.bitboards.now a.board.now a.state a.half a.number a.run.now a.summary.now r a.run.now a.summary.now)
+    (sym (error_is _ _ c.from_residual.ensures))
+    (replace_position a.bitboards.now a.board.now a.state a.half a.number a.run.now a.summary.now c.if-summary-ne-SUMMARY.false
+    c.prepare-prepared.result c.prepare-prepared.ensures _ c.in_err-prepared.was)
 
-pub returns-in-Refused-old : goal.returns-in-Refused-old
-returns-in-Refused-old c =
+pub returns-in_err-read_at : goal.returns-in_err-read_at
+returns-in_err-read_at c =
     let a = c.args in
-    replace_old_holds a.bitboards.now a.board.now a.state a.half a.number a.run.now a.summary.now c.if-summary-ne-SUMMARY.false
-    c.prepare-prepared.result c.prepare-prepared.ensures c.in_default.is c.read_at-old.result c.read_at-old.ensures c.in-Refused-old.refusal
-    c.in-Refused-old.is
+    subst (λ (r : Result Unit Refusal). ReplacesRecord a.bitboards.now a.board.now a.state a.half a.number a.run.now a.summary.now r a.run.now a.summary.now)
+    (sym (error_is _ _ c.from_residual-in_err-read_at.ensures))
+    (replace_old_holds a.bitboards.now a.board.now a.state a.half a.number a.run.now a.summary.now c.if-summary-ne-SUMMARY.false
+    c.prepare-prepared.result c.prepare-prepared.ensures c.in_ok-prepared.was c.read_at.result c.read_at.ensures _ c.in_err-read_at.was)
 
 pub returns-then-number-summary : goal.returns-then-number-summary
 returns-then-number-summary c =
     let a = c.args in
     replace_absent a.bitboards.now a.board.now a.state a.half a.number a.run.now a.summary.now c.if-summary-ne-SUMMARY.false
-    c.prepare-prepared.result c.prepare-prepared.ensures c.in_default.is c.read_at-old.result c.read_at-old.ensures _ _ c.in_default-old.is
+    c.prepare-prepared.result c.prepare-prepared.ensures c.in_ok-prepared.was c.read_at.result c.read_at.ensures _ _ c.in_ok-read_at.was
     c.if-number-summary.true
 
 pub take_off-requires : goal.take_off-requires
@@ -38,8 +45,8 @@ take_off-requires c =
     record {
       size = c.if-summary-ne-SUMMARY.false;
       there = there a.bitboards.now a.board.now a.state a.half a.number a.run.now
-          a.summary.now c.if-summary-ne-SUMMARY.false c.prepare-prepared.result c.prepare-prepared.ensures c.in_default.is c.read_at-old.result c.read_at-old.ensures
-          _ _ c.in_default-old.is;
+          a.summary.now c.if-summary-ne-SUMMARY.false c.prepare-prepared.result c.prepare-prepared.ensures c.in_ok-prepared.was c.read_at.result c.read_at.ensures
+          _ _ c.in_ok-read_at.was;
     }
 
 pub keep-requires : goal.keep-requires
@@ -50,12 +57,12 @@ keep-requires c =
           (wraps_off (half_in (record_at a.run.now a.number))) (record_at a.run.now a.number);
       there =
           there a.bitboards.now a.board.now a.state a.half a.number a.run.now a.summary.now c.if-summary-ne-SUMMARY.false
-          c.prepare-prepared.result c.prepare-prepared.ensures c.in_default.is c.read_at-old.result c.read_at-old.ensures _ _ c.in_default-old.is;
+          c.prepare-prepared.result c.prepare-prepared.ensures c.in_ok-prepared.was c.read_at.result c.read_at.ensures _ _ c.in_ok-read_at.was;
     }
 
 pub returns : goal.returns
 returns c =
     let a = c.args in
     replace_done a.bitboards.now a.board.now a.state a.half a.number a.run.now a.summary.now c.if-summary-ne-SUMMARY.false
-    c.prepare-prepared.result c.prepare-prepared.ensures c.in_default.is c.read_at-old.result c.read_at-old.ensures _ _ c.in_default-old.is
+    c.prepare-prepared.result c.prepare-prepared.ensures c.in_ok-prepared.was c.read_at.result c.read_at.ensures _ _ c.in_ok-read_at.was
     c.if-number-summary.false c.take_off.new.summary c.keep.new.run c.keep.new.summary c.take_off.ensures c.keep.ensures

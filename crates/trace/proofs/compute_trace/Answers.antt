@@ -8,15 +8,15 @@ use Rattle.trace.specs.Trace.{trace_of}
 use Rattle.trace.proofs.Doors.{passed_on, traced}
 use Rattle.trace.proofs.compute_trace.Goals as goal
 
-pub returns-in-Refused : goal.returns-in-Refused
-returns-in-Refused c =
-    let q = c.in-Refused.refusal in
+pub returns-in-Err : goal.returns-in-Err
+returns-in-Err c =
+    let q = c.in-Err.refusal in
     let a = c.args in
     let e : length a.entries.now ≡ 768 = omega (arith, c.if-entries-ne-COUNT.false) in
-    passed_on a.bitboards.now a.board.now a.state a.entries.now c.refused-in-Refused.result q e
+    passed_on a.bitboards.now a.board.now a.state a.entries.now c.refused-in-Err.result q e
     (pass_on a.bitboards.now a.board.now a.state c.check.result c.check.ensures
-    (given (trace_of a.bitboards.now a.state.side)) q c.in-Refused.is)
-    c.refused-in-Refused.ensures
+    (given (trace_of a.bitboards.now a.state.side)) q c.in-Err.is)
+    c.refused-in-Err.ensures
 
 pub mark-requires : goal.mark-requires
 mark-requires c =

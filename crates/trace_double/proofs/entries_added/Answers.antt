@@ -9,7 +9,7 @@ use lib.Ieee.{Float}
 use lib.ListN.{length}
 use Rattle.bits.specs.Bitboard.{squares}
 use Rattle.bits.specs.Answers.{lowest}
-use Rattle.bits.proofs.Each.{next_at, next_done}
+use Rattle.bits.proofs.Each.{next_at, next_fits, next_done}
 use Rattle.trace_marks.specs.Marks.{group_of, mark_of}
 use Rattle.trace_marks.proofs.Marks.{mark_small, mark_none}
 use Rattle.trace_marks.proofs.Tested.{group_none}
@@ -44,31 +44,31 @@ returns-in_default c =
 
 pub group_added-score-requires : goal.group_added-score-requires
 group_added-score-requires c =
-    let came : (squares c.loop-group.rest ≡ c.in-At.group ∷ squares c.in-At.r) × (c.in-At.group < 64) = next_at c.loop-group.rest c.in-At.group c.in-At.r c.loop-group.invariant.fits
-    (sym (ap lowest c.in-At.is) ∙ c.next-n.ensures) in
-    let below : c.in-At.group < 48 = let l = c.loop-group in
+    let came : (squares c.loop-group.rest ≡ c.in-Some.group ∷ squares c.in-Some.r) × (c.in-Some.group < 64) = next_at c.loop-group.rest c.in-Some.group c.in-Some.r c.loop-group.invariant.fits
+    (sym (ap lowest c.in-Some.is) ∙ c.next-n.ensures) in
+    let below : c.in-Some.group < 48 = let l = c.loop-group in
     let a = c.args in
-    walk.walk_below (after a.squares.now a.x a.entries.now a.start) 48 l.score l.rest c.in-At.group
-    c.in-At.r l.invariant (came).0 in
+    walk.walk_below (after a.squares.now a.x a.entries.now a.start) 48 l.score l.rest c.in-Some.group
+    c.in-Some.r l.invariant (came).0 in
     let h = below in search rules
 
 pub loop-group-smaller : goal.loop-group-smaller
 loop-group-smaller c =
-    let came : (squares c.loop-group.rest ≡ c.in-At.group ∷ squares c.in-At.r) × (c.in-At.group < 64) = next_at c.loop-group.rest c.in-At.group c.in-At.r c.loop-group.invariant.fits
-    (sym (ap lowest c.in-At.is) ∙ c.next-n.ensures) in
+    let came : (squares c.loop-group.rest ≡ c.in-Some.group ∷ squares c.in-Some.r) × (c.in-Some.group < 64) = next_at c.loop-group.rest c.in-Some.group c.in-Some.r c.loop-group.invariant.fits
+    (sym (ap lowest c.in-Some.is) ∙ c.next-n.ensures) in
     omega (arith, ap length (came).0)
 
 pub loop-group-preserved : goal.loop-group-preserved
 loop-group-preserved c =
-    let came : (squares c.loop-group.rest ≡ c.in-At.group ∷ squares c.in-At.r) × (c.in-At.group < 64) = next_at c.loop-group.rest c.in-At.group c.in-At.r c.loop-group.invariant.fits
-    (sym (ap lowest c.in-At.is) ∙ c.next-n.ensures) in
+    let came : (squares c.loop-group.rest ≡ c.in-Some.group ∷ squares c.in-Some.r) × (c.in-Some.group < 64) = next_at c.loop-group.rest c.in-Some.group c.in-Some.r c.loop-group.invariant.fits
+    (sym (ap lowest c.in-Some.is) ∙ c.next-n.ensures) in
     let l = c.loop-group in
     let a = c.args in
     let w = a.squares.now in
     let e = a.entries.now in
-    let s = c.in-At.group in
-    let r = c.in-At.r in
-    walk.walk_on (after w a.x e a.start) 48 l.score l.rest s r l.invariant (came).0 c.group_added-score.result (omega arith)
+    let s = c.in-Some.group in
+    let r = c.in-Some.r in
+    walk.walk_on (after w a.x e a.start) 48 l.score l.rest s r l.invariant (came).0 c.group_added-score.result (next_fits c.loop-group.rest c.in-Some.group c.in-Some.r (sym (ap lowest c.in-Some.is) ∙ c.next-n.ensures))
     (c.group_added-score.ensures
     ∙ ap (λ (f : Float). entries_from w a.x e f (16 * s) 16) (walk.walk_at (after w a.x e a.start) 48 l.score l.rest s r l.invariant (came).0)
     ∙ folds.group_more (entry_step w a.x e) a.start s)

@@ -7,7 +7,7 @@ use borrow.Author.Rules.{rules}
 use lib.ListN.{length}
 use Rattle.bits.specs.Bitboard.{squares}
 use Rattle.bits.specs.Answers.{lowest}
-use Rattle.bits.proofs.Each.{next_at, next_done}
+use Rattle.bits.proofs.Each.{next_at, next_fits, next_done}
 use Rattle.trace_marks.specs.Marks.{odd_at}
 use Rattle.trace_marks.proofs.Tested.{ones_of_holds, odd_small, odd_none}
 use Rattle.trace_marks.proofs.Walk as walk
@@ -37,39 +37,39 @@ returns-in_default c =
 
 pub bounds-entries-k : goal.bounds-entries-k
 bounds-entries-k c =
-    let came : (squares c.loop-j.rest ≡ c.in-At.j ∷ squares c.in-At.r) × (c.in-At.j < 64) = next_at c.loop-j.rest c.in-At.j c.in-At.r c.loop-j.invariant.fits
-    (sym (ap lowest c.in-At.is) ∙ c.next-n.ensures) in
-    let below : c.in-At.j < 16 = let l = c.loop-j in
+    let came : (squares c.loop-j.rest ≡ c.in-Some.j ∷ squares c.in-Some.r) × (c.in-Some.j < 64) = next_at c.loop-j.rest c.in-Some.j c.in-Some.r c.loop-j.invariant.fits
+    (sym (ap lowest c.in-Some.is) ∙ c.next-n.ensures) in
+    let below : c.in-Some.j < 16 = let l = c.loop-j in
     let a = c.args in
     walk.walk_below (entries_from a.squares.now a.x a.entries.now a.start (16 * a.group)) 16 l.score l.rest
-    c.in-At.j c.in-At.r l.invariant (came).0 in
+    c.in-Some.j c.in-Some.r l.invariant (came).0 in
     let h = below in search rules
 
 pub entry_added-score-requires : goal.entry_added-score-requires
 entry_added-score-requires c =
-    let came : (squares c.loop-j.rest ≡ c.in-At.j ∷ squares c.in-At.r) × (c.in-At.j < 64) = next_at c.loop-j.rest c.in-At.j c.in-At.r c.loop-j.invariant.fits
-    (sym (ap lowest c.in-At.is) ∙ c.next-n.ensures) in
-    let below : c.in-At.j < 16 = let l = c.loop-j in
+    let came : (squares c.loop-j.rest ≡ c.in-Some.j ∷ squares c.in-Some.r) × (c.in-Some.j < 64) = next_at c.loop-j.rest c.in-Some.j c.in-Some.r c.loop-j.invariant.fits
+    (sym (ap lowest c.in-Some.is) ∙ c.next-n.ensures) in
+    let below : c.in-Some.j < 16 = let l = c.loop-j in
     let a = c.args in
     walk.walk_below (entries_from a.squares.now a.x a.entries.now a.start (16 * a.group)) 16 l.score l.rest
-    c.in-At.j c.in-At.r l.invariant (came).0 in
+    c.in-Some.j c.in-Some.r l.invariant (came).0 in
     let h = below in search rules
 
 pub loop-j-smaller : goal.loop-j-smaller
 loop-j-smaller c =
-    let came : (squares c.loop-j.rest ≡ c.in-At.j ∷ squares c.in-At.r) × (c.in-At.j < 64) = next_at c.loop-j.rest c.in-At.j c.in-At.r c.loop-j.invariant.fits
-    (sym (ap lowest c.in-At.is) ∙ c.next-n.ensures) in
+    let came : (squares c.loop-j.rest ≡ c.in-Some.j ∷ squares c.in-Some.r) × (c.in-Some.j < 64) = next_at c.loop-j.rest c.in-Some.j c.in-Some.r c.loop-j.invariant.fits
+    (sym (ap lowest c.in-Some.is) ∙ c.next-n.ensures) in
     omega (arith, ap length (came).0)
 
 pub loop-j-preserved : goal.loop-j-preserved
 loop-j-preserved c =
-    let came : (squares c.loop-j.rest ≡ c.in-At.j ∷ squares c.in-At.r) × (c.in-At.j < 64) = next_at c.loop-j.rest c.in-At.j c.in-At.r c.loop-j.invariant.fits
-    (sym (ap lowest c.in-At.is) ∙ c.next-n.ensures) in
+    let came : (squares c.loop-j.rest ≡ c.in-Some.j ∷ squares c.in-Some.r) × (c.in-Some.j < 64) = next_at c.loop-j.rest c.in-Some.j c.in-Some.r c.loop-j.invariant.fits
+    (sym (ap lowest c.in-Some.is) ∙ c.next-n.ensures) in
     let l = c.loop-j in
     let a = c.args in
-    let s = c.in-At.j in
-    let r = c.in-At.r in
+    let s = c.in-Some.j in
+    let r = c.in-Some.r in
     let F = entries_from a.squares.now a.x a.entries.now a.start (16 * a.group) in
-    walk.walk_on F 16 l.score l.rest s r l.invariant (came).0 c.entry_added-score.result (omega arith)
+    walk.walk_on F 16 l.score l.rest s r l.invariant (came).0 c.entry_added-score.result (next_fits c.loop-j.rest c.in-Some.j c.in-Some.r (sym (ap lowest c.in-Some.is) ∙ c.next-n.ensures))
     (one_read a.squares.now a.x a.entries.now a.start (16 * a.group) s c.entry_added-arg-1.given
     (walk.walk_at F 16 l.score l.rest s r l.invariant (came).0) c.entry_added-score.ensures)

@@ -7,13 +7,13 @@ use Rattle.trace_list_computed.proofs.Sums.{are_few, used_few}
 use Rattle.trace_list_computed.proofs.Doors.{refuses, computed}
 use Rattle.trace_list_computed.proofs.compute_list.Goals as goal
 
-pub returns-in-Refused : goal.returns-in-Refused
-returns-in-Refused c =
-    let q = c.in-Refused.refusal in
+pub returns-in-Err : goal.returns-in-Err
+returns-in-Err c =
+    let q = c.in-Err.refusal in
     let a = c.args in
     refuses a.bitboards.now a.board.now a.state a.bytes.now c.refused.result q
     (pass_on a.bitboards.now a.board.now a.state c.check.result c.check.ensures
-    (given (trace_of a.bitboards.now a.state.side)) q c.in-Refused.is)
+    (given (trace_of a.bitboards.now a.state.side)) q c.in-Err.is)
     c.refused.ensures
 
 pub listed-entries-requires : goal.listed-entries-requires

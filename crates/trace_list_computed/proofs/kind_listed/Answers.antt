@@ -7,7 +7,7 @@ use native.Mathlib.Omega.{arith}
 use lib.ListN.{length}
 use Rattle.bits.specs.Bitboard.{squares}
 use Rattle.bits.specs.Answers.{lowest}
-use Rattle.bits.proofs.Each.{next_at, next_done}
+use Rattle.bits.proofs.Each.{next_at, next_fits, next_done}
 use Rattle.trace_marks.proofs.Walk as walk
 use Rattle.trace_list_computed.specs.PrivateWalk.{ones_before, turned_over}
 use Rattle.trace_list_computed.proofs.Squares.{Made, made_to, padded_list, begun, ended, white_room, black_room, square_on}
@@ -30,26 +30,26 @@ returns-in_default c =
 
 pub stands-requires : goal.stands-requires
 stands-requires c =
-    let came : (squares c.loop-s.rest ≡ c.in-At.s ∷ squares c.in-At.r) × (c.in-At.s < 64) = next_at c.loop-s.rest c.in-At.s c.in-At.r c.loop-s.invariant.fits
-    (sym (ap lowest c.in-At.is) ∙ c.next-next.ensures) in
+    let came : (squares c.loop-s.rest ≡ c.in-Some.s ∷ squares c.in-Some.r) × (c.in-Some.s < 64) = next_at c.loop-s.rest c.in-Some.s c.in-Some.r c.loop-s.invariant.fits
+    (sym (ap lowest c.in-Some.is) ∙ c.next-next.ensures) in
     (came).1
 
 pub stands-requires-in-loop-s : goal.stands-requires-in-loop-s
 stands-requires-in-loop-s c =
-    let came : (squares c.loop-s.rest ≡ c.in-At.s ∷ squares c.in-At.r) × (c.in-At.s < 64) = next_at c.loop-s.rest c.in-At.s c.in-At.r c.loop-s.invariant.fits
-    (sym (ap lowest c.in-At.is) ∙ c.next-next.ensures) in
+    let came : (squares c.loop-s.rest ≡ c.in-Some.s ∷ squares c.in-Some.r) × (c.in-Some.s < 64) = next_at c.loop-s.rest c.in-Some.s c.in-Some.r c.loop-s.invariant.fits
+    (sym (ap lowest c.in-Some.is) ∙ c.next-next.ensures) in
     (came).1
 
 pub put_both-n-requires : goal.put_both-n-requires
 put_both-n-requires c =
-    let came : (squares c.loop-s.rest ≡ c.in-At.s ∷ squares c.in-At.r) × (c.in-At.s < 64) = next_at c.loop-s.rest c.in-At.s c.in-At.r c.loop-s.invariant.fits
-    (sym (ap lowest c.in-At.is) ∙ c.next-next.ensures) in
-    let made : (c.loop-s.n, c.loop-s.bytes) ≡ made_to c.args.bitboards.now c.args.kind c.in-At.s = let l = c.loop-s in
+    let came : (squares c.loop-s.rest ≡ c.in-Some.s ∷ squares c.in-Some.r) × (c.in-Some.s < 64) = next_at c.loop-s.rest c.in-Some.s c.in-Some.r c.loop-s.invariant.fits
+    (sym (ap lowest c.in-Some.is) ∙ c.next-next.ensures) in
+    let made : (c.loop-s.n, c.loop-s.bytes) ≡ made_to c.args.bitboards.now c.args.kind c.in-Some.s = let l = c.loop-s in
     let a = c.args in
-    walk.walk_at (made_to a.bitboards.now a.kind) 64 (l.n, l.bytes) l.rest c.in-At.s
-    c.in-At.r l.invariant (came).0 in
+    walk.walk_at (made_to a.bitboards.now a.kind) 64 (l.n, l.bytes) l.rest c.in-Some.s
+    c.in-Some.r l.invariant (came).0 in
     let b = c.args.bitboards.now in
-    let q = c.in-At.s in
+    let q = c.in-Some.s in
     let w = c.standing-white in
     let v = c.turned-black.ensures ∙ ap turned_over c.standing.ensures in (
       white_room b c.args.kind q w.result c.turned-black.result c.requires.0 (came).1 w.ensures v c.requires.1 c.loop-s.n c.loop-s.bytes
@@ -62,24 +62,24 @@ put_both-n-requires c =
 
 pub loop-s-smaller : goal.loop-s-smaller
 loop-s-smaller c =
-    let came : (squares c.loop-s.rest ≡ c.in-At.s ∷ squares c.in-At.r) × (c.in-At.s < 64) = next_at c.loop-s.rest c.in-At.s c.in-At.r c.loop-s.invariant.fits
-    (sym (ap lowest c.in-At.is) ∙ c.next-next.ensures) in
+    let came : (squares c.loop-s.rest ≡ c.in-Some.s ∷ squares c.in-Some.r) × (c.in-Some.s < 64) = next_at c.loop-s.rest c.in-Some.s c.in-Some.r c.loop-s.invariant.fits
+    (sym (ap lowest c.in-Some.is) ∙ c.next-next.ensures) in
     omega (arith, ap length (came).0)
 
 pub loop-s-preserved : goal.loop-s-preserved
 loop-s-preserved c =
-    let came : (squares c.loop-s.rest ≡ c.in-At.s ∷ squares c.in-At.r) × (c.in-At.s < 64) = next_at c.loop-s.rest c.in-At.s c.in-At.r c.loop-s.invariant.fits
-    (sym (ap lowest c.in-At.is) ∙ c.next-next.ensures) in
-    let made : (c.loop-s.n, c.loop-s.bytes) ≡ made_to c.args.bitboards.now c.args.kind c.in-At.s = let l = c.loop-s in
+    let came : (squares c.loop-s.rest ≡ c.in-Some.s ∷ squares c.in-Some.r) × (c.in-Some.s < 64) = next_at c.loop-s.rest c.in-Some.s c.in-Some.r c.loop-s.invariant.fits
+    (sym (ap lowest c.in-Some.is) ∙ c.next-next.ensures) in
+    let made : (c.loop-s.n, c.loop-s.bytes) ≡ made_to c.args.bitboards.now c.args.kind c.in-Some.s = let l = c.loop-s in
     let a = c.args in
-    walk.walk_at (made_to a.bitboards.now a.kind) 64 (l.n, l.bytes) l.rest c.in-At.s
-    c.in-At.r l.invariant (came).0 in
+    walk.walk_at (made_to a.bitboards.now a.kind) 64 (l.n, l.bytes) l.rest c.in-Some.s
+    c.in-Some.r l.invariant (came).0 in
     let b = c.args.bitboards.now in
-    let q = c.in-At.s in
+    let q = c.in-Some.s in
     let w = c.standing-white in
     let v = c.turned-black.ensures ∙ ap turned_over c.standing.ensures in
-    walk.walk_on (made_to b c.args.kind) 64 (c.loop-s.n, c.loop-s.bytes) c.loop-s.rest q c.in-At.r c.loop-s.invariant
-    (came).0 _ (omega arith)
+    walk.walk_on (made_to b c.args.kind) 64 (c.loop-s.n, c.loop-s.bytes) c.loop-s.rest q c.in-Some.r c.loop-s.invariant
+    (came).0 _ (next_fits c.loop-s.rest c.in-Some.s c.in-Some.r (sym (ap lowest c.in-Some.is) ∙ c.next-next.ensures))
     (square_on b c.args.kind q w.result c.turned-black.result c.requires.0 (came).1 w.ensures v c.requires.1 c.loop-s.n c.loop-s.bytes
     (made) c.stands.result c.stands.ensures
     _ _ refl refl c.stands-in-loop-s.result c.stands-in-loop-s.ensures c.put_both-n.result _ c.put_both-n.ensures.0 c.put_both-n.ensures.1)

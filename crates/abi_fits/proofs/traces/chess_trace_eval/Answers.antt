@@ -5,10 +5,10 @@ use lib.Ieee.{Float}
 use lib.IntN.{ℤ}
 use mir.Syntax.{w32}
 use mir.ValLaws.{to_z-of_z}
-use Rattle.refusal.specs.Answer.{Answer}
+use Rattle.refusal.specs.Answer.{Answer, answered}
 use Rattle.trace_counts.specs.declared.Trace.{Trace}
 use Rattle.trace_counts.specs.declared.Weights.{Weights}
-use Rattle.trace_double.specs.Promises.{paper, double_of}
+use Rattle.trace_double.specs.Promises.{double_of}
 use Rattle.abi_records.specs.Records.{trace_of_numbers, weights_of}
 use Rattle.abi_codes.proofs.Passed.{met, door_passed}
 use Rattle.abi_records.proofs.Read.{trace_same}
@@ -18,9 +18,9 @@ use Rattle.abi_fits.proofs.traces.chess_trace_eval.Goals as goal
 lent : (e : List ℤ) (q : List Float) (t u : Trace) (w v : Weights) {r : Answer Float} → r ≡ double_of t e w q → t ≡ u → w ≡ v → r ≡ double_of u e v q
 lent e q t u w v p f g = p ∙ ap (λ (x : Trace). double_of x e w q) f ∙ ap (λ (x : Weights). double_of u e x q) g
 
-pub returns-in-Refused : goal.returns-in-Refused
-returns-in-Refused c =
-    let handed : paper c.eval-answer.result ≡ double_of (trace_of_numbers c.args.counts.now c.args.mobility.now c.args.sign c.args.pieces) c.args.entries.now (weights_of c.args.weights.now) c.args.squares.now =
+pub returns-in-Err : goal.returns-in-Err
+returns-in-Err c =
+    let handed : answered c.eval-answer.result ≡ double_of (trace_of_numbers c.args.counts.now c.args.mobility.now c.args.sign c.args.pieces) c.args.entries.now (weights_of c.args.weights.now) c.args.squares.now =
     let a = c.args in
     lent a.entries.now a.squares.now c.trace_of-trace.result
     (trace_of_numbers a.counts.now a.mobility.now a.sign a.pieces)
@@ -28,11 +28,11 @@ returns-in-Refused c =
     (c.trace_of-trace.ensures
     ∙ trace_same refl refl refl refl refl refl refl (to_z-of_z w32 a.sign c.ranges.sign) (to_z-of_z w32 a.pieces c.ranges.pieces))
     c.weights_of.ensures in
-    door_passed (met paper handed c.in-Refused.is) c.refused.ensures refl
+    door_passed (met answered handed c.in-Err.is) c.refused.ensures refl
 
-pub returns-in-Is : goal.returns-in-Is
-returns-in-Is c =
-    let handed : paper c.eval-answer.result ≡ double_of (trace_of_numbers c.args.counts.now c.args.mobility.now c.args.sign c.args.pieces) c.args.entries.now (weights_of c.args.weights.now) c.args.squares.now =
+pub returns-in-Ok : goal.returns-in-Ok
+returns-in-Ok c =
+    let handed : answered c.eval-answer.result ≡ double_of (trace_of_numbers c.args.counts.now c.args.mobility.now c.args.sign c.args.pieces) c.args.entries.now (weights_of c.args.weights.now) c.args.squares.now =
     let a = c.args in
     lent a.entries.now a.squares.now c.trace_of-trace.result
     (trace_of_numbers a.counts.now a.mobility.now a.sign a.pieces)
@@ -40,4 +40,4 @@ returns-in-Is c =
     (c.trace_of-trace.ensures
     ∙ trace_same refl refl refl refl refl refl refl (to_z-of_z w32 a.sign c.ranges.sign) (to_z-of_z w32 a.pieces c.ranges.pieces))
     c.weights_of.ensures in
-    door_passed (met paper handed c.in-Is.is) refl refl
+    door_passed (met answered handed c.in-Ok.is) refl refl

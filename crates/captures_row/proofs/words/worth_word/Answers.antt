@@ -20,6 +20,6 @@ returns c =
     let e : w.result ≡ a.worth = w.ensures ∙ held_is {w = w32} n refl in
     let f : SFits w64 w.result = subst (SFits w64) (sym e) (widens {w = w32} w64 tt n) in
     adds_then q.ensures
-    (subst (λ (z : ℤ). Adds q.new.out q.result (signed_of z) p.new.out c.or.result) (held_is {w = w64} f e)
-    (adds_or q.new.out q.result (signed_of (held w64 w.result)) p.new.out p.result c.or.result p.ensures c.or.ensures))
+    (subst (λ (z : ℤ). Adds q.new.out q.result (signed_of z) p.new.out c.unwrap_or.result) (held_is {w = w64} f e)
+    (adds_or q.new.out q.result (signed_of (held w64 w.result)) p.new.out p.result c.unwrap_or.result p.ensures c.unwrap_or.ensures))
     (omega (arith, length_signed a.worth, c.requires))

@@ -20,8 +20,8 @@ returns-in_default c =
 pub loop-n-preserved : goal.loop-n-preserved
 loop-n-preserved c =
     let a = c.args in
-    listing_more a.mode a.kinds.now a.bitboards.now a.to c.loop-n.invariant c.loop-n-test.true c.in-At.square c.in-At.kind
-    c.capturer-a.result c.capturer-a.ensures c.in-At.is c.make-made.result c.make-made.ensures
+    listing_more a.mode a.kinds.now a.bitboards.now a.to c.loop-n.invariant c.loop-n-test.true c.in-Some.square c.in-Some.kind
+    c.capturer-a.result c.capturer-a.ensures c.in-Some.is c.make-made.result c.make-made.ensures
 
 pub returns : goal.returns
 returns c =

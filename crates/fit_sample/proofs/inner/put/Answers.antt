@@ -8,13 +8,13 @@ use Rattle.text_out.proofs.Added.{adds_front}
 use Rattle.fit_sample.proofs.Sampled.{list_long, sample_none, sample_some, mobility_12, sample_300}
 use Rattle.fit_sample.proofs.inner.put.Goals as goal
 
-pub returns-in-Refused : goal.returns-in-Refused
-returns-in-Refused c =
+pub returns-in-Err : goal.returns-in-Err
+returns-in-Err c =
     let a = c.args in
     let l = c.compute_list-traced in
     let p = c.put in
     subst (λ (t : List ℕ). Puts a.out.now p.new.out a.at t p.result)
-    (sample_none a.bitboards.now a.board.now a.state a.half _ l.result l.new.bytes l.ensures _ c.in-Refused.is)
+    (sample_none a.bitboards.now a.board.now a.state a.half _ l.result l.new.bytes l.ensures _ c.in-Err.is)
     p.ensures
 
 pub returns : goal.returns

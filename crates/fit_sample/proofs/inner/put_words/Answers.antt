@@ -12,8 +12,8 @@ loop-number-preserved c = let bytes_of = c.bytes_of-bytes in
     let a = c.args in
     let l = c.loop-number in
     let p = c.put in
-    words_more a.out.now l.out p.new.out a.at l.end c.or-end.result l.number-index a.numbers.now bytes_of.result p.result
+    words_more a.out.now l.out p.new.out a.at l.end c.unwrap_or-end.result l.number-index a.numbers.now bytes_of.result p.result
     c.requires
     c.loop-number-test.true l.invariant
     c.bits-arg-1.given
-    (bytes_of.ensures ∙ ap lowest_first c.bits.ensures) p.ensures c.or-end.ensures
+    (bytes_of.ensures ∙ ap lowest_first c.bits.ensures) p.ensures c.unwrap_or-end.ensures

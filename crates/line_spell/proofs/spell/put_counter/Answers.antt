@@ -11,4 +11,4 @@ returns c =
     let d = c.decimal in
     counter_put a.n p.ensures c.if-n-gt-MOST.false
     c.requires
-    (adds_or p.new.out p.result (decimal_of a.n) d.new.out d.result c.or.result d.ensures c.or.ensures)
+    (adds_or p.new.out p.result (decimal_of a.n) d.new.out d.result c.unwrap_or.result d.ensures c.unwrap_or.ensures)

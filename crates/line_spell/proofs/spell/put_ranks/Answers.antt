@@ -18,9 +18,11 @@ loop-rank-preserved c =
     let a = c.args in
     let p = c.requires in
     let l = c.loop-rank in
-    let k = c.put_rank-end in
-    (omega arith, down_again a.board.now a.line.now l.line p k.new.line l.end k.result c.line-1.given (l.rank - 1) (omega arith)
-    l.invariant.1 k.ensures)
+    let k = c.put_rank-end in (
+      omega arith,
+      down_again a.board.now a.line.now l.line p k.new.line l.end k.result c.line-1.given (l.rank - 1) (omega arith)
+          l.invariant.1 k.ensures,
+    )
 
 pub returns : goal.returns
 returns c =

@@ -36,14 +36,14 @@ loop-code-preserved c =
     let p = c.requires in
     let l = c.loop-code in
     elim c.if-code-eq0.branch [
-      then-code-eq0 w ↦ rw (w.line-is, w.end-is, w.run-is) (turn_empty a.squares.now p.few a.line.now l.line a.at l.end l.run l.code-index p.rest l.invariant (omega arith)
-        (get_or a.squares.now l.code-index 0) refl w.if-code-eq0.true)
+      | then-code-eq0 w ↦ rw (w.line-is, w.end-is, w.run-is) (turn_empty a.squares.now p.few a.line.now l.line a.at l.end l.run l.code-index p.rest l.invariant (omega arith)
+          (get_or a.squares.now l.code-index 0) refl w.if-code-eq0.true)
       | else-code-eq0+then-run-eq0 w ↦ rw (w.line-is, w.end-is, w.run-is) (turn_letter a.squares.now p.few a.line.now l.line a.at l.end l.run l.code-index p.rest l.invariant (omega arith)
-        (get_or a.squares.now l.code-index 0) refl
-        w.if-code-eq0.false w.if-run-eq0.true w.letter.result w.letter.ensures)
+          (get_or a.squares.now l.code-index 0) refl
+          w.if-code-eq0.false w.if-run-eq0.true w.letter.result w.letter.ensures)
       | else-code-eq0+else-run-eq0 w ↦ rw (w.line-is, w.end-is, w.run-is) (turn_both a.squares.now p.few a.line.now l.line a.at l.end l.run l.code-index p.rest l.invariant (omega arith)
-        (get_or a.squares.now l.code-index 0) refl
-        w.if-code-eq0.false w.if-run-eq0.false w.letter-else-run-eq0.result w.letter-else-run-eq0.ensures)
+          (get_or a.squares.now l.code-index 0) refl
+          w.if-code-eq0.false w.if-run-eq0.false w.letter-else-run-eq0.result w.letter-else-run-eq0.ensures)
     ]
 
 pub returns-then-run-eq0-2 : goal.returns-then-run-eq0-2

@@ -14,7 +14,7 @@ returns-then-not-stands c =
     let s = c in
     let p = s in
     let a = p.args in
-    not_empty a.board.now a.side a.passant p.in-On.square p.in-On.is s.stands.result s.stands.ensures
+    not_empty a.board.now a.side a.passant p.in-Some.square p.in-Some.is s.stands.result s.stands.ensures
     (not-true _ c.if-not-stands.true-raw)
 
 pub returns-then-square-ne-SIXTH : goal.returns-then-square-ne-SIXTH
@@ -23,7 +23,7 @@ returns-then-square-ne-SIXTH c =
     let s = e in
     let p = s in
     let a = p.args in
-    not_sixth a.board.now a.side a.passant p.in-On.square p.in-On.is s.stands.result s.stands.ensures
+    not_sixth a.board.now a.side a.passant p.in-Some.square p.in-Some.is s.stands.result s.stands.ensures
     (not-false _ e.if-not-stands.false-raw) c.if-side-eq-WHITE.true c.if-square-ne-SIXTH.true
 
 pub returns-then-side-eq-WHITE : goal.returns-then-side-eq-WHITE
@@ -33,7 +33,7 @@ returns-then-side-eq-WHITE c =
     let p = s in
     let a = p.args in
     c.stands-then-side-eq-WHITE.ensures
-    ∙ on_sixth a.board.now a.side a.passant p.in-On.square p.in-On.is s.stands.result s.stands.ensures
+    ∙ on_sixth a.board.now a.side a.passant p.in-Some.square p.in-Some.is s.stands.result s.stands.ensures
     (not-false _ w.if-not-stands.false-raw) w.if-side-eq-WHITE.true c.if-square-ne-SIXTH.false
 
 pub returns-then-square-ne-THIRD : goal.returns-then-square-ne-THIRD
@@ -42,7 +42,7 @@ returns-then-square-ne-THIRD c =
     let s = e in
     let p = s in
     let a = p.args in
-    not_third a.board.now a.side a.passant p.in-On.square p.in-On.is s.stands.result s.stands.ensures
+    not_third a.board.now a.side a.passant p.in-Some.square p.in-Some.is s.stands.result s.stands.ensures
     (not-false _ e.if-not-stands.false-raw) c.if-side-eq-WHITE.false c.if-square-ne-THIRD.true
 
 pub returns : goal.returns
@@ -52,5 +52,5 @@ returns c =
     let p = s in
     let a = p.args in
     c.stands-2.ensures
-    ∙ on_third a.board.now a.side a.passant p.in-On.square p.in-On.is s.stands.result s.stands.ensures
+    ∙ on_third a.board.now a.side a.passant p.in-Some.square p.in-Some.is s.stands.result s.stands.ensures
     (not-false _ w.if-not-stands.false-raw) w.if-side-eq-WHITE.false c.if-square-ne-THIRD.false

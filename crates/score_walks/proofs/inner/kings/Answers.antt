@@ -6,7 +6,7 @@ use native.Mathlib.Omega.{arith}
 use lib.ListN.{length}
 use Rattle.bits.specs.Bitboard.{squares}
 use Rattle.bits.specs.Answers.{lowest}
-use Rattle.bits.proofs.Each.{next_at, next_done}
+use Rattle.bits.proofs.Each.{next_at, next_fits, next_done}
 use Rattle.score_weights.specs.PrivatePacked.{packed_at}
 use Rattle.score_weights.proofs.Packed.{packed_le}
 use Rattle.score_walks.specs.PrivateWalked.{packed_from}
@@ -27,28 +27,28 @@ returns-in_default c =
 
 pub overflow_add-words : goal.overflow_add-words
 overflow_add-words c =
-    let came : (squares c.loop-square.rest ≡ c.in-At.square ∷ squares c.in-At.r) × (c.in-At.square < 64) = next_at c.loop-square.rest c.in-At.square c.in-At.r c.loop-square.invariant.fits
-    (sym (ap lowest c.in-At.is) ∙ c.next-n.ensures) in
+    let came : (squares c.loop-square.rest ≡ c.in-Some.square ∷ squares c.in-Some.r) × (c.in-Some.square < 64) = next_at c.loop-square.rest c.in-Some.square c.in-Some.r c.loop-square.invariant.fits
+    (sym (ap lowest c.in-Some.is) ∙ c.next-n.ensures) in
     let little : c.king_word-words.result ≤ 1099768529141 = subst (λ (n : ℕ). n ≤ 1099768529141) (sym c.king_word-words.ensures) (packed_le _ _) in
     let l = c.loop-square in
     let a = c.args in
-    let h = kept.has_room 1099768529141 (word_of a.color) a.pieces l.words l.rest l.invariant c.in-At.square
-    c.in-At.r c.king_word-words.result (came).0 (little) in
+    let h = kept.has_room 1099768529141 (word_of a.color) a.pieces l.words l.rest l.invariant c.in-Some.square
+    c.in-Some.r c.king_word-words.result (came).0 (little) in
     record { fits = omega (arith, h) }
 
 pub loop-square-smaller : goal.loop-square-smaller
 loop-square-smaller c =
-    let came : (squares c.loop-square.rest ≡ c.in-At.square ∷ squares c.in-At.r) × (c.in-At.square < 64) = next_at c.loop-square.rest c.in-At.square c.in-At.r c.loop-square.invariant.fits
-    (sym (ap lowest c.in-At.is) ∙ c.next-n.ensures) in
+    let came : (squares c.loop-square.rest ≡ c.in-Some.square ∷ squares c.in-Some.r) × (c.in-Some.square < 64) = next_at c.loop-square.rest c.in-Some.square c.in-Some.r c.loop-square.invariant.fits
+    (sym (ap lowest c.in-Some.is) ∙ c.next-n.ensures) in
     let e = ap length (came).0 in omega (arith, e)
 
 pub loop-square-preserved : goal.loop-square-preserved
 loop-square-preserved c =
-    let came : (squares c.loop-square.rest ≡ c.in-At.square ∷ squares c.in-At.r) × (c.in-At.square < 64) = next_at c.loop-square.rest c.in-At.square c.in-At.r c.loop-square.invariant.fits
-    (sym (ap lowest c.in-At.is) ∙ c.next-n.ensures) in
+    let came : (squares c.loop-square.rest ≡ c.in-Some.square ∷ squares c.in-Some.r) × (c.in-Some.square < 64) = next_at c.loop-square.rest c.in-Some.square c.in-Some.r c.loop-square.invariant.fits
+    (sym (ap lowest c.in-Some.is) ∙ c.next-n.ensures) in
     let little : c.king_word-words.result ≤ 1099768529141 = subst (λ (n : ℕ). n ≤ 1099768529141) (sym c.king_word-words.ensures) (packed_le _ _) in
     let l = c.loop-square in
     let a = c.args in
-    kept.more 1099768529141 (word_of a.color) a.pieces l.words l.rest l.invariant c.in-At.square c.in-At.r
+    kept.more 1099768529141 (word_of a.color) a.pieces l.words l.rest l.invariant c.in-Some.square c.in-Some.r
     c.king_word-words.result
-    (came).0 (little) (omega arith) (c.king_word-words.ensures ∙ ap (packed_at 5) c.flip.ensures)
+    (came).0 (little) (next_fits c.loop-square.rest c.in-Some.square c.in-Some.r (sym (ap lowest c.in-Some.is) ∙ c.next-n.ensures)) (c.king_word-words.ensures ∙ ap (packed_at 5) c.flip.ensures)

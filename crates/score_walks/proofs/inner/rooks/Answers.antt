@@ -8,7 +8,7 @@ use lib.ListN.{length}
 use Rattle.bits.specs.Bitboard.{has, how_many, squares}
 use Rattle.bits.specs.Answers.{lowest}
 use Rattle.bits.proofs.Counts.{many_le}
-use Rattle.bits.proofs.Each.{next_at, next_done}
+use Rattle.bits.proofs.Each.{next_at, next_fits, next_done}
 use Rattle.attack.proofs.ByKind.{rook}
 use Rattle.score_weights.specs.PrivatePacked.{packed_at}
 use Rattle.score_weights.proofs.Packed.{packed_le}
@@ -41,45 +41,45 @@ returns-in_default c =
 
 pub overflow_add-attacked : goal.overflow_add-attacked
 overflow_add-attacked c =
-    let came : (squares c.loop-square.rest ≡ c.in-At.square ∷ squares c.in-At.r) × (c.in-At.square < 64) = next_at c.loop-square.rest c.in-At.square c.in-At.r c.loop-square.invariant.0.fits
-    (sym (ap lowest c.in-At.is) ∙ c.next-n.ensures) in
+    let came : (squares c.loop-square.rest ≡ c.in-Some.square ∷ squares c.in-Some.r) × (c.in-Some.square < 64) = next_at c.loop-square.rest c.in-Some.square c.in-Some.r c.loop-square.invariant.0.fits
+    (sym (ap lowest c.in-Some.is) ∙ c.next-n.ensures) in
     let count_le : c.count-attacked.result ≤ 64 = subst (λ (n : ℕ). n ≤ 64) (sym c.count-attacked.ensures) (many_le 64 (has c.rook.result)) in
     let l = c.loop-square in
     let a = c.args in
-    let h = kept.has_room 64 (reach a.color a.occupied) a.pieces l.attacked l.rest l.invariant.0 c.in-At.square
-    c.in-At.r c.count-attacked.result (came).0 (count_le) in
+    let h = kept.has_room 64 (reach a.color a.occupied) a.pieces l.attacked l.rest l.invariant.0 c.in-Some.square
+    c.in-Some.r c.count-attacked.result (came).0 (count_le) in
     record { fits = omega (arith, h) }
 
 pub overflow_add-words : goal.overflow_add-words
 overflow_add-words c =
-    let came : (squares c.loop-square.rest ≡ c.in-At.square ∷ squares c.in-At.r) × (c.in-At.square < 64) = next_at c.loop-square.rest c.in-At.square c.in-At.r c.loop-square.invariant.0.fits
-    (sym (ap lowest c.in-At.is) ∙ c.next-n.ensures) in
+    let came : (squares c.loop-square.rest ≡ c.in-Some.square ∷ squares c.in-Some.r) × (c.in-Some.square < 64) = next_at c.loop-square.rest c.in-Some.square c.in-Some.r c.loop-square.invariant.0.fits
+    (sym (ap lowest c.in-Some.is) ∙ c.next-n.ensures) in
     let little : c.rook_word-words.result ≤ 1099768529141 = subst (λ (n : ℕ). n ≤ 1099768529141) (sym c.rook_word-words.ensures) (packed_le _ _) in
     let l = c.loop-square in
     let a = c.args in
-    let h = kept.has_room 1099768529141 (word_of a.color) a.pieces l.words l.rest l.invariant.1 c.in-At.square
-    c.in-At.r c.rook_word-words.result (came).0 (little) in
+    let h = kept.has_room 1099768529141 (word_of a.color) a.pieces l.words l.rest l.invariant.1 c.in-Some.square
+    c.in-Some.r c.rook_word-words.result (came).0 (little) in
     record { fits = omega (arith, h) }
 
 pub loop-square-smaller : goal.loop-square-smaller
 loop-square-smaller c =
-    let came : (squares c.loop-square.rest ≡ c.in-At.square ∷ squares c.in-At.r) × (c.in-At.square < 64) = next_at c.loop-square.rest c.in-At.square c.in-At.r c.loop-square.invariant.0.fits
-    (sym (ap lowest c.in-At.is) ∙ c.next-n.ensures) in
+    let came : (squares c.loop-square.rest ≡ c.in-Some.square ∷ squares c.in-Some.r) × (c.in-Some.square < 64) = next_at c.loop-square.rest c.in-Some.square c.in-Some.r c.loop-square.invariant.0.fits
+    (sym (ap lowest c.in-Some.is) ∙ c.next-n.ensures) in
     let e = ap length (came).0 in omega (arith, e)
 
 pub loop-square-preserved : goal.loop-square-preserved
 loop-square-preserved c =
-    let came : (squares c.loop-square.rest ≡ c.in-At.square ∷ squares c.in-At.r) × (c.in-At.square < 64) = next_at c.loop-square.rest c.in-At.square c.in-At.r c.loop-square.invariant.0.fits
-    (sym (ap lowest c.in-At.is) ∙ c.next-n.ensures) in
+    let came : (squares c.loop-square.rest ≡ c.in-Some.square ∷ squares c.in-Some.r) × (c.in-Some.square < 64) = next_at c.loop-square.rest c.in-Some.square c.in-Some.r c.loop-square.invariant.0.fits
+    (sym (ap lowest c.in-Some.is) ∙ c.next-n.ensures) in
     let count_le : c.count-attacked.result ≤ 64 = subst (λ (n : ℕ). n ≤ 64) (sym c.count-attacked.ensures) (many_le 64 (has c.rook.result)) in
     let little : c.rook_word-words.result ≤ 1099768529141 = subst (λ (n : ℕ). n ≤ 1099768529141) (sym c.rook_word-words.ensures) (packed_le _ _) in
     let l = c.loop-square in
     let a = c.args in
-    let s = c.in-At.square in
-    let r = c.in-At.r in (
+    let s = c.in-Some.square in
+    let r = c.in-Some.r in (
       kept.more 64 (reach a.color a.occupied) a.pieces l.attacked l.rest l.invariant.0 s r c.count-attacked.result (came).0 (count_le)
-          (omega arith)
+          (next_fits c.loop-square.rest c.in-Some.square c.in-Some.r (sym (ap lowest c.in-Some.is) ∙ c.next-n.ensures))
           (c.count-attacked.ensures ∙ ap (λ (b : ℕ). how_many 64 (has b)) (rook 3 a.color s a.occupied _ refl c.rook.ensures)),
-      kept.more 1099768529141 (word_of a.color) a.pieces l.words l.rest l.invariant.1 s r c.rook_word-words.result (came).0 (little) (omega arith)
+      kept.more 1099768529141 (word_of a.color) a.pieces l.words l.rest l.invariant.1 s r c.rook_word-words.result (came).0 (little) (next_fits c.loop-square.rest c.in-Some.square c.in-Some.r (sym (ap lowest c.in-Some.is) ∙ c.next-n.ensures))
           (c.rook_word-words.ensures ∙ ap (packed_at 3) c.flip.ensures),
     )

@@ -13,7 +13,7 @@ returns c =
     let short = length_20 a.n in
     let room : 0 + length (decimal_of a.n) ≤ 20 = omega arith in
     let d = adds_or (replicate 20 0) (0) (decimal_of a.n) c.decimal.new.out
-    c.decimal.result c.or-k.result
-    c.decimal.ensures c.or-k.ensures in
+    c.decimal.result c.unwrap_or-k.result
+    c.decimal.ensures c.unwrap_or-k.ensures in
     by_text (ap (in_column a.width) (adds_front d room) ∙ ap (λ (t : Bool). in_column a.width (cond t (text ".") (decimal_of a.n)))
     (sym (ne_eqb a.n 0 c.if-n-eq0.false))) c.column-2.ensures

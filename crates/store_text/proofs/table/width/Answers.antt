@@ -10,4 +10,4 @@ returns c =
     let short = length_20 a.most in
     let room : 0 + length (decimal_of a.most) ≤ 20 = omega arith in
     adds_to (adds_or (replicate 20 0) (0) (decimal_of a.most) c.decimal.new.out c.decimal.result
-    c.or.result c.decimal.ensures c.or.ensures) room ∙ zero-add (length (decimal_of a.most))
+    c.unwrap_or.result c.decimal.ensures c.unwrap_or.ensures) room ∙ zero-add (length (decimal_of a.most))

@@ -11,7 +11,7 @@ use Rattle.bits.specs.Bitboard.{has, how_many, squares}
 use Rattle.bits.specs.Answers.{lowest}
 use Rattle.bits.proofs.Counts.{many_le}
 use Rattle.bits.proofs.Squares.{squares_le}
-use Rattle.bits.proofs.Each.{next_at, next_done}
+use Rattle.bits.proofs.Each.{next_at, next_fits, next_done}
 use Rattle.attack.specs.Attacks.{attacks}
 use Rattle.trace_mobility.proofs.Sums.{attacked_counted}
 use Rattle.trace_mobility.proofs.inner.one_by_one.Invariants.{reach}
@@ -31,32 +31,32 @@ returns-in_default c =
 
 pub overflow_add-sum : goal.overflow_add-sum
 overflow_add-sum c =
-    let first : squares c.loop-s.rest ≡ c.in-At.s ∷ squares c.in-At.r = let l = c.loop-s in
-    (next_at l.rest c.in-At.s c.in-At.r l.invariant.0 (sym (ap lowest c.in-At.is) ∙ c.next-n.ensures)).0 in
-    let left : c.loop-s.sum + c.count-sum.result + 64 * length (squares c.in-At.r) ≤ 4096 = let loop = c.loop-s in
-    let e : length (squares loop.rest) ≡ suc (length (squares c.in-At.r)) = ap length (first) in
+    let first : squares c.loop-s.rest ≡ c.in-Some.s ∷ squares c.in-Some.r = let l = c.loop-s in
+    (next_at l.rest c.in-Some.s c.in-Some.r l.invariant.0 (sym (ap lowest c.in-Some.is) ∙ c.next-n.ensures)).0 in
+    let left : c.loop-s.sum + c.count-sum.result + 64 * length (squares c.in-Some.r) ≤ 4096 = let loop = c.loop-s in
+    let e : length (squares loop.rest) ≡ suc (length (squares c.in-Some.r)) = ap length (first) in
     omega (arith, c.count-sum.ensures, many_le 64 (has c.attacks_from.result), loop.invariant.2) in
     omega (arith, left)
 
 pub loop-s-smaller : goal.loop-s-smaller
 loop-s-smaller c =
-    let first : squares c.loop-s.rest ≡ c.in-At.s ∷ squares c.in-At.r = let l = c.loop-s in
-    (next_at l.rest c.in-At.s c.in-At.r l.invariant.0 (sym (ap lowest c.in-At.is) ∙ c.next-n.ensures)).0 in
+    let first : squares c.loop-s.rest ≡ c.in-Some.s ∷ squares c.in-Some.r = let l = c.loop-s in
+    (next_at l.rest c.in-Some.s c.in-Some.r l.invariant.0 (sym (ap lowest c.in-Some.is) ∙ c.next-n.ensures)).0 in
     rw (first) (omega arith)
 
 pub loop-s-preserved : goal.loop-s-preserved
 loop-s-preserved c =
-    let first : squares c.loop-s.rest ≡ c.in-At.s ∷ squares c.in-At.r = let l = c.loop-s in
-    (next_at l.rest c.in-At.s c.in-At.r l.invariant.0 (sym (ap lowest c.in-At.is) ∙ c.next-n.ensures)).0 in
-    let left : c.loop-s.sum + c.count-sum.result + 64 * length (squares c.in-At.r) ≤ 4096 = let loop = c.loop-s in
-    let e : length (squares loop.rest) ≡ suc (length (squares c.in-At.r)) = ap length (first) in
+    let first : squares c.loop-s.rest ≡ c.in-Some.s ∷ squares c.in-Some.r = let l = c.loop-s in
+    (next_at l.rest c.in-Some.s c.in-Some.r l.invariant.0 (sym (ap lowest c.in-Some.is) ∙ c.next-n.ensures)).0 in
+    let left : c.loop-s.sum + c.count-sum.result + 64 * length (squares c.in-Some.r) ≤ 4096 = let loop = c.loop-s in
+    let e : length (squares loop.rest) ≡ suc (length (squares c.in-Some.r)) = ap length (first) in
     omega (arith, c.count-sum.ensures, many_le 64 (has c.attacks_from.result), loop.invariant.2) in
     let l = c.loop-s in
     let a = c.args in
-    let s : ℕ = c.in-At.s in
-    let r : ℕ = c.in-At.r in
+    let s : ℕ = c.in-Some.s in
+    let r : ℕ = c.in-Some.r in
     let f : ℕ → ℕ = reach a.kind a.color a.occupied in (
-      omega arith,
+      next_fits l.rest c.in-Some.s c.in-Some.r (sym (ap lowest c.in-Some.is) ∙ c.next-n.ensures),
       ap (λ (x : ℕ). counted f (l.sum + x) (squares r)) (c.count-sum.ensures ∙ ap (λ (b : ℕ). how_many 64 (has b)) c.attacks_from.ensures)
           ∙ sym (counted_one f l.sum s (squares r)) ∙ ap (counted f l.sum) (sym (first)) ∙ l.invariant.1,
       left,

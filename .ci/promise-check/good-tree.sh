@@ -122,7 +122,7 @@ pub record Moved (b s : ℕ) (r : ℕ) : Type 0 where
 abbrev pub Shifts : ℕ → ℕ → ℕ → Type 0
 Shifts b s r = (Moved b s r) × (b ≡ b)
 
-pub record Fills (old : List ℕ) (with : ℕ) (r : ℕ)
+pub record Fills (old : List ℕ) (with : (ℕ)) (r : ℕ)
     (new : List ℕ) : Type 0 where
   pub answer : r ≡ length old -- the result
   pub lent : new ≡ replicate {A = ℕ} (length old) with

@@ -20,10 +20,10 @@ pub fn attacks_to(
     ensures { AttacksTo bitboards.now board.now state square occupied result }
 {
     position::check(bitboards, board, state)?;
-    if square > chess::square::LAST {
-        return Err(Refusal::Square);
+    if square <= chess::square::LAST {
+        return Ok(inner::attacks_to(bitboards, square, occupied));
     }
-    Ok(inner::attacks_to(bitboards, square, occupied))
+    Err(Refusal::Square)
 }
 
 // Whether a piece of the other colour attacks a square: SHAPE, OVERLAP, UNION, BYTEBOARD, SQUARE.

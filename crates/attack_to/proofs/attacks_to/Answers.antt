@@ -14,17 +14,17 @@ returns-in_err-check c =
     error_answered _ _ c.from_residual.ensures ∙ pass_on a.bitboards.now a.board.now a.state c.check.result c.check.ensures
     (on_board a.square (attackers a.bitboards.now a.square a.occupied)) _ c.in_err-check.was
 
-pub returns-then-square-gt-LAST : goal.returns-then-square-gt-LAST
-returns-then-square-gt-LAST c =
+pub returns-then-square-le-LAST : goal.returns-then-square-le-LAST
+returns-then-square-le-LAST c =
     let a = c.args in
-    off_board a.square (attackers a.bitboards.now a.square a.occupied) (omega arith)
+    on_board_holds a.square (attackers a.bitboards.now a.square a.occupied) c.attacks_to.result (omega arith)
+    c.attacks_to.ensures
     ∙ fit_rest a.bitboards.now a.board.now a.state c.check.result c.check.ensures
     (on_board a.square (attackers a.bitboards.now a.square a.occupied)) c.in_ok-check.was
 
 pub returns : goal.returns
 returns c =
     let a = c.args in
-    on_board_holds a.square (attackers a.bitboards.now a.square a.occupied) c.attacks_to.result (omega arith)
-    c.attacks_to.ensures
+    off_board a.square (attackers a.bitboards.now a.square a.occupied) (omega arith)
     ∙ fit_rest a.bitboards.now a.board.now a.state c.check.result c.check.ensures
     (on_board a.square (attackers a.bitboards.now a.square a.occupied)) c.in_ok-check.was

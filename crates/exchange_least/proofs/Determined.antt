@@ -2,6 +2,7 @@
 use mathlib.Core.Path.{◌≡◌, refl}
 use mathlib.Core.List.{List}
 use Prim.Native.Nat.{ℕ}
+use Rattle.refusal.specs.Answer.{answered_by}
 use Rattle.refusal.proofs.Paper.{one, retract, answered_by_one}
 use Rattle.position.specs.declared.State.{State}
 use Rattle.exchange_least.specs.Least as P
@@ -22,10 +23,13 @@ told_back None = refl
 pub told_one : (r s : Option (ℕ × ℕ)) → paper_attacker r ≡ paper_attacker s → r ≡ s
 told_one = retract paper_attacker untold told_back
 
+pub least_one : (r s : Result (Option (ℕ × ℕ)) Refusal) → answered_by paper_attacker r ≡ answered_by paper_attacker s → r ≡ s
+least_one r s e = answered_by_one paper_attacker untold told_back e refl
+
 -- ---- the door
 pub lvp : (kinds bitboards board : List ℕ) (state : State) (colour attacks occ : ℕ) (r s : Result (Option (ℕ × ℕ)) Refusal)
     → Lvp kinds bitboards board state colour attacks occ r → Lvp kinds bitboards board state colour attacks occ s → r ≡ s
-lvp kinds bitboards board state colour attacks occ r s p q = answered_by_one paper_attacker untold told_back p q
+lvp kinds bitboards board state colour attacks occ r s p q = least_one r s (one p q)
 
 -- ---- the inner functions
 pub inner_pick : (kinds bitboards : List ℕ) (colour attacks occ : ℕ) (r s : Option (ℕ × ℕ))

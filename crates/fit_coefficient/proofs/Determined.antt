@@ -7,6 +7,5 @@ use Rattle.std.specs.Prelude.{Result}
 use Rattle.refusal.specs.declared.Refusal.{Refusal}
 use Rattle.fit_coefficient.specs.declared.Share.{Share}
 
--- an answer is read off the answered again
 pub weigh : (value : Float) (half : ℕ) (k : Float) (lines : ℕ) (r s : Result Share Refusal) → WeighsLine value half k lines r → WeighsLine value half k lines s → r ≡ s
 weigh value half k lines r s p q = answered_one p q

@@ -8,7 +8,6 @@ use Rattle.line_write.specs.Promises.{WritesLine}
 use Rattle.std.specs.Prelude.{Result, Option}
 use Rattle.refusal.specs.declared.Refusal.{Refusal}
 
--- answers that read the same are one
 pub write_line : (bitboards board : List ℕ) (state : State) (wanted : Option ℕ) (old : List ℕ) (r q : Result ℕ Refusal) (new new' : List ℕ)
     → WritesLine bitboards board state wanted old new r → WritesLine bitboards board state wanted old new' q → (r ≡ q) × (new ≡ new')
 write_line bitboards board state wanted old r q new new' p o = (answered_same r q (one p.answer o.answer), one p.buffer o.buffer)

@@ -14,7 +14,7 @@ use Rattle.score.specs.declared.Scored.TheVariants as S
 use Rattle.score.specs.contracts.Scored.{the_type}
 use Rattle.score_errors.specs.Errors.{scored_of, apart_of, square_with, counted_with, added_with}
 use Rattle.score_errors.specs.declared.Totals.{Totals}
-use Rattle.std.specs.Prelude.{Result, Ok}
+use Rattle.std.specs.Prelude.{Result, Ok, Err}
 use Rattle.refusal.specs.declared.Refusal.{Refusal}
 
 module _ (t : List ℕ) (totals : Totals) (side half : ℕ) where
@@ -27,9 +27,10 @@ module _ (t : List ℕ) (totals : Totals) (side half : ℕ) where
   pub both : (a : Answer Outcome) → side < 2 → half < 3 → counted_with t totals side a half ≡ added_with t totals side a half
   both a h k = simp (lt-ltb side 2 h, lt-ltb half 3 k)
 
-  -- no score but a verdict: `Score` is the fourth of the four variants
-  pub not_scored : (a : Result Scored Refusal) (o : Scored) → a ≡ Ok o → OneOf (0 ∷ 1 ∷ 2 ∷ []) (tag_of the_type o) → apart_of totals ≡ counted_with t totals side (scored a) half
-  not_scored a o e n = by o n ∙ ap (λ (x : Result Scored Refusal). counted_with t totals side (scored x) half) (sym e)
+  -- no score: a refusal, or a verdict; `Score` is the fourth of the four variants
+  pub not_scored : (a : Result Scored Refusal) → ((o : Scored) → a ≡ Ok o → OneOf (0 ∷ 1 ∷ 2 ∷ []) (tag_of the_type o)) → apart_of totals ≡ counted_with t totals side (scored a) half
+  not_scored (Err q) n = refl
+  not_scored (Ok o) n = by o (n o refl)
     where
       by : (o : Scored) → OneOf (0 ∷ 1 ∷ 2 ∷ []) (tag_of the_type o) → apart_of totals ≡ counted_with t totals side (scored (Ok o)) half
       by S.Lost o = refl
